@@ -1,0 +1,50 @@
+-- A numbered list of tests, and the number of the first that fails.
+-- Assumes nothing.
+use Prim.Native.Nat.{ℕ}
+use mathlib.Core.Path.{_≡_, refl, sym, ap, _∙_}
+use mathlib.Core.Bool.{Bool, true, false, not, _&&_}
+use mathlib.Core.List.{List, [], _∷_}
+use lib.Dec.{eqb, ltb}
+use borrow.Author.Tests.{not-true, not-false}
+use Rattle.laws.specs.Booleans.{pick, split, clash, and-parts}
+
+-- the number of the first test that fails, 0 where none does
+unfoldable pub firstFailing : List (ℕ × Bool) → ℕ
+firstFailing [] = 0
+firstFailing (x ∷ xs) = pick (x .1) (firstFailing xs) (x .0)
+
+-- a return of the code, where r is what its test answered: no test is left, this test fails, or it passes and a later one answers
+pub none-left : 0 ≡ firstFailing []
+unfolding firstFailing
+none-left = refl
+
+pub fails : (n : ℕ) (b r : Bool) (xs : List (ℕ × Bool)) → r ≡ b → not r ≡ true → n ≡ firstFailing ((n, b) ∷ xs)
+unfolding firstFailing
+fails n b r xs e h = rw (sym e ∙ not-true r h)
+
+pub passes : (n a : ℕ) (b r : Bool) (xs : List (ℕ × Bool)) → r ≡ b → not r ≡ false → a ≡ firstFailing xs → a ≡ firstFailing ((n, b) ∷ xs)
+unfolding firstFailing
+passes n a b r xs e h k = rw (sym e ∙ not-false r h) k
+
+-- the test with number k, true where the list has none
+abbrev pub testOf : ℕ → List (ℕ × Bool) → Bool
+testOf k [] = true
+testOf k (x ∷ xs) = pick (eqb k (x .0)) (x .1) (testOf k xs)
+
+-- no test has number 0, which says that none failed
+abbrev pub numbered : List (ℕ × Bool) → Bool
+numbered [] = true
+numbered (x ∷ xs) = ltb 0 (x .0) && numbered xs
+
+first : (b : Bool) (k r : ℕ) → ltb 0 k ≡ true → pick b r k ≡ 0 → (b ≡ true) × (r ≡ 0)
+first true k r n h = (refl, h)
+first false k r n h = clash n (ap (λ j. ltb 0 j) h)
+
+-- where the answer is 0, the test with any number passed, whatever the order of the list
+pub passed : (l : List (ℕ × Bool)) → numbered l ≡ true → firstFailing l ≡ 0 → (k : ℕ) → testOf k l ≡ true
+unfolding firstFailing
+passed [] n h k = refl
+passed (x ∷ xs) n h k =
+    let m = and-parts (ltb 0 (x .0)) (numbered xs) n in
+    let g = first (x .1) (x .0) (firstFailing xs) (m .0) h in
+    split (eqb k (x .0)) (λ e. rw e (g .0)) (λ e. rw e (passed xs (m .1) (g .1) k))

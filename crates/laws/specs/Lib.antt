@@ -1,0 +1,4 @@
+pub mod Booleans
+pub mod Below
+pub mod Failing
+pub mod Same

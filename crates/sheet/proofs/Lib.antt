@@ -1,0 +1,7 @@
+pub mod Passed
+pub mod PassedEntry
+pub mod PassedSheet
+pub mod PassedSetup
+pub mod SaswapBytes
+pub mod SaswapFits
+pub mod Theorems

@@ -1,0 +1,32 @@
+-- The SASwap sheet passes the check, and a setup for it passes under every conduct.
+-- Assumes nothing.
+use Prim.Native.Nat.{ℕ, _≤_}
+use native.Mathlib.Omega.{arith}
+use mathlib.Core.Path.{_≡_, refl}
+use mathlib.Core.Bool.{true, or-true}
+use mathlib.Core.List.{List}
+use lib.Dec.{eqb}
+use lib.ListN.{length}
+use borrow.Author.Tests.{eqb-true, eq-eqb, le-leb}
+use Rattle.laws.specs.Below.{allBelow, anyBelow, all-at}
+use Rattle.laws.specs.Failing.{firstFailing}
+use Rattle.laws.specs.Same.{equal-same}
+use Rattle.sheet.specs.Field.{count, arrays, entry, lockPair, opening}
+use Rattle.sheet.specs.Check.{headRight, countRight, within, masksRight, signaturesRight, lengthRight, parentRight, entryRight, daysRight, lockRight, hasChild, childrenRight, arrayTests, sheetTests, sheetRefusal}
+use Rattle.sheet.specs.Saswap.{offset, saswapAt, saswap}
+use Rattle.sheet.specs.Setup.{perDay, conduct, stealth, blocksRight, isSaswap, conductRight, setupTests, setupRefusal}
+
+-- one test over the four offsets
+all-pass : allBelow 4 (λ o. eqb (sheetRefusal (saswapAt o)) 0) ≡ true
+unfolding allBelow anyBelow firstFailing count arrays entry lockPair opening headRight countRight within masksRight signaturesRight lengthRight parentRight entryRight daysRight lockRight hasChild childrenRight arrayTests sheetTests sheetRefusal saswapAt
+all-pass = refl
+
+pub saswap-passes : (d : ℕ) → sheetRefusal (saswap d) ≡ 0
+unfolding saswap offset
+saswap-passes d =
+    eqb-true (sheetRefusal (saswapAt (offset d))) 0 (all-at 4 (λ o. eqb (sheetRefusal (saswapAt o)) 0) all-pass (offset d) (omega arith))
+
+pub saswap-fits : (u : List ℕ) → length u ≡ 4 → 1 ≤ perDay u → perDay u ≤ 1000 → conduct u ≤ 2 → stealth u ≤ 1 → setupRefusal (saswap (perDay u)) u ≡ 0
+unfolding setupRefusal setupTests firstFailing blocksRight conductRight isSaswap
+saswap-fits u l a b c d =
+    simp (eq-eqb (length u) 4 l, le-leb 1 (perDay u) a, le-leb (perDay u) 1000 b, le-leb (conduct u) 2 c, le-leb (stealth u) 1 d, equal-same (saswap (perDay u)), or-true)

@@ -1,0 +1,45 @@
+-- What is proved of sheets and setups, for all sizes together.
+-- Assumes nothing.
+use Prim.Native.Nat.{ℕ, _+_, _*_, _≤_}
+use mathlib.Core.Path.{_≡_, refl}
+use mathlib.Core.List.{List}
+use lib.ListN.{length}
+use Rattle.sheet.specs.Field.{count, arrays, lockPair}
+use Rattle.sheet.specs.Check.{sheetRefusal}
+use Rattle.sheet.specs.Saswap.{offset, saswapAt, saswap}
+use Rattle.sheet.specs.Setup.{perDay, conduct, stealth, setupRefusal}
+use Rattle.sheet.specs.LockHeight.{lockBlocks, lockHeight}
+use Rattle.sheet.specs.Checked.{Checked, SetupChecked}
+use Rattle.sheet.proofs.SaswapBytes
+use Rattle.sheet.proofs.SaswapFits
+use Rattle.sheet.proofs.PassedSheet.{passed-sheet}
+use Rattle.sheet.proofs.PassedSetup.{passed-setup}
+
+-- The SASwap sheet has 95 bytes.
+pub saswap-length : (d : ℕ) → length (saswap d) ≡ 95
+saswap-length = SaswapBytes.saswap-length
+
+-- It passes the check, for every number of blocks per day.
+pub saswap-passes : (d : ℕ) → sheetRefusal (saswap d) ≡ 0
+saswap-passes = SaswapFits.saswap-passes
+
+-- A setup of 1 to 1,000 blocks per day, any conduct and any stealth passes with its SASwap sheet.
+pub saswap-fits : (u : List ℕ) → length u ≡ 4 → 1 ≤ perDay u → perDay u ≤ 1000 → conduct u ≤ 2 → stealth u ≤ 1 → setupRefusal (saswap (perDay u)) u ≡ 0
+saswap-fits = SaswapFits.saswap-fits
+
+-- The lock heights of refund_1 and revoke, whatever is confirmed.
+pub refund-lock-height : (d : ℕ) (block : ℕ → ℕ) → lockHeight (saswap d) d block 3 ≡ (offset d + 1) * d
+unfolding lockHeight lockBlocks lockPair arrays count saswap saswapAt
+refund-lock-height d block = refl
+
+pub revoke-lock-height : (d : ℕ) (block : ℕ → ℕ) → lockHeight (saswap d) d block 4 ≡ (offset d + 2) * d
+unfolding lockHeight lockBlocks lockPair arrays count saswap saswapAt
+revoke-lock-height d block = refl
+
+-- A sheet whose check gives 0 has everything that a checked sheet is said to have.
+pub sheet-checked : (s : List ℕ) → sheetRefusal s ≡ 0 → Checked s
+sheet-checked = passed-sheet
+
+-- A setup whose check gives 0 has everything that a checked setup is said to have.
+pub setup-checked : (s u : List ℕ) → setupRefusal s u ≡ 0 → SetupChecked s u
+setup-checked = passed-setup

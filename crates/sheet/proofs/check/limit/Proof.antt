@@ -1,0 +1,17 @@
+-- A shift of 1 is a power of two.
+use mathlib.Core.Path.{_∙_}
+use native.Mathlib.Omega.{arith}
+use native.Mathlib.Nat.{one-mul}
+use lib.Pow.{shl-exact}
+use borrow.Author.Needs.{needs}
+use Rattle.sheet.proofs.check.limit.Statement.{statement}
+use Rattle.sheet.proofs.check.limit.Tie as tie
+
+shl-result : tie.Need-shl-result
+shl-result c = search needs
+
+returns : tie.Need-returns
+returns c = shl-exact {a = 1} 1 (c .args .bits) 64 (omega arith) (omega arith) ∙ one-mul _
+
+pub limit-spec : {M : Type 1} → statement M
+limit-spec = tie.close (tie.spec shl-result returns)

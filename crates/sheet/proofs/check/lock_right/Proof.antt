@@ -1,0 +1,44 @@
+-- The lock pair is in range, and type 2 has a parent: check 7.
+use Rattle.sheet.specs.Check.{lockRight}
+use Rattle.laws.specs.Booleans.{tests}
+use borrow.Author.Tests.{not-true, not-false}
+use borrow.Author.Needs.{needs}
+use Rattle.sheet.proofs.check.lock_right.Statement.{statement}
+use Rattle.sheet.proofs.check.lock_right.Tie as tie
+
+lock-type-requires : tie.Need-lock-type-requires
+lock-type-requires c κs = search needs
+
+returns : tie.Need-returns
+unfolding lockRight
+returns c = simp (tests, ← (c .before .lock-type .ensures), c .if1 .taken)
+
+days-right-requires : tie.Need-days-right-requires
+days-right-requires c κs = search needs
+
+returns-2 : tie.Need-returns-2
+unfolding lockRight
+returns-2 c = simp (tests, ← (c .before .before .before .lock-type .ensures), c .before .before .if1 .left, ← (c .before .days-right .ensures), not-true (c .before .days-right .result) (c .if2 .taken))
+
+opening-requires : tie.Need-opening-requires
+opening-requires c κs = search needs
+
+returns-3 : tie.Need-returns-3
+unfolding lockRight
+returns-3 c = simp (tests, ← (c .before .before .before .before .before .lock-type .ensures), ← (c .before .before .before .days-right .ensures), not-false (c .before .before .before .days-right .result) (c .before .before .if2 .left), c .before .if3 .taken, ← (c .opening .ensures))
+
+returns-4 : tie.Need-returns-4
+unfolding lockRight
+returns-4 c = simp (tests, ← (c .before .before .before .before .lock-type .ensures), c .before .before .before .if1 .left, ← (c .before .before .days-right .ensures), not-false (c .before .before .days-right .result) (c .before .if2 .left), c .if3 .left)
+
+pub lock-right-spec : {M : Type 1} → statement M
+lock-right-spec =
+    tie.close
+    (tie.spec
+    lock-type-requires
+    returns
+    days-right-requires
+    returns-2
+    opening-requires
+    returns-3
+    returns-4)

@@ -1,0 +1,32 @@
+-- The first of the checks 9 and 10 that fails.
+use Rattle.sheet.proofs.Passed.{setup-four}
+use Rattle.sheet.specs.Setup.{setupTests, setupRefusal}
+use Rattle.laws.specs.Failing.{none-left, fails, passes}
+use Rattle.laws.specs.Booleans.{held}
+use borrow.Author.Needs.{needs}
+use Rattle.sheet.proofs.setup.setup_refusal.Statement.{statement}
+use Rattle.sheet.proofs.setup.setup_refusal.Tie as tie
+
+blocks-right-requires : tie.Need-blocks-right-requires
+blocks-right-requires c κs = search needs
+
+returns : tie.Need-returns
+unfolding setupRefusal setupTests
+returns c = fails _ _ _ _ (c .before .blocks-right .ensures) (c .if1 .taken)
+
+conduct-right-requires : tie.Need-conduct-right-requires
+conduct-right-requires c κs = setup-four _ (held _ _ (c .before .blocks-right .ensures) (c .if1 .left))
+
+returns-2 : tie.Need-returns-2
+unfolding setupRefusal setupTests
+returns-2 c = passes _ _ _ _ _ (c .before .before .before .blocks-right .ensures) (c .before .before .if1 .left)
+    (fails _ _ _ _ (c .before .conduct-right .ensures) (c .if2 .taken))
+
+returns-3 : tie.Need-returns-3
+unfolding setupRefusal setupTests
+returns-3 c = passes _ _ _ _ _ (c .before .before .before .blocks-right .ensures) (c .before .before .if1 .left)
+    (passes _ _ _ _ _ (c .before .conduct-right .ensures) (c .if2 .left) none-left)
+
+pub setup-refusal-spec : {M : Type 1} → statement M
+setup-refusal-spec =
+    tie.close (tie.spec blocks-right-requires returns conduct-right-requires returns-2 returns-3)

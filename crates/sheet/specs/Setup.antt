@@ -1,0 +1,43 @@
+-- The setup: its fields, and the checks 9 and 10.
+-- Assumes nothing.
+use Prim.Native.Nat.{ℕ, _+_, _*_}
+use mathlib.Core.Bool.{Bool, _&&_, _||_}
+use mathlib.Core.List.{List, [], _∷_}
+use lib.Dec.{eqb, leb}
+use lib.ListN.{length}
+use Rattle.laws.specs.Failing.{firstFailing}
+use Rattle.laws.specs.Same.{same}
+use Rattle.sheet.specs.Refusal.{setupBlocks, setupConduct}
+use Rattle.sheet.specs.Field.{byte}
+use Rattle.sheet.specs.Saswap.{saswap}
+
+-- "blocks per day (2 bytes, 1 to 1,000)", "little-endian"
+unfoldable pub perDay : List ℕ → ℕ
+perDay u = byte u 0 + 256 * byte u 1
+
+-- "conduct (0 open, 1 loose, 2 careful)"
+abbrev pub conduct : List ℕ → ℕ
+conduct u = byte u 2
+
+-- "stealth (0 or 1)"
+abbrev pub stealth : List ℕ → ℕ
+stealth u = byte u 3
+
+-- 9 "setup not 4 bytes, or blocks per day"
+unfoldable pub blocksRight : List ℕ → Bool
+blocksRight u = eqb (length u) 4 && (leb 1 (perDay u) && leb (perDay u) 1000)
+
+-- the sheet is the SASwap sheet for that number of blocks per day
+unfoldable pub isSaswap : List ℕ → ℕ → Bool
+isSaswap s d = same s (saswap d)
+
+-- 10 "conduct or stealth, or sheet unfit for it": "Conduct 1 and 2 take only the SASwap sheet for that number of blocks."
+unfoldable pub conductRight : List ℕ → List ℕ → Bool
+conductRight s u = leb (conduct u) 2 && (leb (stealth u) 1 && (eqb (conduct u) 0 || isSaswap s (perDay u)))
+
+unfoldable pub setupTests : List ℕ → List ℕ → List (ℕ × Bool)
+setupTests s u = (setupBlocks, blocksRight u) ∷ (setupConduct, conductRight s u) ∷ []
+
+-- the answer of the check of a setup for a sheet
+unfoldable pub setupRefusal : List ℕ → List ℕ → ℕ
+setupRefusal s u = firstFailing (setupTests s u)

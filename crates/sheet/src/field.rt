@@ -1,0 +1,138 @@
+// The fields of a sheet.
+ghost use Prim.Native.Nat.{_<_, _≤_, _+_, _*_};
+ghost use mathlib.Core.Path.{_≡_};
+ghost use lib.ListN.{length};
+ghost use Rattle.sheet.specs.Field.{byte, count, arrays, signatures, secrets, startKeys, entry, lockPair, parent, payees, required, veil, lockType, days, opening, Sized, Wide, Start};
+
+// A byte as a size.
+pub fn wide(x: u8) -> usize
+    ensures { λ r. ⌜ Wide x r ⌝ }
+{
+    x as usize
+}
+
+// The number of transactions.
+pub fn count(sheet: &[u8]) -> usize
+    requires { ⌜ 5 ≤ length (now sheet) ⌝ }
+    ensures { λ r. ⌜ Wide (count (now (sheet .entry))) r ⌝ }
+{
+    wide(sheet[0])
+}
+
+// Where the two parallel arrays start.
+pub fn arrays(sheet: &[u8]) -> usize
+    ensures { λ r. ⌜ Start (now (sheet .entry)) r ⌝ }
+{
+    5
+}
+
+// The number of signatures.
+pub fn signatures(sheet: &[u8]) -> u8
+    requires { ⌜ 5 ≤ length (now sheet) ⌝ }
+    ensures { λ r. ⌜ r ≡ signatures (now (sheet .entry)) ⌝ }
+{
+    sheet[1]
+}
+
+// The mask of the signatures that are secrets.
+pub fn secrets(sheet: &[u8]) -> u8
+    requires { ⌜ 5 ≤ length (now sheet) ⌝ }
+    ensures { λ r. ⌜ r ≡ secrets (now (sheet .entry)) ⌝ }
+{
+    sheet[2]
+}
+
+// The mask that a party holds at the start.
+pub fn start_keys(sheet: &[u8], party: usize) -> u8
+    requires { ⌜ 5 ≤ length (now sheet) ⌝ }
+    requires { ⌜ party < 2 ⌝ }
+    ensures { λ r. ⌜ r ≡ startKeys (now (sheet .entry)) party ⌝ }
+{
+    sheet[3 + party]
+}
+
+// Byte k of a transaction's four in the first array.
+fn entry(sheet: &[u8], t: usize, k: usize) -> u8
+    requires { ⌜ Sized (now sheet) ⌝ }
+    requires { ⌜ t < count (now sheet) ⌝ }
+    requires { ⌜ k < 4 ⌝ }
+    ensures { λ r. ⌜ r ≡ entry (now (sheet .entry)) t k ⌝ }
+{
+    let start = arrays(sheet);
+    sheet[start + 4 * t + k]
+}
+
+// Byte k of a transaction's two in the second array.
+fn lock_pair(sheet: &[u8], t: usize, k: usize) -> u8
+    requires { ⌜ Sized (now sheet) ⌝ }
+    requires { ⌜ t < count (now sheet) ⌝ }
+    requires { ⌜ k < 2 ⌝ }
+    ensures { λ r. ⌜ r ≡ lockPair (now (sheet .entry)) t k ⌝ }
+{
+    let start = arrays(sheet);
+    let n = count(sheet);
+    sheet[start + 4 * n + 2 * t + k]
+}
+
+// The parent: a lower number, or 255 for a coin's opening.
+pub fn parent(sheet: &[u8], t: usize) -> usize
+    requires { ⌜ Sized (now sheet) ⌝ }
+    requires { ⌜ t < count (now sheet) ⌝ }
+    ensures { λ r. ⌜ Wide (parent (now (sheet .entry)) t) r ⌝ }
+{
+    wide(entry(sheet, t, 0))
+}
+
+// The payees: bit 0 Alice, bit 1 Bob, 0 a contract transaction.
+pub fn payees(sheet: &[u8], t: usize) -> u8
+    requires { ⌜ Sized (now sheet) ⌝ }
+    requires { ⌜ t < count (now sheet) ⌝ }
+    ensures { λ r. ⌜ r ≡ payees (now (sheet .entry)) t ⌝ }
+{
+    entry(sheet, t, 1)
+}
+
+// The mask of required signatures.
+pub fn required(sheet: &[u8], t: usize) -> u8
+    requires { ⌜ Sized (now sheet) ⌝ }
+    requires { ⌜ t < count (now sheet) ⌝ }
+    ensures { λ r. ⌜ r ≡ required (now (sheet .entry)) t ⌝ }
+{
+    entry(sheet, t, 2)
+}
+
+// 1 where sending exposes no signature.
+pub fn veil(sheet: &[u8], t: usize) -> u8
+    requires { ⌜ Sized (now sheet) ⌝ }
+    requires { ⌜ t < count (now sheet) ⌝ }
+    ensures { λ r. ⌜ r ≡ veil (now (sheet .entry)) t ⌝ }
+{
+    entry(sheet, t, 3)
+}
+
+// The lock type: 0 none, 1 absolute, 2 since the parent.
+pub fn lock_type(sheet: &[u8], t: usize) -> u8
+    requires { ⌜ Sized (now sheet) ⌝ }
+    requires { ⌜ t < count (now sheet) ⌝ }
+    ensures { λ r. ⌜ r ≡ lockType (now (sheet .entry)) t ⌝ }
+{
+    lock_pair(sheet, t, 0)
+}
+
+// The lock's days.
+pub fn days(sheet: &[u8], t: usize) -> u8
+    requires { ⌜ Sized (now sheet) ⌝ }
+    requires { ⌜ t < count (now sheet) ⌝ }
+    ensures { λ r. ⌜ r ≡ days (now (sheet .entry)) t ⌝ }
+{
+    lock_pair(sheet, t, 1)
+}
+
+// Whether a transaction is a coin's opening.
+pub fn opening(sheet: &[u8], t: usize) -> bool
+    requires { ⌜ Sized (now sheet) ⌝ }
+    requires { ⌜ t < count (now sheet) ⌝ }
+    ensures { λ r. ⌜ r ≡ opening (now (sheet .entry)) t ⌝ }
+{
+    entry(sheet, t, 0) == 255
+}

@@ -1,0 +1,6 @@
+// The contract sheet and the setup: byte accessors, refusals by name, the checks 1 to 10, the SASwap sheet.
+pub mod check;
+pub mod field;
+pub mod refusal;
+pub mod saswap;
+pub mod setup;
