@@ -1,11 +1,11 @@
 -- A numbered list of tests, and the number of the first that fails.
 -- Assumes nothing.
-use Prim.Native.Nat.{ℕ}
+use Prim.Native.Nat.{ℕ, _<_}
 use mathlib.Core.Path.{_≡_, refl, sym, ap, _∙_}
 use mathlib.Core.Bool.{Bool, true, false, not, _&&_}
 use mathlib.Core.List.{List, [], _∷_}
 use lib.Dec.{eqb, ltb}
-use borrow.Author.Tests.{not-true, not-false}
+use borrow.Author.Tests.{ltb-true, not-true, not-false}
 use Rattle.laws.specs.Booleans.{pick, split, clash, and-parts}
 
 -- the number of the first test that fails, 0 where none does
@@ -48,3 +48,15 @@ passed (x ∷ xs) n h k =
     let m = and-parts (ltb 0 (x .0)) (numbered xs) n in
     let g = first (x .1) (x .0) (firstFailing xs) (m .0) h in
     split (eqb k (x .0)) (λ e. rw e (g .0)) (λ e. rw e (passed xs (m .1) (g .1) k))
+
+-- every number of the list is below m
+abbrev pub numbersBelow : ℕ → List (ℕ × Bool) → Bool
+numbersBelow m [] = true
+numbersBelow m (x ∷ xs) = ltb (x .0) m && numbersBelow m xs
+
+pub answer-below : (m : ℕ) (l : List (ℕ × Bool)) → 0 < m → numbersBelow m l ≡ true → firstFailing l < m
+unfolding firstFailing
+answer-below m [] z h = z
+answer-below m (x ∷ xs) z h =
+    let w = and-parts (ltb (x .0) m) (numbersBelow m xs) h in
+    split (x .1) (λ e. rw e (answer-below m xs z (w .1))) (λ e. rw e (ltb-true (x .0) m (w .0)))

@@ -1,3 +1,4 @@
+pub mod Opened
 pub mod Passed
 pub mod PassedEntry
 pub mod PassedSheet

@@ -8,17 +8,17 @@ use mathlib.Core.List.{List}
 use lib.Dec.{eqb}
 use lib.ListN.{length}
 use borrow.Author.Tests.{eqb-true, eq-eqb, le-leb}
-use Rattle.laws.specs.Below.{allBelow, anyBelow, all-at}
+use Rattle.laws.specs.Below.{allBelow, all-at}
 use Rattle.laws.specs.Failing.{firstFailing}
 use Rattle.laws.specs.Same.{equal-same}
-use Rattle.sheet.specs.Field.{count, arrays, entry, lockPair, opening}
-use Rattle.sheet.specs.Check.{headRight, countRight, within, masksRight, signaturesRight, lengthRight, parentRight, entryRight, daysRight, lockRight, hasChild, childrenRight, arrayTests, sheetTests, sheetRefusal}
+use Rattle.sheet.specs.Check.{sheetRefusal}
+use Rattle.sheet.proofs.Opened.{opened}
 use Rattle.sheet.specs.Saswap.{offset, saswapAt, saswap}
 use Rattle.sheet.specs.Setup.{perDay, conduct, stealth, blocksRight, isSaswap, conductRight, setupTests, setupRefusal}
 
 -- one test over the four offsets
 all-pass : allBelow 4 (λ o. eqb (sheetRefusal (saswapAt o)) 0) ≡ true
-unfolding allBelow anyBelow firstFailing count arrays entry lockPair opening headRight countRight within masksRight signaturesRight lengthRight parentRight entryRight daysRight lockRight hasChild childrenRight arrayTests sheetTests sheetRefusal saswapAt
+unfolding opened
 all-pass = refl
 
 pub saswap-passes : (d : ℕ) → sheetRefusal (saswap d) ≡ 0

@@ -1,15 +1,17 @@
 -- What is proved of sheets and setups, for all sizes together.
 -- Assumes nothing.
-use Prim.Native.Nat.{ℕ, _+_, _*_, _≤_}
+use Prim.Native.Nat.{ℕ, _+_, _*_, _≤_, _<_}
 use mathlib.Core.Path.{_≡_, refl}
 use mathlib.Core.List.{List}
+use lib.Dec.{lit<}
 use lib.ListN.{length}
-use Rattle.sheet.specs.Field.{count, arrays, lockPair}
-use Rattle.sheet.specs.Check.{sheetRefusal}
-use Rattle.sheet.specs.Saswap.{offset, saswapAt, saswap}
+use Rattle.laws.specs.Failing.{answer-below}
+use Rattle.sheet.specs.Check.{arrayTests, sheetTests, sheetRefusal}
+use Rattle.sheet.specs.Saswap.{offset, saswap}
 use Rattle.sheet.specs.Setup.{perDay, conduct, stealth, setupRefusal}
-use Rattle.sheet.specs.LockHeight.{lockBlocks, lockHeight}
+use Rattle.sheet.specs.LockHeight.{lockHeight}
 use Rattle.sheet.specs.Checked.{Checked, SetupChecked}
+use Rattle.sheet.proofs.Opened.{opened}
 use Rattle.sheet.proofs.SaswapBytes
 use Rattle.sheet.proofs.SaswapFits
 use Rattle.sheet.proofs.PassedSheet.{passed-sheet}
@@ -29,11 +31,11 @@ saswap-fits = SaswapFits.saswap-fits
 
 -- The lock heights of refund_1 and revoke, whatever is confirmed.
 pub refund-lock-height : (d : ℕ) (block : ℕ → ℕ) → lockHeight (saswap d) d block 3 ≡ (offset d + 1) * d
-unfolding lockHeight lockBlocks lockPair arrays count saswap saswapAt
+unfolding opened
 refund-lock-height d block = refl
 
 pub revoke-lock-height : (d : ℕ) (block : ℕ → ℕ) → lockHeight (saswap d) d block 4 ≡ (offset d + 2) * d
-unfolding lockHeight lockBlocks lockPair arrays count saswap saswapAt
+unfolding opened
 revoke-lock-height d block = refl
 
 -- A sheet whose check gives 0 has everything that a checked sheet is said to have.
@@ -43,3 +45,8 @@ sheet-checked = passed-sheet
 -- A setup whose check gives 0 has everything that a checked setup is said to have.
 pub setup-checked : (s u : List ℕ) → setupRefusal s u ≡ 0 → SetupChecked s u
 setup-checked = passed-setup
+
+-- The answer of the sheet check is one of its eight numbers, or 0.
+pub sheet-refusal-below : (s : List ℕ) → sheetRefusal s < 9
+unfolding sheetRefusal sheetTests arrayTests
+sheet-refusal-below s = answer-below 9 (sheetTests s) (lit< tt) refl

@@ -5,105 +5,6 @@ ghost use Rattle.sheet.specs.Field.{byte};
 ghost use Rattle.sheet.specs.Saswap.{offset, saswap};
 ghost use Rattle.sheet.specs.Setup.{isSaswap};
 
-// The bytes at offset 0.
-const BYTES: [u8; 95] = [
-    15,
-    4,
-    12,
-    5,
-    10, // head
-    255,
-    0,
-    1,
-    0,
-    255,
-    0,
-    2,
-    0,
-    0,
-    0,
-    11,
-    0,
-    0,
-    0,
-    7,
-    0,
-    0,
-    0,
-    3,
-    0, // 0 to 4
-    4,
-    0,
-    7,
-    0,
-    4,
-    0,
-    3,
-    0,
-    0,
-    3,
-    3,
-    0,
-    1,
-    3,
-    12,
-    1,
-    2,
-    2,
-    2,
-    0, // 5 to 9
-    3,
-    2,
-    3,
-    0,
-    3,
-    1,
-    1,
-    0,
-    4,
-    3,
-    3,
-    0,
-    5,
-    1,
-    1,
-    0,
-    6,
-    2,
-    2,
-    0, // 10 to 14
-    0,
-    0,
-    0,
-    0,
-    0,
-    0,
-    1,
-    1,
-    1,
-    2,
-    2,
-    1,
-    2,
-    2,
-    0,
-    0, // locks of 0 to 7
-    0,
-    0,
-    0,
-    0,
-    0,
-    0,
-    2,
-    1,
-    0,
-    0,
-    0,
-    0,
-    0,
-    0, // locks of 8 to 14
-];
-
 // 3 less the blocks per day, never below zero.
 fn offset(per_day: u16) -> u8
     ensures { λ r. ⌜ r ≡ offset «per_day» ⌝ }
@@ -122,7 +23,14 @@ fn saswap_byte(per_day: u16, i: usize) -> u8
     if i == 74 {
         return offset(per_day) + 2;
     }
-    BYTES[i]
+    // At offset 0: the head; the entries of 0 to 4, 5 to 9, 10 to 14; the locks of 0 to 7, 8 to 14.
+    let bytes = b"\x0f\x04\x0c\x05\x0a\
+        \xff\x00\x01\x00\xff\x00\x02\x00\x00\x00\x0b\x00\x00\x00\x07\x00\x00\x00\x03\x00\
+        \x04\x00\x07\x00\x04\x00\x03\x00\x00\x03\x03\x00\x01\x03\x0c\x01\x02\x02\x02\x00\
+        \x03\x02\x03\x00\x03\x01\x01\x00\x04\x03\x03\x00\x05\x01\x01\x00\x06\x02\x02\x00\
+        \x00\x00\x00\x00\x00\x00\x01\x01\x01\x02\x02\x01\x02\x02\x00\x00\
+        \x00\x00\x00\x00\x00\x00\x02\x01\x00\x00\x00\x00\x00\x00";
+    bytes[i]
 }
 
 // Whether a sheet is the SASwap sheet for that number of blocks per day.

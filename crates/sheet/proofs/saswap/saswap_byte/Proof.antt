@@ -5,6 +5,9 @@ use native.Mathlib.Omega.{arith}
 use borrow.Author.Needs.{needs}
 use Rattle.sheet.proofs.saswap.saswap_byte.Statement.{statement}
 use Rattle.sheet.proofs.saswap.saswap_byte.Tie as tie
+use Rattle.sheet.proofs.saswap.saswap_byte.Reads as reads
+use Rattle.sheet.proofs.saswap.saswap_byte.Lts as lts
+use Rattle.sheet.proofs.saswap.offset.Reads as offset-reads
 
 offset-requires : tie.Need-offset-requires
 offset-requires c κs = search needs
@@ -28,12 +31,12 @@ returns-2 : tie.Need-returns-2
 unfolding saswap saswapAt
 returns-2 c = rw (c .before .if2 .taken, c .offset2 .ensures)
 
-array-read-result : tie.Need-array-read-result
-array-read-result c = search needs
+element-copy-out-result : tie.Need-element-copy-out-result
+element-copy-out-result c = search needs
 
 returns-3 : tie.Need-returns-3
 unfolding saswap saswapAt offset
-returns-3 c = other-bytes (c .before .before .args .per-day) (c .before .before .args .i) (search needs) (c .before .if1 .left) (c .if2 .left)
+returns-3 c = other-bytes (c .before .before .before .before .args .per-day) (c .before .before .before .before .args .i) (search needs) (c .before .before .before .if1 .left) (c .before .before .if2 .left)
 
 pub saswap-byte-spec : {M : Type 1} → statement M
 saswap-byte-spec =
@@ -45,5 +48,5 @@ saswap-byte-spec =
     offset-requires-2
     add-result-2
     returns-2
-    array-read-result
+    element-copy-out-result
     returns-3)

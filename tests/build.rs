@@ -1,0 +1,7 @@
+//! Links the static library that `rt staticlib swap` writes.
+fn main() {
+    let top = std::env::var("CARGO_MANIFEST_DIR").expect("cargo names the package's folder");
+    println!("cargo:rustc-link-search=native={top}/../target/staticlib");
+    println!("cargo:rustc-link-lib=static=swap");
+    println!("cargo:rerun-if-changed={top}/../target/staticlib/libswap.a");
+}

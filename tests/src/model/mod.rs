@@ -1,0 +1,24 @@
+//! The reference model, one file for each idea of document 01. In its order:
+//! sheet, setup, heights, report (holders and payouts), ledger, position, step,
+//! conduct, journal, open, calls, swapreport.
+
+pub mod calls;
+pub mod conduct;
+pub mod heights;
+pub mod journal;
+pub mod ledger;
+pub mod open;
+pub mod position;
+pub mod report;
+pub mod setup;
+pub mod sheet;
+pub mod step;
+pub mod swapreport;
+
+/// The parties by number: "0 Alice, 1 Bob, 2 miner".
+pub const ALICE: u8 = 0;
+pub const BOB: u8 = 1;
+pub const MINER: u8 = 2;
+
+/// The destination of a contract transaction: "0 Alice, 1 Bob, 2 contract".
+pub const CONTRACT: u8 = 2;
