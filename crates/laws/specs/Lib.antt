@@ -2,3 +2,12 @@ pub mod Booleans
 pub mod Below
 pub mod Failing
 pub mod Same
+pub mod Climb
+pub mod Each
+pub mod Least
+pub mod Mask
+pub mod Gather
+pub mod Little
+pub mod Over
+pub mod Members
+pub mod Order

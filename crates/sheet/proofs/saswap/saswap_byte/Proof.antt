@@ -5,9 +5,6 @@ use native.Mathlib.Omega.{arith}
 use borrow.Author.Needs.{needs}
 use Rattle.sheet.proofs.saswap.saswap_byte.Statement.{statement}
 use Rattle.sheet.proofs.saswap.saswap_byte.Tie as tie
-use Rattle.sheet.proofs.saswap.saswap_byte.Reads as reads
-use Rattle.sheet.proofs.saswap.saswap_byte.Lts as lts
-use Rattle.sheet.proofs.saswap.offset.Reads as offset-reads
 
 offset-requires : tie.Need-offset-requires
 offset-requires c κs = search needs

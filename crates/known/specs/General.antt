@@ -1,0 +1,69 @@
+-- What P4, P5 and P8 say of one number of blocks per day, one block or one sheet, for all of them. P1 to P3 and P9 are so in the sheet crate's `Theorems`.
+-- Assumes nothing.
+use Prim.Native.Nat.{ℕ, zero, suc, _+_, _*_}
+use mathlib.Core.Path.{_≡_, refl, ap, fun-ext}
+use mathlib.Core.Bool.{Bool, false, not, _&&_, _||_, and-false}
+use mathlib.Core.List.{List}
+use lib.Dec.{eqb, ltb, eqb·suc-zero}
+use lib.ListN.{getD, replicate}
+use Rattle.laws.specs.Below.{anyBelow}
+use Rattle.laws.specs.Climb.{climb-still}
+use Rattle.sheet.specs.Field.{count, parent}
+use Rattle.sheet.specs.Saswap.{saswap}
+use Rattle.sheet.specs.LockHeight.{lockHeight, never}
+use Rattle.slots.specs.declared.Slot.{Slot}
+use Rattle.slots.specs.Slot.{emptySlot, standing}
+use Rattle.slots.specs.Conflict.{conflict, conflictIn, otherConflictIn}
+use Rattle.slots.specs.Ancestry.{inAncestry}
+use Rattle.slots.specs.Invalidated.{invalidated}
+use Rattle.slots.specs.Deadline.{deadline}
+use Rattle.position.specs.Names.{revoke, refund2, timeout, spendRevoke}
+use Rattle.position.specs.Position.{start, slot, inPool, inBlock, blockOf, isConfirmed}
+use Rattle.position.specs.Report.{status}
+use Rattle.position.proofs.Opened.{opened}
+
+-- P4, for every number of blocks per day and every block of revoke
+pub refund2-lock : (d b : ℕ) (block : ℕ → ℕ) → block revoke ≡ suc b → lockHeight (saswap d) d block refund2 ≡ suc b + 1 * d
+unfolding opened
+refund2-lock d b block e = rw (e, eqb·suc-zero)
+
+pub timeout-lock : (d b : ℕ) (block : ℕ → ℕ) → block revoke ≡ suc b → lockHeight (saswap d) d block timeout ≡ suc b + 2 * d
+unfolding opened
+timeout-lock d b block e = rw (e, eqb·suc-zero)
+
+-- P5, for every number of blocks per day and every position with revoke unconfirmed
+pub spendRevoke-deadline : (d : ℕ) (block : ℕ → ℕ) → block revoke ≡ 0 → deadline (saswap d) d block spendRevoke ≡ never
+unfolding opened
+spendRevoke-deadline d block e = rw e
+
+all-empty : (n t : ℕ) → getD (replicate n emptySlot) t emptySlot ≡ emptySlot
+all-empty zero t = refl
+all-empty (suc n) zero = refl
+all-empty (suc n) (suc t) = all-empty n t
+
+slot-empty : (s : List ℕ) (t : ℕ) → slot (start s) t ≡ emptySlot
+unfolding slot start
+slot-empty s t = all-empty 32 t
+
+none-confirmed : (s : List ℕ) → isConfirmed (start s) ≡ (λ k. false)
+unfolding isConfirmed blockOf
+none-confirmed s = fun-ext (λ k. ap (λ (x : Slot). ltb 0 (x .height)) (slot-empty s k))
+
+none-below : (n : ℕ) (p : ℕ → Bool) → ((k : ℕ) → p k ≡ false) → anyBelow n p ≡ false
+unfolding anyBelow
+none-below zero p h = refl
+none-below (suc n) p h = rw (none-below n p h, h n)
+
+no-conflict : (s : List ℕ) (t : ℕ) → otherConflictIn s (λ k. false) t ≡ false
+unfolding otherConflictIn conflictIn
+no-conflict s t =
+    none-below (count s) (λ k. conflict s k t && (not (eqb k t) && false)) (λ k. rw (and-false (not (eqb k t))) (and-false (conflict s k t)))
+
+none-invalidated : (s : List ℕ) (t : ℕ) → invalidated s (λ k. false) t ≡ false
+unfolding invalidated inAncestry
+none-invalidated s t = climb-still (parent s) (λ k above. otherConflictIn s (λ j. false) k || above) false (λ k. rw no-conflict) t
+
+-- P8, for every sheet
+pub start-status : (s : List ℕ) (t : ℕ) → status s (start s) t ≡ 0
+unfolding status inPool inBlock standing
+start-status s t = rw (slot-empty, none-confirmed, none-invalidated)

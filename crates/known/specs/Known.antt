@@ -1,0 +1,152 @@
+-- Document 01's known positions P1 to P10 and its desk errors as one table, and the one fact that every row holds.
+-- Assumes nothing.
+use Prim.Native.Nat.{ℕ, _<_}
+use mathlib.Core.Path.{_≡_, refl}
+use mathlib.Core.Bool.{true}
+use mathlib.Core.List.{List, [], _∷_, _++_}
+use lib.ListN.{length, getD}
+use Rattle.laws.specs.Gather.{every, every-at}
+use Rattle.sheet.specs.LockHeight.{never}
+use Rattle.slots.specs.Destination.{alice, contract}
+use Rattle.position.specs.Names.{lockA, success, refund1, revoke, refund2, timeout, spendB, spendRevoke}
+use Rattle.position.proofs.Opened.{opened}
+use Rattle.known.specs.Case.{Case, lockIs, deadlineIs, sheetLength, statusesZero, sendGets, sharedIs, statusIs, prints, revokedIn, swapSheet, passes, sendPlace, sameLines, holds}
+
+-- "3 a day, open, stealth 1"
+abbrev setup3 : List ℕ
+setup3 = 3 ∷ 0 ∷ 0 ∷ 1 ∷ []
+
+-- mine the block being filled
+abbrev mine : List ℕ
+mine = 6 ∷ 2 ∷ 255 ∷ 2 ∷ []
+
+-- lock_A sent, included, mined: one block
+abbrev lockedA : List ℕ
+lockedA = 3 ∷ 0 ∷ 0 ∷ 2 ∷ 5 ∷ 2 ∷ 0 ∷ 2 ∷ mine
+
+-- lock_B alike
+abbrev lockedB : List ℕ
+lockedB = 3 ∷ 1 ∷ 1 ∷ 2 ∷ 5 ∷ 2 ∷ 1 ∷ 2 ∷ mine
+
+-- Alice shares success; Bob can sign it then
+abbrev successAt2 : List ℕ
+successAt2 = lockedA ++ (1 ∷ 0 ∷ 2 ∷ 2 ∷ mine)
+
+-- Alice shares revoke; Bob can sign it then
+abbrev revokeAt5 : List ℕ
+revokeAt5 = lockedA ++ (1 ∷ 0 ∷ 4 ∷ 2 ∷ mine) ++ mine ++ mine ++ mine
+
+-- Bob shares refund_1; Alice can sign it then
+abbrev refundAt3 : List ℕ
+refundAt3 = lockedA ++ (1 ∷ 1 ∷ 3 ∷ 2 ∷ mine) ++ mine
+
+-- lock_B confirmed; Bob gives secretBob, and Alice sends spend_B to the pool
+abbrev spentB : List ℕ
+spentB = lockedB ++ (2 ∷ 1 ∷ 3 ∷ 0 ∷ 3 ∷ 0 ∷ 8 ∷ 0 ∷ [])
+
+-- at 2 blocks, filled by lock_B and spend_B, lock_A and its child success wait in the pool
+abbrev waitingAt2 : List ℕ
+waitingAt2 = spentB ++ (5 ∷ 2 ∷ 8 ∷ 2 ∷ mine) ++ (1 ∷ 0 ∷ 2 ∷ 2 ∷ 3 ∷ 0 ∷ 0 ∷ 2 ∷ 3 ∷ 1 ∷ 2 ∷ 2 ∷ [])
+
+-- a chain of three, the last with a rival whose lock is 1 day
+abbrev chainSheet : List ℕ
+chainSheet =
+    4 ∷ 1 ∷ 0 ∷ 1 ∷ 1
+    ∷ 255 ∷ 0 ∷ 1 ∷ 0
+    ∷ 0 ∷ 0 ∷ 1 ∷ 0
+    ∷ 1 ∷ 1 ∷ 1 ∷ 0
+    ∷ 1 ∷ 2 ∷ 1 ∷ 0
+    ∷ 0 ∷ 0 ∷ 0 ∷ 0 ∷ 0 ∷ 0 ∷ 1 ∷ 1
+    ∷ []
+
+-- all three sent at 1 block a day; the last is bumped
+abbrev chainBumped : List ℕ
+chainBumped = 3 ∷ 0 ∷ 0 ∷ 2 ∷ 3 ∷ 0 ∷ 1 ∷ 2 ∷ 3 ∷ 0 ∷ 2 ∷ 0 ∷ 7 ∷ 2 ∷ 2 ∷ 2 ∷ []
+
+-- an opening and three rivals below it: one pays, one has a child, one has a lock of 1 day
+abbrev rivalSheet : List ℕ
+rivalSheet =
+    5 ∷ 1 ∷ 0 ∷ 1 ∷ 1
+    ∷ 255 ∷ 0 ∷ 1 ∷ 0
+    ∷ 0 ∷ 1 ∷ 1 ∷ 0
+    ∷ 0 ∷ 0 ∷ 1 ∷ 0
+    ∷ 0 ∷ 2 ∷ 1 ∷ 0
+    ∷ 2 ∷ 1 ∷ 1 ∷ 0
+    ∷ 0 ∷ 0 ∷ 0 ∷ 0 ∷ 0 ∷ 0 ∷ 1 ∷ 1 ∷ 0 ∷ 0
+    ∷ []
+
+-- the opening, the second rival and its child are handed in; the opening and the first rival are sent, and this one is bumped
+abbrev rivalBumped : List ℕ
+rivalBumped =
+    4 ∷ 0 ∷ 0 ∷ 2 ∷ 4 ∷ 0 ∷ 2 ∷ 2 ∷ 4 ∷ 0 ∷ 4 ∷ 0
+    ∷ 3 ∷ 0 ∷ 0 ∷ 2 ∷ 3 ∷ 0 ∷ 1 ∷ 0
+    ∷ 7 ∷ 2 ∷ 1 ∷ 2
+    ∷ []
+
+-- the table
+unfoldable pub known : List Case
+known =
+    -- P1 to P3, refund_1 and revoke lock heights: "3 a day, 3 and 6; 1 a day, 3 and 4; 2 a day, 4 and 6"
+    lockIs 3 0 refund1 3
+    ∷ lockIs 3 0 revoke 6
+    ∷ lockIs 1 0 refund1 3
+    ∷ lockIs 1 0 revoke 4
+    ∷ lockIs 2 0 refund1 4
+    ∷ lockIs 2 0 revoke 6
+    -- P4: "3 a day, revoke in block 7: refund_2 lock 10, timeout 13, refund_2 deadline 13, spend_revoke deadline 10"
+    ∷ lockIs 3 7 refund2 10
+    ∷ lockIs 3 7 timeout 13
+    ∷ deadlineIs 3 7 refund2 13
+    ∷ deadlineIs 3 7 spendRevoke 10
+    -- P5: "revoke unconfirmed: spend_revoke deadline never"
+    ∷ deadlineIs 3 0 spendRevoke never
+    -- P6: "success to pool passes at 2 blocks, 18 at 3, to the miner passes at 3"
+    ∷ sendGets setup3 successAt2 2 (3 ∷ 1 ∷ 2 ∷ 2 ∷ []) 0
+    ∷ sendGets setup3 (successAt2 ++ mine) 3 (3 ∷ 1 ∷ 2 ∷ 2 ∷ []) 18
+    ∷ sendGets setup3 (successAt2 ++ mine) 3 (4 ∷ 1 ∷ 2 ∷ 2 ∷ []) 0
+    -- P7: "revoke gets 17 at 5 blocks, passes at 6"
+    ∷ sendGets setup3 revokeAt5 5 (3 ∷ 1 ∷ 4 ∷ 2 ∷ []) 17
+    ∷ sendGets setup3 (revokeAt5 ++ mine) 6 (3 ∷ 1 ∷ 4 ∷ 2 ∷ []) 0
+    -- P8: "an empty journal leaves all statuses 0"
+    ∷ statusesZero setup3 []
+    -- P9: "the SASwap sheet is 95 bytes"
+    ∷ sheetLength 3 95
+    -- P10
+    ∷ prints
+    (2 ∷ 2 ∷ 0 ∷ 1 ∷ 2 ∷ 255 ∷ 0 ∷ 1 ∷ 0 ∷ 0 ∷ 2 ∷ 2 ∷ 0 ∷ 0 ∷ 0 ∷ 1 ∷ 1 ∷ [])
+    (1 ∷ 0 ∷ 0 ∷ 0 ∷ [])
+    (3 ∷ 0 ∷ 0 ∷ 2 ∷ 5 ∷ 2 ∷ 0 ∷ 2 ∷ 6 ∷ 2 ∷ 255 ∷ 2 ∷ 3 ∷ 1 ∷ 1 ∷ 1 ∷ 5 ∷ 2 ∷ 1 ∷ 2 ∷ 6 ∷ 2 ∷ 255 ∷ 2 ∷ [])
+    ((6 ∷ 0 ∷ 2 ∷ []) ∷ (0 ∷ 4 ∷ 2 ∷ 1 ∷ 0 ∷ 2147483647 ∷ []) ∷ (1 ∷ 4 ∷ 1 ∷ 2 ∷ 1 ∷ 2147483647 ∷ []) ∷ [])
+    -- desk error "A lock reached at its height minus one": refund_1's is 3
+    ∷ sendGets setup3 (lockedA ++ (1 ∷ 1 ∷ 3 ∷ 2 ∷ mine)) 2 (3 ∷ 0 ∷ 3 ∷ 2 ∷ []) 17
+    ∷ sendGets setup3 refundAt3 3 (3 ∷ 0 ∷ 3 ∷ 2 ∷ []) 0
+    -- "deadline taken from the own lock": refund_1's own is 3
+    ∷ deadlineIs 3 0 refund1 6
+    ∷ deadlineIs 3 0 success 3
+    -- "a secret shared by a hand-in before its block"
+    ∷ sharedIs setup3 (refundAt3 ++ (4 ∷ 0 ∷ 3 ∷ 2 ∷ [])) refund1 contract 2
+    ∷ sharedIs setup3 (refundAt3 ++ (4 ∷ 0 ∷ 3 ∷ 2 ∷ mine)) refund1 contract 7
+    -- "spend_B exposing secrets": by a send or by its block
+    ∷ sharedIs setup3 spentB spendB alice 0
+    ∷ sharedIs setup3 (spentB ++ (5 ∷ 2 ∷ 8 ∷ 2 ∷ mine)) spendB alice 0
+    -- "a bump that leaves the block without a parent": the bumped one's waiting ancestors enter too
+    ∷ statusIs (swapSheet setup3) setup3 (waitingAt2 ++ (7 ∷ 2 ∷ 2 ∷ 2 ∷ [])) success 3
+    ∷ statusIs (swapSheet setup3) setup3 (waitingAt2 ++ (7 ∷ 2 ∷ 2 ∷ 2 ∷ [])) lockA 3
+    ∷ statusIs chainSheet (1 ∷ 0 ∷ 0 ∷ 0 ∷ []) chainBumped 2 3
+    ∷ statusIs chainSheet (1 ∷ 0 ∷ 0 ∷ 0 ∷ []) chainBumped 1 3
+    ∷ statusIs chainSheet (1 ∷ 0 ∷ 0 ∷ 0 ∷ []) chainBumped 0 3
+    -- the same: with a block entry its children leave
+    ∷ statusIs rivalSheet (1 ∷ 0 ∷ 0 ∷ 1 ∷ []) rivalBumped 0 3
+    ∷ statusIs rivalSheet (1 ∷ 0 ∷ 0 ∷ 1 ∷ []) rivalBumped 1 3
+    ∷ statusIs rivalSheet (1 ∷ 0 ∷ 0 ∷ 1 ∷ []) rivalBumped 2 0
+    ∷ statusIs rivalSheet (1 ∷ 0 ∷ 0 ∷ 1 ∷ []) rivalBumped 4 0
+    ∷ []
+
+-- the one fact
+pub all-hold : every holds known ≡ true
+unfolding opened revokedIn swapSheet passes sendPlace sameLines holds known
+all-hold = refl
+
+-- the row at each place holds
+pub holds-at : (i : ℕ) → i < length known → holds (getD known i (sheetLength 3 95)) ≡ true
+holds-at i h = every-at holds known (sheetLength 3 95) all-hold i h

@@ -1,0 +1,1 @@
+// Document 01's known positions and desk errors: see specs/. No functions.

@@ -1,0 +1,46 @@
+-- A list whose first elements are rewritten, each by its place.
+-- Assumes nothing.
+use Prim.Native.Nat.{ℕ, zero, suc, _+_, _≤_, _<_}
+use mathlib.Core.Path.{_≡_, refl, ap}
+use mathlib.Core.List.{List, [], _∷_}
+use lib.ListN.{length, getD, set}
+use native.Mathlib.Numerals.{add-one}
+use native.Mathlib.Nat.{not-suc-le-zero, le-of-suc-le-suc}
+
+-- the first n elements rewritten, the one at place i by `f i`
+unfoldable pub rewriteFirst : {A : Type 0} → ℕ → (ℕ → A → A) → List A → List A
+rewriteFirst zero f l = l
+rewriteFirst (suc n) f [] = []
+rewriteFirst (suc n) f (x ∷ l) = f 0 x ∷ rewriteFirst n (λ i. f (suc i)) l
+
+pub length-rewriteFirst : {A : Type 0} (n : ℕ) (f : ℕ → A → A) (l : List A) → length (rewriteFirst n f l) ≡ length l
+unfolding rewriteFirst
+length-rewriteFirst zero f l = refl
+length-rewriteFirst (suc n) f [] = refl
+length-rewriteFirst (suc n) f (x ∷ l) = ap suc (length-rewriteFirst n (λ i. f (suc i)) l)
+
+more : {A : Type 0} (n : ℕ) (f : ℕ → A → A) (l : List A) (d : A) → set (rewriteFirst n f l) n (f n (getD (rewriteFirst n f l) n d)) ≡ rewriteFirst (suc n) f l
+unfolding rewriteFirst
+more zero f [] d = refl
+more zero f (x ∷ l) d = refl
+more (suc n) f [] d = refl
+more (suc n) f (x ∷ l) d = ap (λ r. f 0 x ∷ r) (more n (λ i. f (suc i)) l d)
+
+-- what stands at a place below n, and at one from n on
+pub rewritten : {A : Type 0} (n : ℕ) (f : ℕ → A → A) (l : List A) (i : ℕ) (d : A) → i < n → i < length l → getD (rewriteFirst n f l) i d ≡ f i (getD l i d)
+unfolding rewriteFirst
+rewritten zero f l i d h m = absurd (not-suc-le-zero h)
+rewritten (suc n) f [] i d h m = absurd (not-suc-le-zero m)
+rewritten (suc n) f (x ∷ l) zero d h m = refl
+rewritten (suc n) f (x ∷ l) (suc i) d h m = rewritten n (λ k. f (suc k)) l i d (le-of-suc-le-suc h) (le-of-suc-le-suc m)
+
+pub not-rewritten : {A : Type 0} (n : ℕ) (f : ℕ → A → A) (l : List A) (i : ℕ) (d : A) → n ≤ i → getD (rewriteFirst n f l) i d ≡ getD l i d
+unfolding rewriteFirst
+not-rewritten zero f l i d h = refl
+not-rewritten (suc n) f [] i d h = refl
+not-rewritten (suc n) f (x ∷ l) zero d h = absurd (not-suc-le-zero h)
+not-rewritten (suc n) f (x ∷ l) (suc i) d h = not-rewritten n (λ k. f (suc k)) l i d (le-of-suc-le-suc h)
+
+-- a turn of a loop: at place n it stores what the rule makes of the element there
+pub rewrite-again : {A : Type 0} (n : ℕ) (f : ℕ → A → A) (l r : List A) (d v : A) → r ≡ rewriteFirst n f l → v ≡ f n (getD r n d) → set r n v ≡ rewriteFirst (n + 1) f l
+rewrite-again n f l r d v e h = rw (h, e, add-one) (more n f l d)

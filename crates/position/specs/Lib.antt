@@ -1,0 +1,15 @@
+pub mod Position
+pub mod Decode
+pub mod Names
+pub mod FirstShares
+pub mod Owed
+pub mod Tests
+pub mod Conduct
+pub mod StepRefusal
+pub mod Effect
+pub mod Play
+pub mod Open
+pub mod Report
+pub mod Holder
+pub mod Answers
+pub mod Printed

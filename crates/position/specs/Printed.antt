@@ -1,0 +1,24 @@
+-- What the program swapreport prints, as the numbers of each line.
+-- Assumes nothing.
+use Prim.Native.Nat.{ℕ}
+use mathlib.Core.Bool.{true, false}
+use mathlib.Core.List.{List, [], _∷_}
+use lib.Dec.{eqb}
+use Rattle.laws.specs.Gather.{gather}
+use Rattle.sheet.specs.Refusal.{accepted}
+use Rattle.sheet.specs.Field.{count}
+use Rattle.position.specs.Play.{run}
+use Rattle.position.specs.Report.{reportBytes, reportedLine}
+
+-- "then transaction, status, payee, block, lock height, deadline": a line for each transaction of a report
+unfoldable pub printedLines : List ℕ → List ℕ → List (List ℕ)
+printedLines s report = gather (count s) (λ t. reportedLine report t ∷ [])
+
+-- "It prints steps accepted, refusal, blocks; then ..", "On a refusal it prints the first line only, blocks 0."
+unfoldable pub printed : List ℕ → List ℕ → List ℕ → List (List ℕ)
+printed s u j =
+    let r = run s u j in
+    elim (eqb (r .refusal) accepted) [
+      | true ↦ (r .accepted ∷ accepted ∷ r .position .mined ∷ []) ∷ printedLines s (reportBytes s u (r .position))
+      | false ↦ (r .accepted ∷ r .refusal ∷ 0 ∷ []) ∷ []
+    ]

@@ -1,0 +1,86 @@
+-- The tests of each kind of step whose fields are right, by rising refusal number. Those of kinds 1 to 4 take what conduct says of the step.
+-- Assumes nothing.
+use Prim.Native.Nat.{ℕ}
+use mathlib.Core.Bool.{Bool, not, _&&_, _||_}
+use mathlib.Core.List.{List, [], _∷_, _++_}
+use lib.Dec.{eqb, ltb, leb}
+use Rattle.laws.specs.Booleans.{pick}
+use Rattle.laws.specs.Below.{anyBelow}
+use Rattle.sheet.specs.Refusal.{stepStealth, stepConduct, stepConflict, stepParent, stepSignatures, stepLock, stepDeadline, stepPool, stepBumpOwed, stepNotOwed, stepEmptyBlock, stepBlocks}
+use Rattle.sheet.specs.Field.{count}
+use Rattle.sheet.specs.Setup.{stealth}
+use Rattle.slots.specs.Conflict.{noConflict}
+use Rattle.slots.specs.Ancestry.{hasParent}
+use Rattle.slots.specs.Signatures.{signed, shareMask}
+use Rattle.position.specs.declared.Position.{Position}
+use Rattle.position.specs.Position.{inPool, inBlock, isConfirmed, sent, placed, keys, holds, marked, has, lockHeightIn, deadlineIn}
+use Rattle.position.specs.Decode.{noTransaction}
+use Rattle.position.specs.FirstShares.{firstSharesMade}
+use Rattle.position.specs.Owed.{owed, anyOwed}
+
+-- "Refused if this party has shared this before for this destination, or the set is empty."; 255: if its first shares are made
+unfoldable pub shareMet : List ℕ → Position → ℕ → ℕ → ℕ → Bool
+shareMet s p party t destination =
+    pick (eqb t noTransaction)
+    (not (firstSharesMade p party))
+    (not (marked p party t destination) && not (eqb (shareMask s (keys p party) t) 0))
+
+-- 1 Share
+unfoldable pub shareTests : Bool → List ℕ → Position → ℕ → ℕ → ℕ → List (ℕ × Bool)
+shareTests allowed s p party t destination = (stepConduct, allowed && shareMet s p party t destination) ∷ []
+
+-- "giver holds it, receiver (the destination, the other party) doesn't"
+unfoldable pub giveMet : Position → ℕ → ℕ → ℕ → Bool
+giveMet p party i receiver = holds p party i && not (holds p receiver i)
+
+-- 2 Give
+unfoldable pub giveTests : Bool → Position → ℕ → ℕ → ℕ → List (ℕ × Bool)
+giveTests allowed p party i receiver = (stepConduct, allowed && giveMet p party i receiver) ∷ []
+
+-- what kinds 3 and 4 share, against a set of transactions: "no rival .., parent there, signatures, lock height ≤ blocks mined"
+unfoldable pub sendTests : Bool → List ℕ → List ℕ → Position → (ℕ → Bool) → ℕ → ℕ → ℕ → List (ℕ × Bool)
+sendTests allowed s u p there party t destination =
+    (stepConduct, allowed)
+    ∷ (stepConflict, noConflict s there t)
+    ∷ (stepParent, hasParent s there t)
+    ∷ (stepSignatures, signed s (has s p party t destination) t)
+    ∷ (stepLock, leb (lockHeightIn s u p t) (p .mined))
+    ∷ []
+
+-- 3 "Send to pool: no rival in pool or confirmed, parent there, signatures, lock height ≤ blocks mined, blocks mined < deadline."
+unfoldable pub poolTests : Bool → List ℕ → List ℕ → Position → ℕ → ℕ → ℕ → List (ℕ × Bool)
+poolTests allowed s u p party t destination =
+    sendTests allowed s u p (sent p) party t destination ++ ((stepDeadline, ltb (p .mined) (deadlineIn s u p t)) ∷ [])
+
+-- 4 "Hand to miner: the same against confirmed and the block being filled, no deadline"; 12 "kind 4, stealth 0"
+unfoldable pub minerTests : Bool → List ℕ → List ℕ → Position → ℕ → ℕ → ℕ → List (ℕ × Bool)
+minerTests allowed s u p party t destination = (stepStealth, eqb (stealth u) 1) ∷ sendTests allowed s u p (placed p) party t destination
+
+-- 5 "Include: a pool entry, no rival confirmed or in the block, parent confirmed or in the block."
+unfoldable pub includeTests : List ℕ → List ℕ → Position → ℕ → List (ℕ × Bool)
+includeTests s u p t =
+    (stepConflict, noConflict s (placed p) t)
+    ∷ (stepParent, hasParent s (placed p) t)
+    ∷ (stepPool, inPool p t)
+    ∷ (stepBumpOwed, not (anyOwed s u p))
+    ∷ []
+
+-- "An empty block needs transaction 0 confirmed."
+unfoldable pub blockMet : List ℕ → Position → Bool
+blockMet s p = anyBelow (count s) (inBlock p) || isConfirmed p 0
+
+-- 23 "10,000 blocks mined"
+abbrev pub blockLimit : ℕ
+blockLimit = 10000
+
+-- 6 Mine
+unfoldable pub mineTests : List ℕ → List ℕ → Position → List (ℕ × Bool)
+mineTests s u p =
+    (stepBumpOwed, not (anyOwed s u p))
+    ∷ (stepEmptyBlock, blockMet s p)
+    ∷ (stepBlocks, ltb (p .mined) blockLimit)
+    ∷ []
+
+-- 7 "Where several are owed, here, any of them may be named."
+unfoldable pub bumpTests : List ℕ → List ℕ → Position → ℕ → List (ℕ × Bool)
+bumpTests s u p t = (stepNotOwed, owed s u p t) ∷ []

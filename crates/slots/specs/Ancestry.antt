@@ -1,0 +1,25 @@
+-- Ancestry (document 01: line): recursion up the sheet, where a parent is always a lower number.
+-- Assumes nothing.
+use Prim.Native.Nat.{ℕ}
+use mathlib.Core.Bool.{Bool, false, _||_}
+use mathlib.Core.List.{List}
+use lib.Dec.{eqb}
+use Rattle.laws.specs.Climb.{climb}
+use Rattle.sheet.specs.Field.{parent, opening}
+use Rattle.slots.specs.Conflict.{conflictIn}
+
+-- "A transaction's line is itself and the line of its parent.": some transaction of t's line passes
+unfoldable pub inAncestry : List ℕ → (ℕ → Bool) → ℕ → Bool
+inAncestry s passes t = climb (parent s) (λ k above. passes k || above) false t
+
+-- "itself and the line of its parent": k is of t's line
+unfoldable pub isSelfOrAncestor : List ℕ → ℕ → ℕ → Bool
+isSelfOrAncestor s k t = inAncestry s (eqb k) t
+
+-- "whose line meets a rival of a mined one", "whose line meets a rival of these": of a member
+unfoldable pub meetsConflict : List ℕ → (ℕ → Bool) → ℕ → Bool
+meetsConflict s member t = inAncestry s (conflictIn s member) t
+
+-- 15 "parent there": an opening has none to ask for
+unfoldable pub hasParent : List ℕ → (ℕ → Bool) → ℕ → Bool
+hasParent s member t = opening s t || member (parent s t)
