@@ -19,7 +19,7 @@ use Rattle.slots.specs.Signatures.{signed}
 use Rattle.position.specs.declared.Position.{Position}
 use Rattle.position.specs.declared.Ran.{Ran}
 use Rattle.position.specs.Names.{lockA, revoke}
-use Rattle.position.specs.Position.{isConfirmed, sent, inBlock, shared, has}
+use Rattle.position.specs.Position.{isConfirmed, sent, inBlock, shared, senderHas}
 use Rattle.position.specs.Play.{run}
 use Rattle.position.specs.Report.{status}
 use Rattle.position.specs.Printed.{printed}
@@ -59,7 +59,7 @@ passes r j = eqb (r .refusal) accepted && eqb (r .accepted * 4) (length j)
 unfoldable pub sendPlace : List ℕ → Position → ℕ → ℕ → ℕ → Bool
 sendPlace s p party t destination =
     isConfirmed p lockA
-    && (signed s (has s p party t destination) t && noConflict s (λ k. sent p k || inBlock p k) t)
+    && (signed s (senderHas s p party t destination) t && noConflict s (λ k. sent p k || inBlock p k) t)
 
 -- the same lines, each with the same numbers
 unfoldable pub sameLines : List (List ℕ) → List (List ℕ) → Bool

@@ -84,3 +84,9 @@ any-some (suc n) p e =
 
 pub any-none : (n : ℕ) (p : ℕ → Bool) → anyBelow n p ≡ false → (k : ℕ) → k < n → p k ≡ false
 any-none n p e k h = split (p k) (λ y. clash (any-found n k p h y) e) (λ f. f)
+
+-- two tests that agree below n
+pub any-same : (n : ℕ) (p q : ℕ → Bool) → ((k : ℕ) → k < n → p k ≡ q k) → anyBelow n p ≡ anyBelow n q
+unfolding anyBelow
+any-same zero p q f = refl
+any-same (suc n) p q f = rw (any-same n p q (λ k h. f k (omega arith)), f n (omega arith))

@@ -44,3 +44,16 @@ beq-same true true h = refl
 beq-same true false h = sym h
 beq-same false true h = h
 beq-same false false h = refl
+
+pub or-right : (a b : Bool) → b ≡ true → (a || b) ≡ true
+or-right true b h = refl
+or-right false b h = h
+
+pub or-neither : (a b : Bool) → (a || b) ≡ false → (a ≡ false) × (b ≡ false)
+or-neither true b h = absurd (true≢false h)
+or-neither false b h = (refl, h)
+
+-- a test that cannot hold fails
+pub fails-by : (b : Bool) → (b ≡ true → ⊥) → b ≡ false
+fails-by true h = absurd (h refl)
+fails-by false h = refl

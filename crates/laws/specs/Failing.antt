@@ -3,7 +3,7 @@
 use Prim.Native.Nat.{ℕ, _<_}
 use mathlib.Core.Path.{_≡_, refl, sym, ap, _∙_}
 use mathlib.Core.Bool.{Bool, true, false, not, _&&_}
-use mathlib.Core.List.{List, [], _∷_}
+use mathlib.Core.List.{List, [], _∷_, _++_}
 use lib.Dec.{eqb, ltb}
 use borrow.Author.Tests.{ltb-true, not-true, not-false}
 use Rattle.laws.specs.Booleans.{pick, split, clash, and-parts}
@@ -60,3 +60,12 @@ answer-below m [] z h = z
 answer-below m (x ∷ xs) z h =
     let w = and-parts (ltb (x .0) m) (numbersBelow m xs) h in
     split (x .1) (λ e. rw e (answer-below m xs z (w .1))) (λ e. rw e (ltb-true (x .0) m (w .0)))
+
+-- tests that pass leave the answer to those behind them
+pub passed-append : (a b : List (ℕ × Bool)) → numbered a ≡ true → firstFailing a ≡ 0 → firstFailing (a ++ b) ≡ firstFailing b
+unfolding firstFailing
+passed-append [] b n h = refl
+passed-append (x ∷ xs) b n h =
+    let m = and-parts (ltb 0 (x .0)) (numbered xs) n in
+    let g = first (x .1) (x .0) (firstFailing xs) (m .0) h in
+    rw (g .0) (passed-append xs b (m .1) (g .1))

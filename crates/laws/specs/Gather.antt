@@ -1,12 +1,14 @@
 -- Lists made one after the other.
 -- Assumes nothing.
-use Prim.Native.Nat.{ℕ, zero, suc, _<_}
-use mathlib.Core.Path.{_≡_}
+use Prim.Native.Nat.{ℕ, zero, suc, _+_, _*_, _≤_, _<_}
+use native.Mathlib.Omega.{arith}
+use mathlib.Core.Path.{_≡_, sym, _∙_}
 use mathlib.Core.Bool.{Bool, true, _&&_}
 use mathlib.Core.List.{List, [], _∷_, _++_}
-use lib.ListN.{length, getD}
-use native.Mathlib.Nat.{not-suc-le-zero, le-of-suc-le-suc}
-use Rattle.laws.specs.Booleans.{and-parts}
+use lib.ListN.{length, getD, length-append, List·getD-append}
+use lib.Seq.{getD-append-add}
+use native.Mathlib.Nat.{not-suc-le-zero, le-of-suc-le-suc, eq-or-lt-of-le, mul-suc, mul-zero, mul-le-mul-left}
+use Rattle.laws.specs.Booleans.{either, and-parts}
 
 -- f 0, f 1, .. f (n - 1), end to end
 unfoldable pub gather : {A : Type 0} → ℕ → (ℕ → List A) → List A
@@ -24,3 +26,21 @@ unfolding every
 every-at p [] d e i h = absurd (not-suc-le-zero h)
 every-at p (x ∷ l) d e zero h = and-parts (p x) (every p l) e .0
 every-at p (x ∷ l) d e (suc i) h = every-at p l d (and-parts (p x) (every p l) e .1) i (le-of-suc-le-suc h)
+
+-- lists of one length w: the whole length, and the element at place j of list t
+module _ {A : Type 0} (f : ℕ → List A) (w : ℕ) (wide : (k : ℕ) → length (f k) ≡ w) where
+  pub length-gather : (n : ℕ) → length (gather n f) ≡ w * n
+  unfolding gather
+  length-gather zero = sym (mul-zero w)
+  length-gather (suc n) = length-append (gather n f) (f n) ∙ rw (length-gather n, wide n, mul-suc)
+
+  in-front : (n t j : ℕ) → t < n → j < w → w * t + j < w * n
+  in-front n t j h l = let m : w * suc t ≤ w * n = mul-le-mul-left w h in omega (arith, mul-suc w t)
+
+  pub gather-at : (n t j : ℕ) (d : A) → t < n → j < w → getD (gather n f) (w * t + j) d ≡ getD (f t) j d
+  unfolding gather
+  gather-at zero t j d h l = absurd (not-suc-le-zero h)
+  gather-at (suc n) t j d h l =
+      either (eq-or-lt-of-le (le-of-suc-le-suc h))
+      (λ e. rw (e, ← length-gather n) (getD-append-add (gather n f) (f n) j d))
+      (λ m. List·getD-append (gather n f) (f n) d (w * t + j) (rw (length-gather n) (in-front n t j m l)) ∙ gather-at n t j d m l)

@@ -11,3 +11,7 @@ pub mod Little
 pub mod Over
 pub mod Members
 pub mod Order
+pub mod Bits
+pub mod Cases
+pub mod Sets
+pub mod All

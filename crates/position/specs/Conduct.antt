@@ -15,7 +15,7 @@ use Rattle.slots.specs.declared.Step.{Step}
 use Rattle.slots.specs.declared.Step.the-variants.{Share, Give, SendToPool, HandToMiner, Include, Mine, Bump}
 use Rattle.slots.specs.Destination.{alice, bob, contract, isPayee, isContract}
 use Rattle.position.specs.declared.Position.{Position}
-use Rattle.position.specs.Position.{isConfirmed, sent, holds, shared, has, deadlineIn}
+use Rattle.position.specs.Position.{isConfirmed, sent, holds, shared, senderHas, deadlineIn}
 use Rattle.position.specs.Names.{sigAlice, secretAlice, secretBob, lockA, lockB, success, refund1, spendB}
 use Rattle.position.specs.Decode.{noTransaction}
 use Rattle.position.specs.FirstShares.{firstSharesMade}
@@ -58,8 +58,8 @@ unfoldable pub bobGives : List ℕ → List ℕ → Position → ℕ → Bool
 bobGives s u p i =
     leb 2 (phase p)
     && (eqb i secretBob
-    && (bit (has s p bob success contract) sigAlice
-    && (not (bit (has s p bob success contract) secretAlice) && not (late s u p))))
+    && (bit (senderHas s p bob success contract) sigAlice
+    && (not (bit (senderHas s p bob success contract) secretAlice) && not (late s u p))))
 
 -- "a step of Alice or Bob not named below gets 13": of gives these two are named
 unfoldable pub mayGive : List ℕ → List ℕ → Position → ℕ → ℕ → Bool

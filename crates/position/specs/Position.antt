@@ -82,8 +82,8 @@ unfoldable pub marked : Position → ℕ → ℕ → ℕ → Bool
 marked p party t destination = markedFor (slot p t) party destination
 
 -- "A sender has: keys held, every secret in shared knowledge, and signatures shared for the same transaction and destination."
-unfoldable pub has : List ℕ → Position → ℕ → ℕ → ℕ → ℕ
-has s p party t destination =
+unfoldable pub senderHas : List ℕ → Position → ℕ → ℕ → ℕ → ℕ
+senderHas s p party t destination =
     senderMask (keys p party) (sharedSecrets s (λ k. sharedAny (slot p k))) (shared p t destination)
 
 -- "Lock height", from the blocks of this position

@@ -13,7 +13,7 @@ use Rattle.slots.specs.Conflict.{noConflict}
 use Rattle.slots.specs.Ancestry.{hasParent}
 use Rattle.slots.specs.Signatures.{signed, shareMask}
 use Rattle.position.specs.declared.Position.{Position}
-use Rattle.position.specs.Position.{inPool, inBlock, isConfirmed, sent, placed, keys, holds, marked, has, lockHeightIn, deadlineIn}
+use Rattle.position.specs.Position.{inPool, inBlock, isConfirmed, sent, placed, keys, holds, marked, senderHas, lockHeightIn, deadlineIn}
 use Rattle.position.specs.Decode.{noTransaction}
 use Rattle.position.specs.FirstShares.{firstSharesMade}
 use Rattle.position.specs.Owed.{owed, anyOwed}
@@ -43,7 +43,7 @@ sendTests allowed s u p there party t destination =
     (stepConduct, allowed)
     ∷ (stepConflict, noConflict s there t)
     ∷ (stepParent, hasParent s there t)
-    ∷ (stepSignatures, signed s (has s p party t destination) t)
+    ∷ (stepSignatures, signed s (senderHas s p party t destination) t)
     ∷ (stepLock, leb (lockHeightIn s u p t) (p .mined))
     ∷ []
 

@@ -5,3 +5,4 @@ pub mod Ancestry
 pub mod Invalidated
 pub mod Deadline
 pub mod Signatures
+pub mod Height

@@ -1,4 +1,14 @@
-// The steps, and what a position holds for each transaction.
+// The steps, what a position holds for each transaction, and what is worked out from these and the sheet.
+ghost use Prim.Native.Nat.{_<_};
+ghost use mathlib.Core.Path.{_≡_};
+ghost use Rattle.slots.specs.Slot.{withPool, withBlock, withConfirmed, sharedFor, withShared, sharedAny, marksOf, markedFor, withMark};
+
+pub mod ancestry;
+pub mod conflict;
+pub mod deadline;
+pub mod lock_height;
+pub mod set;
+pub mod signatures;
 
 // "destination (0 Alice, 1 Bob, 2 contract)"
 pub enum Destination {
@@ -34,4 +44,100 @@ pub struct Slot {
     pub contract: u8,
     // the block of the confirmation, 0 while there is none
     pub height: u16,
+}
+
+impl Slot {
+    // The slot with another pool entry.
+    pub fn with_pool(mut self, entry: u8) -> Slot
+        ensures { λ r. ⌜ r ≡ withPool entry self ⌝ }
+    {
+        self.pool = entry;
+        self
+    }
+
+    // The slot with another block entry.
+    pub fn with_block(mut self, entry: u8) -> Slot
+        ensures { λ r. ⌜ r ≡ withBlock entry self ⌝ }
+    {
+        self.block = entry;
+        self
+    }
+
+    // The slot with a confirmation for an entry's destination.
+    pub fn with_confirmed(mut self, entry: u8, block: u16) -> Slot
+        ensures { λ r. ⌜ r ≡ withConfirmed entry block self ⌝ }
+    {
+        self.confirmed = entry;
+        self.height = block;
+        self
+    }
+
+    // The signatures shared for a destination.
+    pub fn shared_for(self, destination: u8) -> u8
+        ensures { λ r. ⌜ r ≡ sharedFor self destination ⌝ }
+    {
+        if destination == 0 {
+            return self.alice;
+        }
+        if destination == 1 {
+            return self.bob;
+        }
+        self.contract
+    }
+
+    // The slot with the signatures of a mask shared for a destination.
+    pub fn with_shared(mut self, destination: u8, mask: u8) -> Slot
+        requires { ⌜ destination < 3 ⌝ }
+        ensures { λ r. ⌜ r ≡ withShared destination mask self ⌝ }
+    {
+        if destination == 0 {
+            self.alice = self.alice | mask;
+            return self;
+        }
+        if destination == 1 {
+            self.bob = self.bob | mask;
+            return self;
+        }
+        self.contract = self.contract | mask;
+        self
+    }
+
+    // The signatures shared for any destination.
+    pub fn shared_any(self) -> u8
+        ensures { λ r. ⌜ r ≡ sharedAny self ⌝ }
+    {
+        self.alice | self.bob | self.contract
+    }
+
+    // A party's share marks.
+    fn marks(self, party: u8) -> u8
+        ensures { λ r. ⌜ r ≡ marksOf self party ⌝ }
+    {
+        if party == 0 {
+            return self.madea;
+        }
+        self.madeb
+    }
+
+    // Whether a party has shared the transaction for a destination.
+    pub fn marked_for(self, party: u8, destination: u8) -> bool
+        requires { ⌜ destination < 3 ⌝ }
+        ensures { λ r. ⌜ r ≡ markedFor self party destination ⌝ }
+    {
+        signatures::has(self.marks(party), destination)
+    }
+
+    // The slot with one more share mark.
+    pub fn with_mark(mut self, party: u8, destination: u8) -> Slot
+        requires { ⌜ party < 2 ⌝ }
+        requires { ⌜ destination < 3 ⌝ }
+        ensures { λ r. ⌜ r ≡ withMark party destination self ⌝ }
+    {
+        if party == 0 {
+            self.madea = self.madea | (1u8 << destination);
+            return self;
+        }
+        self.madeb = self.madeb | (1u8 << destination);
+        self
+    }
 }

@@ -1,0 +1,44 @@
+-- Where a signature that a sender has comes from: held, shared for the same transaction and destination, or a secret shared anywhere.
+-- Assumes nothing.
+use Prim.Native.Nat.{ℕ, _<_}
+use mathlib.Core.Path.{_≡_, sym, _∙_}
+use mathlib.Core.Bool.{true}
+use mathlib.Core.List.{List}
+use lib.Bits.{bitAnd, bitOr}
+use Rattle.laws.specs.Booleans.{either, and-parts}
+use Rattle.laws.specs.Mask.{bit, unionBelow}
+use Rattle.laws.specs.Bits.{bit-and, or-bit, union-bit}
+use Rattle.sheet.specs.Field.{count, secrets}
+use Rattle.slots.specs.Destination.{destinations}
+use Rattle.slots.specs.Slot.{sharedAny}
+use Rattle.slots.specs.Signatures.{sharedSecrets, senderMask}
+use Rattle.slots.proofs.SharedBits.{shared-any}
+use Rattle.position.specs.declared.Position.{Position}
+use Rattle.position.specs.Position.{slot, shared, keys, holds, senderHas}
+
+-- signature i is shared somewhere
+abbrev pub SharedSomewhere : Position → ℕ → Type 0
+SharedSomewhere p i = (t : ℕ) × (e : ℕ) × (e < destinations) × (bit (shared p t e) i ≡ true)
+
+pub somewhere : (p : Position) (t i : ℕ) → bit (sharedAny (slot p t)) i ≡ true → SharedSomewhere p i
+unfolding shared
+somewhere p t i h = let w = shared-any (slot p t) i h in (t, w .0, w .1, w .2)
+
+pub data Has (s : List ℕ) (p : Position) (party t e i : ℕ) : Type 0 where
+  held : holds p party i ≡ true → Has s p party t e i
+  shown : bit (shared p t e) i ≡ true → Has s p party t e i
+  secret : bit (secrets s) i ≡ true → SharedSomewhere p i → Has s p party t e i
+
+pub has-by : (s : List ℕ) (p : Position) (party t e i : ℕ) → bit (senderHas s p party t e) i ≡ true → Has s p party t e i
+unfolding senderHas senderMask sharedSecrets holds
+has-by s p party t e i h =
+    let all = unionBelow (count s) (λ k. sharedAny (slot p k)) in
+    either (or-bit (keys p party) (bitOr (bitAnd (secrets s) all) (shared p t e)) i h)
+    held
+    (λ y.
+    either (or-bit (bitAnd (secrets s) all) (shared p t e) i y)
+    (λ z.
+    let w = and-parts (bit (secrets s) i) (bit all i) (sym (bit-and (secrets s) all i) ∙ z) in
+    let k = union-bit (count s) (λ j. sharedAny (slot p j)) i (w .1) in
+    secret (w .0) (somewhere p (k .0) i (k .2)))
+    shown)

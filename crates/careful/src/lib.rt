@@ -1,0 +1,1 @@
+// Claims about careful conduct, with no code: see specs/ and proofs/.

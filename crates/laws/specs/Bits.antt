@@ -1,0 +1,63 @@
+-- The bits of masks that others are made of.
+-- Assumes nothing.
+use Prim.Native.Nat.{ℕ, zero, suc, _/_, _%_, _^_, _<_}
+use native.Mathlib.Omega.{arith}
+use native.Mathlib.Nat.{zero-div}
+use mathlib.Core.Path.{_≡_, refl, sym, _∙_}
+use mathlib.Core.Logic.{_⊎_, inl, inr}
+use mathlib.Core.Bool.{true, false, not, _&&_, _||_}
+use lib.Dec.{eqb}
+use lib.Bits.{bitAnd, bitOr, or-shr, and-shr, or-mod, and-mod}
+use borrow.Author.Tests.{ne-eqb}
+use Rattle.laws.specs.Booleans.{either, clash, or-parts}
+use Rattle.laws.specs.Below.{all-at}
+use Rattle.laws.specs.Mask.{bit, subset, unionBelow}
+
+digit : (n : ℕ) → n < 2 → (n ≡ 0) ⊎ (n ≡ 1)
+digit zero h = inl refl
+digit (suc zero) h = inr refl
+digit (suc (suc n)) h = absurd (omega arith)
+
+or-digit : (a b : ℕ) → a < 2 → b < 2 → eqb (bitOr a b) 1 ≡ (eqb a 1 || eqb b 1)
+or-digit a b h k =
+    either (digit a h)
+    (λ e. either (digit b k) (λ f. rw (e, f)) (λ f. rw (e, f)))
+    (λ e. either (digit b k) (λ f. rw (e, f)) (λ f. rw (e, f)))
+
+and-digit : (a b : ℕ) → a < 2 → b < 2 → eqb (bitAnd a b) 1 ≡ (eqb a 1 && eqb b 1)
+and-digit a b h k =
+    either (digit a h)
+    (λ e. either (digit b k) (λ f. rw (f, e)) (λ f. rw (f, e)))
+    (λ e. either (digit b k) (λ f. rw (f, e)) (λ f. rw (f, e)))
+
+pub bit-or : (a b i : ℕ) → bit (bitOr a b) i ≡ (bit a i || bit b i)
+unfolding bit
+bit-or a b i =
+    rw (or-shr a b i, or-mod (a / 2 ^ i) (b / 2 ^ i) 1) (or-digit (a / 2 ^ i % 2) (b / 2 ^ i % 2) (omega arith) (omega arith))
+
+pub bit-and : (a b i : ℕ) → bit (bitAnd a b) i ≡ (bit a i && bit b i)
+unfolding bit
+bit-and a b i =
+    rw (and-shr a b i, and-mod (a / 2 ^ i) (b / 2 ^ i) 1) (and-digit (a / 2 ^ i % 2) (b / 2 ^ i % 2) (omega arith) (omega arith))
+
+pub no-bit : (i : ℕ) → bit 0 i ≡ false
+unfolding bit
+no-bit i = ne-eqb (0 / 2 ^ i % 2) 1 (λ e. omega (arith, zero-div (2 ^ i), e))
+
+-- a bit of an or is one of its parts'
+pub or-bit : (a b i : ℕ) → bit (bitOr a b) i ≡ true → (bit a i ≡ true) ⊎ (bit b i ≡ true)
+or-bit a b i h = or-parts (bit a i) (bit b i) (sym (bit-or a b i) ∙ h)
+
+-- a bit of a union is one member's
+pub union-bit : (n : ℕ) (f : ℕ → ℕ) (i : ℕ) → bit (unionBelow n f) i ≡ true → (k : ℕ) × (k < n) × (bit (f k) i ≡ true)
+unfolding unionBelow
+union-bit zero f i h = clash h (no-bit i)
+union-bit (suc n) f i h =
+    either (or-bit (unionBelow n f) (f n) i h)
+    (λ y. let w = union-bit n f i y in (w .0, omega (arith, w .1), w .2))
+    (λ y. (n, omega arith, y))
+
+-- a bit of a subset is the whole's
+pub subset-bit : (n a b : ℕ) → subset n a b ≡ true → (i : ℕ) → i < n → bit a i ≡ true → bit b i ≡ true
+unfolding subset
+subset-bit n a b h i l e = rw e at (all-at n (λ k. not (bit a k) || bit b k) h i l)

@@ -1,0 +1,77 @@
+-- Sets of the numbers below 32, as masks.
+-- Assumes nothing.
+use Prim.Native.Nat.{ℕ, zero, suc, _+_, _-_, _≤_, _<_, _^_}
+use native.Mathlib.Nat.{not-suc-le-zero, le-of-suc-le-suc, eq-or-lt-of-le, le-antisymm}
+use native.Mathlib.Numerals.{add-one}
+use native.Mathlib.Omega.{arith}
+use mathlib.Core.Path.{_≡_, refl, sym, ap, _∙_}
+use mathlib.Core.Bool.{Bool, true, false, not, _&&_, _||_, Bool·beq, or-false, and-true, and-false}
+use lib.Bits.{bitAnd, bitOr}
+use lib.Dec.{eqb}
+use borrow.Author.Tests.{eq-eqb, ne-eqb}
+use Rattle.laws.specs.Booleans.{pick, either, and-parts, beq-same}
+use Rattle.laws.specs.Below.{allBelow, all-at}
+use Rattle.laws.specs.Mask.{bit}
+use Rattle.laws.specs.Bits.{bit-or, bit-and, no-bit}
+
+-- the set with t too, where the test holds
+unfoldable pub joined : ℕ → Bool → ℕ → ℕ
+joined m on t = pick on (bitOr m (2 ^ t)) m
+
+-- the set without t
+unfoldable pub removed : ℕ → ℕ → ℕ
+removed m t = bitAnd m (4294967295 - 2 ^ t)
+
+-- the numbers below n that pass
+unfoldable pub setBelow : ℕ → (ℕ → Bool) → ℕ
+setBelow zero p = 0
+setBelow (suc n) p = joined (setBelow n p) (p n) n
+
+-- one test over the bits of the 32 powers of two, and of what each leaves of a full word
+powers : allBelow 32 (λ t. allBelow 32 (λ k. Bool·beq (bit (2 ^ t) k) (eqb k t) && Bool·beq (bit (4294967295 - 2 ^ t) k) (not (eqb k t)))) ≡ true
+unfolding allBelow bit
+powers = refl
+
+power-bits : (t k : ℕ) → t < 32 → k < 32 → (bit (2 ^ t) k ≡ eqb k t) × (bit (4294967295 - 2 ^ t) k ≡ not (eqb k t))
+power-bits t k l m =
+    let at-t = all-at 32 (λ j. allBelow 32 (λ i. Bool·beq (bit (2 ^ j) i) (eqb i j) && Bool·beq (bit (4294967295 - 2 ^ j) i) (not (eqb i j)))) powers t l in
+    let w = and-parts _ _ (all-at 32 (λ i. Bool·beq (bit (2 ^ t) i) (eqb i t) && Bool·beq (bit (4294967295 - 2 ^ t) i) (not (eqb i t))) at-t k m) in
+    (beq-same _ _ (w .0), beq-same _ _ (w .1))
+
+pub bit-joined : (m : ℕ) (on : Bool) (t k : ℕ) → t < 32 → k < 32 → bit (joined m on t) k ≡ (bit m k || (on && eqb k t))
+unfolding joined
+bit-joined m true t k l h = bit-or m (2 ^ t) k ∙ ap (λ b. bit m k || b) (power-bits t k l h .0)
+bit-joined m false t k l h = sym (or-false (bit m k))
+
+pub bit-removed : (m t k : ℕ) → t < 32 → k < 32 → bit (removed m t) k ≡ (bit m k && not (eqb k t))
+unfolding removed
+bit-removed m t k l h = bit-and m (4294967295 - 2 ^ t) k ∙ ap (λ b. bit m k && b) (power-bits t k l h .1)
+
+none-above : (n : ℕ) (p : ℕ → Bool) → n ≤ 32 → (k : ℕ) → n ≤ k → k < 32 → bit (setBelow n p) k ≡ false
+unfolding setBelow
+none-above zero p l k h m = no-bit k
+none-above (suc n) p l k h m =
+    bit-joined (setBelow n p) (p n) n k (omega arith) m
+    ∙ rw (none-above n p (omega arith) k (omega arith) m, ne-eqb k n (λ e. omega (arith, e))) (and-false (p n))
+
+-- a member of the set is a number that passes
+pub set-bit : (n : ℕ) (p : ℕ → Bool) → n ≤ 32 → (k : ℕ) → k < n → bit (setBelow n p) k ≡ p k
+unfolding setBelow
+set-bit zero p l k h = absurd (not-suc-le-zero h)
+set-bit (suc n) p l k h =
+    bit-joined (setBelow n p) (p n) n k (omega arith) (omega arith)
+    ∙ either (eq-or-lt-of-le (le-of-suc-le-suc h))
+    (λ e. rw (e, none-above n p (omega arith) n (omega arith) (omega arith), eq-eqb n n refl) (and-true (p n)))
+    (λ m. rw (set-bit n p (omega arith) k m, ne-eqb k n (λ e. omega (arith, e)), and-false (p n)) (or-false (p k)))
+
+-- a loop that makes a set: its start, a turn, its end
+pub set-start : (p : ℕ → Bool) → 0 ≡ setBelow 0 p
+unfolding setBelow
+set-start p = refl
+
+pub set-more : (n : ℕ) (p : ℕ → Bool) (m r : ℕ) (b : Bool) → m ≡ setBelow n p → r ≡ joined m b n → b ≡ p n → r ≡ setBelow (n + 1) p
+unfolding setBelow
+set-more n p m r b e h k = rw (add-one, h, e, k)
+
+pub set-done : (k n : ℕ) (p : ℕ → Bool) (m : ℕ) → k ≤ n → n ≤ k → m ≡ setBelow k p → m ≡ setBelow n p
+set-done k n p m l h e = rw (le-antisymm h l) e

@@ -1,0 +1,43 @@
+-- Entries in order: no entry has a lower block than an earlier one.
+-- Assumes nothing.
+use Prim.Native.Nat.{ℕ, zero, suc, _≤_, _<_}
+use native.Mathlib.Omega.{arith}
+use mathlib.Core.Path.{_≡_, refl}
+use mathlib.Core.Bool.{true, _&&_}
+use mathlib.Core.List.{List, [], _∷_}
+use mathlib.Core.Option.{some}
+use lib.Dec.{eqb, ltb}
+use lib.ListN.{getElem?}
+use borrow.Author.Tests.{eqb-true, ltb-true}
+use Rattle.laws.specs.Booleans.{either, and-parts, or-parts}
+use Rattle.laws.specs.All.{All, empty, also, all-weaken, none-some, some-same, all-place}
+use Rattle.ledger.specs.Entry.{Entry, before, inOrder}
+
+before-block : (a b : Entry) → before a b ≡ true → a .block ≤ b .block
+unfolding before
+before-block a b h =
+    either (or-parts (ltb (a .block) (b .block)) (eqb (a .block) (b .block) && ltb (a .transaction) (b .transaction)) h)
+    (λ y. omega (arith, ltb-true (a .block) (b .block) y))
+    (λ y.
+    let e = eqb-true (a .block) (b .block) (and-parts (eqb (a .block) (b .block)) (ltb (a .transaction) (b .transaction)) y .0) in
+    omega arith)
+
+order-rest : (a : Entry) (l : List Entry) → inOrder (a ∷ l) ≡ true → inOrder l ≡ true
+unfolding inOrder
+order-rest a [] h = refl
+order-rest a (b ∷ l) h = and-parts (before a b) (inOrder (b ∷ l)) h .1
+
+above-first : (a : Entry) (l : List Entry) → inOrder (a ∷ l) ≡ true → All (λ e. a .block ≤ e .block) l
+unfolding inOrder
+above-first a [] h = empty
+above-first a (b ∷ l) h =
+    let w = and-parts (before a b) (inOrder (b ∷ l)) h in
+    let m = before-block a b (w .0) in
+    also m (all-weaken (λ e n. omega arith) (above-first b l (w .1)))
+
+pub blocks-rise : (l : List Entry) → inOrder l ≡ true → (i j : ℕ) (e f : Entry) → i < j → getElem? l i ≡ some e → getElem? l j ≡ some f → e .block ≤ f .block
+blocks-rise [] o i j e f b k m = none-some k
+blocks-rise (a ∷ l) o zero zero e f b k m = absurd (omega arith)
+blocks-rise (a ∷ l) o zero (suc j) e f b k m = rw (some-same k) at (all-place (above-first a l o) j f m)
+blocks-rise (a ∷ l) o (suc i) zero e f b k m = absurd (omega arith)
+blocks-rise (a ∷ l) o (suc i) (suc j) e f b k m = blocks-rise l (order-rest a l o) i j e f (omega arith) k m

@@ -1,0 +1,26 @@
+-- Conflicts against a set: only the members below the count matter.
+-- Assumes nothing.
+use Prim.Native.Nat.{ℕ, _≤_, _<_}
+use native.Mathlib.Omega.{arith}
+use mathlib.Core.Path.{_≡_, ap, _∙_}
+use mathlib.Core.Bool.{Bool, not, _&&_, and-comm}
+use mathlib.Core.List.{List}
+use lib.Dec.{eqb}
+use Rattle.laws.specs.Below.{any-same}
+use Rattle.laws.specs.Mask.{bit}
+use Rattle.laws.specs.Sets.{removed, bit-removed}
+use Rattle.sheet.specs.Field.{count}
+use Rattle.slots.specs.Conflict.{conflict, conflictIn, otherConflictIn}
+
+-- two sets with the same members
+pub conflictIn-same : (s : List ℕ) (a b : ℕ → Bool) (t : ℕ) → ((k : ℕ) → k < count s → a k ≡ b k) → conflictIn s a t ≡ conflictIn s b t
+unfolding conflictIn
+conflictIn-same s a b t h =
+    any-same (count s) (λ k. conflict s k t && a k) (λ k. conflict s k t && b k) (λ k l. ap (λ x. conflict s k t && x) (h k l))
+
+-- a set without t has the other rivals of t
+pub conflictIn-removed : (s : List ℕ) (m t : ℕ) → count s ≤ 32 → t < count s → conflictIn s (bit (removed m t)) t ≡ otherConflictIn s (bit m) t
+unfolding otherConflictIn
+conflictIn-removed s m t few l =
+    conflictIn-same s (bit (removed m t)) (λ k. not (eqb k t) && bit m k) t
+    (λ k h. bit-removed m t k (omega arith) (omega arith) ∙ and-comm (bit m k) (not (eqb k t)))

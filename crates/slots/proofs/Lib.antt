@@ -1,0 +1,9 @@
+pub mod ConflictSets
+pub mod AncestrySets
+pub mod Products
+pub mod Since
+pub mod Parents
+pub mod Conflicts
+pub mod Ancestors
+pub mod Entered
+pub mod SharedBits

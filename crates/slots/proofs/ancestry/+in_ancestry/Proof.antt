@@ -1,0 +1,107 @@
+-- A transaction's line: itself, and the line of its parent, which is a lower number.
+use Rattle.laws.specs.Booleans.{tests}
+use Rattle.slots.proofs.AncestrySets.{line-step}
+use borrow.Author.Needs.{needs}
+use Prim.Native.Nat.{ℕ, _<_}
+use borrow.Fn.Kinds.{In}
+use borrow.Fn.PlainCycle.{Measures, is, falls, and}
+use Rattle.slots.proofs.ancestry.in_ancestry.Reads as in-ancestry
+use Rattle.slots.proofs.ancestry.in_ancestry.Kinds as in-ancestry-kinds
+use Rattle.slots.proofs.ancestry.+in_ancestry.Lts-in_ancestry as in-ancestry-lts
+use Rattle.sheet.proofs.field.parent.Reads as parent-reads
+use Rattle.slots.proofs.set.has.Reads as has-reads
+use Rattle.slots.proofs.ancestry.+in_ancestry.{statement}
+use Rattle.slots.proofs.ancestry.+in_ancestry.Tie.{close}
+
+abbrev μ-in-ancestry : Measures 1 in-ancestry-kinds.ps ℕ
+μ-in-ancestry κs a = a .1 .1 .0
+
+abbrev in-ancestry-at : ℕ → In 1 in-ancestry-kinds.ps
+in-ancestry-at t =
+    and 1 in-ancestry-kinds.ps (is 1 in-ancestry-kinds.ps μ-in-ancestry t) in-ancestry.Pre
+
+abbrev in-ancestry-below : ℕ → In 1 in-ancestry-kinds.ps
+in-ancestry-below t =
+    and 1 in-ancestry-kinds.ps (falls 1 in-ancestry-kinds.ps _<_ μ-in-ancestry t) in-ancestry.Pre
+
+in-ancestry-has-requires : (t : ℕ) → in-ancestry-lts.Need-has-requires (
+  has-reads.Asked,
+  has-reads.Learnt,
+  parent-reads.Asked,
+  parent-reads.Learnt,
+  in-ancestry-below t,
+  in-ancestry.Post,
+) (in-ancestry-at t) in-ancestry.Post
+in-ancestry-has-requires t c κs = search needs
+
+in-ancestry-returns : (t : ℕ) → in-ancestry-lts.Need-returns (
+  has-reads.Asked,
+  has-reads.Learnt,
+  parent-reads.Asked,
+  parent-reads.Learnt,
+  in-ancestry-below t,
+  in-ancestry.Post,
+) (in-ancestry-at t) in-ancestry.Post
+in-ancestry-returns t c = rw line-step (simp (← (c .before .has .ensures), c .if1 .taken))
+
+in-ancestry-parent-requires : (t : ℕ) → in-ancestry-lts.Need-parent-requires (
+  has-reads.Asked,
+  has-reads.Learnt,
+  parent-reads.Asked,
+  parent-reads.Learnt,
+  in-ancestry-below t,
+  in-ancestry.Post,
+) (in-ancestry-at t) in-ancestry.Post
+in-ancestry-parent-requires t c κs = search needs
+
+in-ancestry-in-ancestry-requires : (t : ℕ) → in-ancestry-lts.Need-in-ancestry-requires (
+  has-reads.Asked,
+  has-reads.Learnt,
+  parent-reads.Asked,
+  parent-reads.Learnt,
+  in-ancestry-below t,
+  in-ancestry.Post,
+) (in-ancestry-at t) in-ancestry.Post
+in-ancestry-in-ancestry-requires t c κs = search needs
+
+in-ancestry-returns-2 : (t : ℕ) → in-ancestry-lts.Need-returns-2 (
+  has-reads.Asked,
+  has-reads.Learnt,
+  parent-reads.Asked,
+  parent-reads.Learnt,
+  in-ancestry-below t,
+  in-ancestry.Post,
+) (in-ancestry-at t) in-ancestry.Post
+in-ancestry-returns-2 t c =
+    rw line-step
+    (simp (tests, ← (c .before .before .before .before .has .ensures), c .before .before .before .if1 .left, ← (c .before .before .parent .ensures .is), c .before .if2 .taken, ← (c .in-ancestry .ensures)))
+
+in-ancestry-returns-3 : (t : ℕ) → in-ancestry-lts.Need-returns-3 (
+  has-reads.Asked,
+  has-reads.Learnt,
+  parent-reads.Asked,
+  parent-reads.Learnt,
+  in-ancestry-below t,
+  in-ancestry.Post,
+) (in-ancestry-at t) in-ancestry.Post
+in-ancestry-returns-3 t c =
+    rw line-step
+    (simp (tests, ← (c .before .before .before .has .ensures), c .before .before .if1 .left, ← (c .before .parent .ensures .is), c .if2 .left))
+
+pub +in-ancestry-spec : {M : Type 1} → statement M
++in-ancestry-spec = close μ-in-ancestry λ t. in-ancestry-lts.spec (
+  has-reads.Asked,
+  has-reads.Learnt,
+  parent-reads.Asked,
+  parent-reads.Learnt,
+  in-ancestry-below t,
+  in-ancestry.Post,
+)
+    (in-ancestry-at t)
+    in-ancestry.Post
+    (in-ancestry-has-requires t)
+    (in-ancestry-returns t)
+    (in-ancestry-parent-requires t)
+    (in-ancestry-in-ancestry-requires t)
+    (in-ancestry-returns-2 t)
+    (in-ancestry-returns-3 t)

@@ -1,0 +1,24 @@
+-- Never, or the sum.
+use Rattle.sheet.specs.LockHeight.{sinceParent}
+use Rattle.laws.specs.Booleans.{tests}
+use native.Mathlib.Omega.{arith}
+use borrow.Author.Needs.{needs}
+use Rattle.slots.proofs.lock_height.since_parent.Statement.{statement}
+use Rattle.slots.proofs.lock_height.since_parent.Tie as tie
+
+returns : tie.Need-returns
+unfolding sinceParent
+returns c = record { is = simp (c .if1 .taken); small = search needs }
+
+wide-requires : tie.Need-wide-requires
+wide-requires c κs = search needs
+
+add-result : tie.Need-add-result
+add-result c = search needs
+
+returns-2 : tie.Need-returns-2
+unfolding sinceParent
+returns-2 c = record { is = simp (tests, c .before .if1 .left, c .wide .ensures .0); small = omega (arith, c .wide .ensures .1, c .before .before .pre) }
+
+pub since-parent-spec : {M : Type 1} → statement M
+since-parent-spec = tie.close (tie.spec returns wide-requires add-result returns-2)

@@ -1,0 +1,27 @@
+-- With the bit at t, or as it was.
+use Rattle.laws.specs.Sets.{joined}
+use mathlib.Core.Path.{_∙_, ap}
+use lib.Pow.{shl-exact}
+use lib.Bits.{bitOr}
+use native.Mathlib.Omega.{arith}
+use native.Mathlib.Nat.{one-mul}
+use borrow.Author.Needs.{needs}
+use Rattle.slots.proofs.set.join.Statement.{statement}
+use Rattle.slots.proofs.set.join.Tie as tie
+
+cast-result : tie.Need-cast-result
+cast-result c = search needs
+
+shl-result : tie.Need-shl-result
+shl-result c = search needs
+
+returns : tie.Need-returns
+unfolding joined
+returns c = rw (c .if1 .taken) (ap (λ x. bitOr (c .before .args .set) x) (shl-exact {a = 1} 1 (c .before .args .t) 32 (omega arith) (omega arith) ∙ one-mul _))
+
+returns-2 : tie.Need-returns-2
+unfolding joined
+returns-2 c = rw (c .if1 .left)
+
+pub join-spec : {M : Type 1} → statement M
+join-spec = tie.close (tie.spec cast-result shl-result returns returns-2)

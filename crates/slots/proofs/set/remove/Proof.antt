@@ -1,0 +1,24 @@
+-- Without the bit at t.
+use Rattle.laws.specs.Sets.{removed}
+use mathlib.Core.Path.{_∙_, ap}
+use lib.Pow.{shl-exact}
+use lib.Bits.{bitAnd}
+use native.Mathlib.Omega.{arith}
+use native.Mathlib.Nat.{one-mul}
+use Prim.Native.Nat.{_-_}
+use borrow.Author.Needs.{needs}
+use Rattle.slots.proofs.set.remove.Statement.{statement}
+use Rattle.slots.proofs.set.remove.Tie as tie
+
+cast-result : tie.Need-cast-result
+cast-result c = search needs
+
+shl-result : tie.Need-shl-result
+shl-result c = search needs
+
+returns : tie.Need-returns
+unfolding removed
+returns c = ap (λ x. bitAnd (c .args .set) (4294967295 - x)) (shl-exact {a = 1} 1 (c .args .t) 32 (omega arith) (omega arith) ∙ one-mul _)
+
+pub remove-spec : {M : Type 1} → statement M
+remove-spec = tie.close (tie.spec cast-result shl-result returns)

@@ -1,0 +1,15 @@
+-- What the functions on heights answer.
+-- Assumes nothing.
+use Prim.Native.Nat.{ℕ, _*_, _≤_, _<_}
+use mathlib.Core.Path.{_≡_}
+use Rattle.sheet.specs.LockHeight.{never}
+
+-- "days × blocks per day", of a byte and two bytes
+pub record Product (days perDay r : ℕ) : Type 0 where
+  pub is : r ≡ days * perDay
+  pub small : r < 16777216
+
+-- r is the height h, which is at most never
+pub record Height (h r : ℕ) : Type 0 where
+  pub is : r ≡ h
+  pub small : r ≤ never

@@ -1,0 +1,24 @@
+// Ancestry (document 01: line): recursion up the sheet, where a parent is always a lower number.
+use crate::set;
+ghost use Prim.Native.Nat.{_<_};
+ghost use mathlib.Core.Path.{_≡_};
+ghost use Rattle.laws.specs.Mask.{bit};
+ghost use Rattle.sheet.specs.Field.{count, Sized};
+ghost use Rattle.slots.specs.Ancestry.{inAncestry, hasParent};
+
+// Whether a transaction of t's line is in the set.
+pub fn in_ancestry(sheet: &[u8], there: u32, t: usize) -> bool
+    requires { ⌜ Sized (now sheet) ⌝ }
+    requires { ⌜ t < count (now sheet) ⌝ }
+    ensures { λ r. ⌜ r ≡ inAncestry (now (sheet .entry)) (bit there) t ⌝ }
+{
+    if set::has(there, t) {
+        return true;
+    }
+    let up = sheet::field::parent(sheet, t);
+    if up < t {
+        in_ancestry(sheet, there, up)
+    } else {
+        false
+    }
+}
