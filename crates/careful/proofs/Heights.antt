@@ -1,4 +1,4 @@
--- Lock heights and deadlines of the SASwap sheet, for 1 to 1,000 blocks per day, and what they say of a sound position.
+-- Lock heights and deadlines of the SASwap sheet, for 1 to 1,000 blocks per day.
 -- Assumes nothing.
 use Prim.Native.Nat.{ℕ, _+_, _*_, _-_, _≤_, _<_}
 use native.Mathlib.Omega.{arith}

@@ -45,12 +45,12 @@ module _ (u : List ℕ) (c : conduct u ≡ 2) (p : Position) (j : Invariant u p)
       let f = both-sign (perDay u) t b in
       either (traced-touch t alice (omega arith) (f .later) w)
       (j .alice-unpaid t b)
-      (λ y. senderHas (signs u p alice t alice sigBob (by-payee (y .0) t alice (f .pays) (y .1)) (omega arith) (f .needs-bob)))
+      (λ y. has (signs u p alice t alice sigBob (by-payee (y .0) t alice (f .pays) (y .1)) (omega arith) (f .needs-bob)))
     where
-      senderHas : Has (sheet u) p alice t alice sigBob → ⊥
-      senderHas (held h) = j .sigBob-kept h
-      senderHas (shown h) = j .alice-unpaid t b (inr (sigBob, h))
-      senderHas (secret n x) = clash n (sigBob-plain (perDay u))
+      has : Has (sheet u) p alice t alice sigBob → ⊥
+      has (held h) = j .sigBob-kept h
+      has (shown h) = j .alice-unpaid t b (inr (sigBob, h))
+      has (secret n x) = clash n (sigBob-plain (perDay u))
 
   pub next-bob-keyed : (t : ℕ) → BothSign t → Touched q t bob → holds q bob sigAlice ≡ true
   next-bob-keyed t b w =
@@ -58,12 +58,12 @@ module _ (u : List ℕ) (c : conduct u ≡ 2) (p : Position) (j : Invariant u p)
       m .keys-kept bob sigAlice (omega arith)
       (either (traced-touch t bob (omega arith) (f .later) w)
       (j .bob-keyed t b)
-      (λ y. senderHas (signs u p bob t bob sigAlice (by-payee (y .0) t bob (f .pays) (y .1)) (omega arith) (f .needs-alice))))
+      (λ y. has (signs u p bob t bob sigAlice (by-payee (y .0) t bob (f .pays) (y .1)) (omega arith) (f .needs-alice))))
     where
-      senderHas : Has (sheet u) p bob t bob sigAlice → holds p bob sigAlice ≡ true
-      senderHas (held h) = h
-      senderHas (shown h) = j .bob-keyed t b (inr (sigAlice, h))
-      senderHas (secret n x) = clash n (sigAlice-plain (perDay u))
+      has : Has (sheet u) p bob t bob sigAlice → holds p bob sigAlice ≡ true
+      has (held h) = h
+      has (shown h) = j .bob-keyed t b (inr (sigAlice, h))
+      has (secret n x) = clash n (sigAlice-plain (perDay u))
 
   -- spend_B
   pub next-spendB-alice : Stands q spendB alice → SecretBobOut q
@@ -73,14 +73,14 @@ module _ (u : List ℕ) (c : conduct u ≡ 2) (p : Position) (j : Invariant u p)
       (j .spendB-alice)
       (λ y.
       let w = by-payee (y .0) spendB alice (spendB-pays (perDay u)) (y .1) in
-      senderHas (signs u p alice spendB alice secretBob w (omega arith) (needs (perDay u) .spendB-secretBob))))
+      has (signs u p alice spendB alice secretBob w (omega arith) (needs (perDay u) .spendB-secretBob))))
       (λ k. inl (m .keys-kept alice secretBob (omega arith) k))
       (λ k. inr (stays-shown u p q m success secretBob k))
     where
-      senderHas : Has (sheet u) p alice spendB alice secretBob → SecretBobOut p
-      senderHas (held k) = inl k
-      senderHas (shown k) = inr (secretBob-shown u p j (spendB, alice, omega arith, k))
-      senderHas (secret n x) = inr (secretBob-shown u p j x)
+      has : Has (sheet u) p alice spendB alice secretBob → SecretBobOut p
+      has (held k) = inl k
+      has (shown k) = inr (secretBob-shown u p j (spendB, alice, omega arith, k))
+      has (secret n x) = inr (secretBob-shown u p j x)
 
   pub next-spendB-bob : Stands q spendB bob → SecretAliceOut q
   next-spendB-bob h =
@@ -89,11 +89,11 @@ module _ (u : List ℕ) (c : conduct u ≡ 2) (p : Position) (j : Invariant u p)
       (j .spendB-bob)
       (λ y.
       let w = by-payee (y .0) spendB bob (spendB-pays (perDay u)) (y .1) in
-      senderHas (signs u p bob spendB bob secretAlice w (omega arith) (needs (perDay u) .spendB-secretAlice))))
+      has (signs u p bob spendB bob secretAlice w (omega arith) (needs (perDay u) .spendB-secretAlice))))
       (λ k. inl (stays-shown u p q m refund1 secretAlice k))
       (λ k. inr (stays-shown u p q m refund2 secretAlice k))
     where
-      senderHas : Has (sheet u) p bob spendB bob secretAlice → SecretAliceOut p
-      senderHas (held k) = absurd (j .secretAlice-kept k)
-      senderHas (shown k) = secretAlice-shown u p j (spendB, bob, omega arith, k)
-      senderHas (secret n x) = secretAlice-shown u p j x
+      has : Has (sheet u) p bob spendB bob secretAlice → SecretAliceOut p
+      has (held k) = absurd (j .secretAlice-kept k)
+      has (shown k) = secretAlice-shown u p j (spendB, bob, omega arith, k)
+      has (secret n x) = secretAlice-shown u p j x

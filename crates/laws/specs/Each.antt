@@ -1,11 +1,12 @@
 -- A list whose first elements are rewritten, each by its place.
 -- Assumes nothing.
 use Prim.Native.Nat.{ℕ, zero, suc, _+_, _≤_, _<_}
-use mathlib.Core.Path.{_≡_, refl, ap}
-use mathlib.Core.List.{List, [], _∷_}
-use lib.ListN.{length, getD, set}
+use mathlib.Core.Path.{_≡_, refl, ap, sym, _∙_}
+use mathlib.Core.List.{List, [], _∷_, map}
+use lib.ListN.{length, getD, set, length-map}
 use native.Mathlib.Numerals.{add-one}
-use native.Mathlib.Nat.{not-suc-le-zero, le-of-suc-le-suc}
+use native.Mathlib.Nat.{le-antisymm, not-suc-le-zero, le-of-suc-le-suc}
+use native.Mathlib.Omega.{arith}
 
 -- the first n elements rewritten, the one at place i by `f i`
 unfoldable pub rewriteFirst : {A : Type 0} → ℕ → (ℕ → A → A) → List A → List A
@@ -44,3 +45,22 @@ not-rewritten (suc n) f (x ∷ l) (suc i) d h = not-rewritten n (λ k. f (suc k)
 -- a turn of a loop: at place n it stores what the rule makes of the element there
 pub rewrite-again : {A : Type 0} (n : ℕ) (f : ℕ → A → A) (l r : List A) (d v : A) → r ≡ rewriteFirst n f l → v ≡ f n (getD r n d) → set r n v ≡ rewriteFirst (n + 1) f l
 rewrite-again n f l r d v e h = rw (h, e, add-one) (more n f l d)
+
+-- a loop's start and its end
+pub rewrite-start : {A : Type 0} (f : ℕ → A → A) (l : List A) → l ≡ rewriteFirst 0 f l
+unfolding rewriteFirst
+rewrite-start f l = refl
+
+pub rewrite-done : {A : Type 0} (k n : ℕ) (f : ℕ → A → A) (l r : List A) → k ≤ n → n ≤ k → r ≡ rewriteFirst k f l → r ≡ rewriteFirst n f l
+rewrite-done k n f l r h m e = rw (le-antisymm m h) e
+
+-- two rules that agree at the places below n
+pub rewrite-same : {A : Type 0} (n : ℕ) (f g : ℕ → A → A) (l : List A) → ((i : ℕ) (x : A) → i < n → f i x ≡ g i x) → rewriteFirst n f l ≡ rewriteFirst n g l
+unfolding rewriteFirst
+rewrite-same zero f g l h = refl
+rewrite-same (suc n) f g [] h = refl
+rewrite-same (suc n) f g (x ∷ l) h = rw (h 0 x (omega arith), rewrite-same n (λ i. f (suc i)) (λ i. g (suc i)) l (λ i y m. h (suc i) y (omega arith)))
+
+-- a list as long as what a map makes of it
+pub length-of-map : {A B : Type 0} (f : A → B) (l : List A) (n : ℕ) → length (map f l) ≡ n → length l ≡ n
+length-of-map f l n e = sym (length-map l f) ∙ e

@@ -21,3 +21,5 @@ pub mod MovedShare
 pub mod MovedGive
 pub mod Moved
 pub mod Quiet
+pub mod Views
+pub mod BlockSets

@@ -13,3 +13,5 @@ pub mod Report
 pub mod Holder
 pub mod Answers
 pub mod Printed
+pub mod View
+pub mod Blocks

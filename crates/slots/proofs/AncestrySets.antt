@@ -9,11 +9,8 @@ use lib.Dec.{ltb}
 use borrow.Author.Tests.{ltb-true}
 use Rattle.laws.specs.Booleans.{pick, split}
 use Rattle.laws.specs.Climb.{climb-step}
-use Rattle.laws.specs.Mask.{bit}
-use Rattle.laws.specs.Sets.{setBelow, set-bit}
-use Rattle.sheet.specs.Field.{count, parent}
-use Rattle.slots.specs.Ancestry.{inAncestry, meetsConflict}
-use Rattle.slots.specs.Conflict.{conflictIn}
+use Rattle.sheet.specs.Field.{parent}
+use Rattle.slots.specs.Ancestry.{inAncestry}
 
 pub line-step : (s : List ℕ) (p : ℕ → Bool) (t : ℕ) → inAncestry s p t ≡ (p t || pick (ltb (parent s t) t) (inAncestry s p (parent s t)) false)
 unfolding inAncestry
@@ -33,10 +30,3 @@ same-up s a b (suc n) t l h =
 -- two sets with the same members up to t
 pub inAncestry-same : (s : List ℕ) (a b : ℕ → Bool) (t : ℕ) → ((k : ℕ) → k ≤ t → a k ≡ b k) → inAncestry s a t ≡ inAncestry s b t
 inAncestry-same s a b t h = same-up s a b (suc t) t (omega arith) h
-
--- the line meets the set of those that have a rival among the members
-pub meets-set : (s : List ℕ) (member : ℕ → Bool) (t : ℕ) → count s ≤ 32 → t < count s → inAncestry s (bit (setBelow (count s) (conflictIn s member))) t ≡ meetsConflict s member t
-unfolding meetsConflict
-meets-set s member t few l =
-    inAncestry-same s (bit (setBelow (count s) (conflictIn s member))) (conflictIn s member) t
-    (λ k h. set-bit (count s) (conflictIn s member) few k (omega arith))

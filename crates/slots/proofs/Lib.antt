@@ -7,3 +7,4 @@ pub mod Conflicts
 pub mod Ancestors
 pub mod Entered
 pub mod SharedBits
+pub mod LineSets

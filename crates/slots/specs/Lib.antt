@@ -6,3 +6,4 @@ pub mod Invalidated
 pub mod Deadline
 pub mod Signatures
 pub mod Height
+pub mod Line

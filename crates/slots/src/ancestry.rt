@@ -4,7 +4,8 @@ ghost use Prim.Native.Nat.{_<_};
 ghost use mathlib.Core.Path.{_≡_};
 ghost use Rattle.laws.specs.Mask.{bit};
 ghost use Rattle.sheet.specs.Field.{count, Sized};
-ghost use Rattle.slots.specs.Ancestry.{inAncestry, hasParent};
+ghost use Rattle.slots.specs.Ancestry.{inAncestry};
+ghost use Rattle.slots.specs.Line.{lineSet};
 
 // Whether a transaction of t's line is in the set.
 pub fn in_ancestry(sheet: &[u8], there: u32, t: usize) -> bool
@@ -21,4 +22,17 @@ pub fn in_ancestry(sheet: &[u8], there: u32, t: usize) -> bool
     } else {
         false
     }
+}
+
+// The line of t: itself and the line of its parent.
+pub fn line_of(sheet: &[u8], t: usize) -> u32
+    requires { ⌜ Sized (now sheet) ⌝ }
+    requires { ⌜ t < count (now sheet) ⌝ }
+    ensures { λ r. ⌜ r ≡ lineSet (now (sheet .entry)) t ⌝ }
+{
+    let up = sheet::field::parent(sheet, t);
+    if up < t {
+        return set::join(line_of(sheet, up), true, t);
+    }
+    set::join(0, true, t)
 }

@@ -7,6 +7,7 @@ pub mod ancestry;
 pub mod conflict;
 pub mod deadline;
 pub mod lock_height;
+pub mod party;
 pub mod set;
 pub mod signatures;
 
@@ -87,7 +88,6 @@ impl Slot {
 
     // The slot with the signatures of a mask shared for a destination.
     pub fn with_shared(mut self, destination: u8, mask: u8) -> Slot
-        requires { ⌜ destination < 3 ⌝ }
         ensures { λ r. ⌜ r ≡ withShared destination mask self ⌝ }
     {
         if destination == 0 {
@@ -98,7 +98,9 @@ impl Slot {
             self.bob = self.bob | mask;
             return self;
         }
-        self.contract = self.contract | mask;
+        if destination == 2 {
+            self.contract = self.contract | mask;
+        }
         self
     }
 

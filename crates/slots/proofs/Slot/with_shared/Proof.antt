@@ -1,7 +1,6 @@
 -- By destination number; the other fields stay.
 use Rattle.slots.specs.Slot.{withShared}
-use native.Mathlib.Omega.{arith}
-use mathlib.Core.Path.{_≡_}
+use Rattle.laws.specs.Booleans.{tests}
 use Rattle.slots.proofs.Slot.with_shared.Statement.{statement}
 use Rattle.slots.proofs.Slot.with_shared.Tie as tie
 
@@ -15,7 +14,11 @@ returns-2 c = rw (c .before .if2 .taken)
 
 returns-3 : tie.Need-returns-3
 unfolding withShared
-returns-3 c = let two : c .before .before .before .args .destination ≡ 2 = omega (arith, c .before .before .before .pre, c .before .before .if1 .left, c .before .if2 .left) in simp two
+returns-3 c = rw (c .before .if3 .taken)
+
+returns-4 : tie.Need-returns-4
+unfolding withShared
+returns-4 c = simp (tests, c .before .before .if1 .left, c .before .if2 .left, c .if3 .left)
 
 pub with-shared-spec : {M : Type 1} → statement M
-with-shared-spec = tie.close (tie.spec returns returns-2 returns-3)
+with-shared-spec = tie.close (tie.spec returns returns-2 returns-3 returns-4)

@@ -1,0 +1,29 @@
+-- Over the parent's block alone.
+use Rattle.position.specs.Position.{blockOf, lockHeightIn}
+use Rattle.slots.proofs.Since.{lockHeight-since}
+use mathlib.Core.Path.{sym, ap, _∙_}
+use denote.Ref.{now}
+use borrow.Author.Needs.{needs}
+use Rattle.position.proofs.Position.lock_height_in.Statement.{statement}
+use Rattle.position.proofs.Position.lock_height_in.Tie as tie
+
+parent-requires : tie.Need-parent-requires
+parent-requires c κs = search needs
+
+block-of-requires : tie.Need-block-of-requires
+block-of-requires c κs = search needs
+
+per-day-requires : tie.Need-per-day-requires
+per-day-requires c κs = search needs
+
+lock-height-requires : tie.Need-lock-height-requires
+lock-height-requires c κs = search needs
+
+returns : tie.Need-returns
+unfolding lockHeightIn
+returns c = record { is = rw (← (c .before .per-day .ensures), lockHeight-since (now (c .before .before .before .before .before .before .args .sheet)) (c .before .per-day .result) (blockOf (c .before .before .before .before .before .before .args .self)) (c .before .before .block-of .result) (c .before .before .before .before .before .before .args .t) (ap (blockOf (c .before .before .before .before .before .before .args .self)) (sym (c .before .before .before .parent .ensures .is)) ∙ sym (c .before .before .block-of .ensures))) (c .lock-height .ensures .is); small = c .lock-height .ensures .small }
+
+pub lock-height-in-spec : {M : Type 1} → statement M
+lock-height-in-spec =
+    tie.close
+    (tie.spec parent-requires block-of-requires per-day-requires lock-height-requires returns)

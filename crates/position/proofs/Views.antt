@@ -1,0 +1,24 @@
+-- A view made one transaction after the other.
+-- Assumes nothing.
+use Prim.Native.Nat.{ℕ, _+_, _≤_}
+use native.Mathlib.Nat.{le-antisymm}
+use native.Mathlib.Numerals.{add-one}
+use mathlib.Core.Path.{_≡_, refl}
+use Rattle.laws.specs.Mask.{unionBelow}
+use Rattle.laws.specs.Sets.{setBelow}
+use Rattle.slots.specs.declared.Slot.{Slot}
+use Rattle.position.specs.declared.Position.{Position}
+use Rattle.position.specs.declared.View.{View}
+use Rattle.position.specs.Position.{slot, inPool, inBlock, blockOf, isConfirmed}
+use Rattle.position.specs.View.{viewBelow, viewWith}
+
+pub view-start : (p : Position) → record { pool = 0; block = 0; confirmed = 0; shared = 0 } ≡ viewBelow 0 p
+unfolding viewBelow setBelow unionBelow
+view-start p = refl
+
+pub view-more : (n : ℕ) (p : Position) (v w : View) (x : Slot) → v ≡ viewBelow n p → w ≡ viewWith v n x → x ≡ slot p n → w ≡ viewBelow (n + 1) p
+unfolding viewBelow viewWith setBelow unionBelow inPool inBlock isConfirmed blockOf
+view-more n p v w x e f g = rw (f, e, g, add-one)
+
+pub view-done : (k n : ℕ) (p : Position) (v : View) → k ≤ n → n ≤ k → v ≡ viewBelow k p → v ≡ viewBelow n p
+view-done k n p v l m e = rw (le-antisymm m l) e

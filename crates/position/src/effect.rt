@@ -1,0 +1,88 @@
+// What an accepted step does to a position: kinds 1 to 5.
+use crate::Position;
+use slots::signatures;
+ghost use Prim.Native.Nat.{_<_, _≤_};
+ghost use mathlib.Core.Path.{_≡_};
+ghost use Rattle.sheet.specs.Field.{count, Sized};
+ghost use Rattle.position.specs.Position.{keys};
+ghost use Rattle.position.specs.Effect.{shareOne, withKey, afterSend, afterHandIn, afterInclude};
+
+impl Position {
+    // The keys that a party holds.
+    pub fn keys(self, party: u8) -> u8
+        ensures { λ r. ⌜ r ≡ keys self party ⌝ }
+    {
+        if party == 0 {
+            return self.alice;
+        }
+        self.bob
+    }
+
+    // A share of one transaction for a destination.
+    pub fn share_one(mut self, sheet: &[u8], party: u8, t: usize, destination: u8) -> Position
+        requires { ⌜ Sized (now sheet) ⌝ }
+        requires { ⌜ t < count (now sheet) ⌝ }
+        requires { ⌜ party < 2 ⌝ }
+        requires { ⌜ destination < 3 ⌝ }
+        ensures { λ r. ⌜ r ≡ shareOne (now (sheet .entry)) party t destination self ⌝ }
+    {
+        let mask = signatures::share_mask(sheet, self.keys(party), t);
+        let x = self.slots[t];
+        let y = x.with_shared(destination, mask);
+        let marked = y.with_mark(party, destination);
+        self.slots[t] = marked;
+        self
+    }
+
+    // A gift of signature i to a receiver.
+    pub fn with_key(mut self, party: u8, i: u8) -> Position
+        requires { ⌜ party < 2 ⌝ }
+        requires { ⌜ i < 8 ⌝ }
+        ensures { λ r. ⌜ r ≡ withKey party i self ⌝ }
+    {
+        if party == 0 {
+            self.alice = self.alice | (1u8 << i);
+            return self;
+        }
+        self.bob = self.bob | (1u8 << i);
+        self
+    }
+
+    // A send to the pool: it waits there, and what it exposes is shared.
+    pub fn after_send(mut self, sheet: &[u8], t: usize, destination: u8) -> Position
+        requires { ⌜ Sized (now sheet) ⌝ }
+        requires { ⌜ t < count (now sheet) ⌝ }
+        requires { ⌜ destination < 3 ⌝ }
+        ensures { λ r. ⌜ r ≡ afterSend (now (sheet .entry)) t destination self ⌝ }
+    {
+        let mask = signatures::exposed_mask(sheet, t);
+        let x = self.slots[t];
+        let y = x.with_shared(destination, mask);
+        let sent = y.with_pool(destination + 1);
+        self.slots[t] = sent;
+        self
+    }
+
+    // A hand-in: it enters the block, and nothing is shared.
+    pub fn after_hand_in(mut self, t: usize, destination: u8) -> Position
+        requires { ⌜ t < 32 ⌝ }
+        requires { ⌜ destination < 3 ⌝ }
+        ensures { λ r. ⌜ r ≡ afterHandIn t destination self ⌝ }
+    {
+        let x = self.slots[t];
+        let handed = x.with_block(destination + 1);
+        self.slots[t] = handed;
+        self
+    }
+
+    // An inclusion: a pool entry enters the block with its destination.
+    pub fn after_include(mut self, t: usize) -> Position
+        requires { ⌜ t < 32 ⌝ }
+        ensures { λ r. ⌜ r ≡ afterInclude t self ⌝ }
+    {
+        let x = self.slots[t];
+        let included = x.with_block(x.pool);
+        self.slots[t] = included;
+        self
+    }
+}

@@ -1,0 +1,44 @@
+// Parties and destinations by number, and the payees of a transaction.
+use crate::Destination;
+use crate::signatures;
+ghost use Prim.Native.Nat.{_<_};
+ghost use mathlib.Core.Path.{_≡_};
+ghost use Rattle.sheet.specs.Field.{count, Sized};
+ghost use Rattle.slots.specs.Destination.{destinationNumber, isParty, isPayee, isContract};
+
+// A destination's number.
+pub fn destination_number(to: Destination) -> u8
+    ensures { λ r. ⌜ (r ≡ destinationNumber to) × (r < 3) ⌝ }
+{
+    match to {
+        Destination::Alice => 0,
+        Destination::Bob => 1,
+        Destination::Contract => 2,
+    }
+}
+
+// Whether a number is Alice's or Bob's.
+pub fn is_party(party: u8) -> bool
+    ensures { λ r. ⌜ r ≡ isParty party ⌝ }
+{
+    party < 2
+}
+
+// Whether a party is a payee of t.
+pub fn is_payee(sheet: &[u8], t: usize, party: u8) -> bool
+    requires { ⌜ Sized (now sheet) ⌝ }
+    requires { ⌜ t < count (now sheet) ⌝ }
+    requires { ⌜ party < 8 ⌝ }
+    ensures { λ r. ⌜ r ≡ isPayee (now (sheet .entry)) t party ⌝ }
+{
+    signatures::has(sheet::field::payees(sheet, t), party)
+}
+
+// Whether t is a contract transaction.
+pub fn is_contract(sheet: &[u8], t: usize) -> bool
+    requires { ⌜ Sized (now sheet) ⌝ }
+    requires { ⌜ t < count (now sheet) ⌝ }
+    ensures { λ r. ⌜ r ≡ isContract (now (sheet .entry)) t ⌝ }
+{
+    sheet::field::payees(sheet, t) == 0
+}
