@@ -1,8 +1,15 @@
 /*
  * The swap engine's outward calls.
  *
- * Every call takes byte slices, each as a pointer and a length (a null pointer with length 0 is an empty slice), and
- * returns one number: refusal * 65536 + count. No bytes make a call trap; a refused call changes no buffer.
+ * Every call takes byte slices, each as a pointer and a length in bytes (a null pointer with length 0 is an empty slice),
+ * and returns one number: refusal * 65536 + count. No bytes make a call trap; a refused call changes no buffer.
+ *
+ * The slices: a contract sheet of 5 + 6n bytes for n transactions, 197 at most; a setup of 4 bytes; a journal of 4 bytes
+ * for each step, 65,536 at most. Values of more than one byte are little-endian, in what is read and in what is written.
+ * An output buffer overlaps no other slice of its call.
+ *
+ * The first refusal is answered, in this order: the sheet's 1 to 8, the setup's 9 and 10, the journal's 24, then 11 to 23
+ * step by step, and 25 last.
  */
 #ifndef SWAP_H
 #define SWAP_H
@@ -48,10 +55,36 @@ enum swap_refusal {
 #define SWAP_REFUSAL(answer) ((uint32_t)(answer) >> 16)
 #define SWAP_COUNT(answer) ((uint32_t)(answer) & 0xffffu)
 
+/* Bytes that are enough for every list: a transaction has at most 8 open steps, a signature 1, and 1 mines a block. */
+#define SWAP_LIST_SIZE (4 * (8 * 32 + 8 + 1))
+
 /*
  * Checks a contract sheet. Refusals 1 to 8; the count is 0.
  */
 uint32_t swap_check(const uint8_t *sheet, size_t sheet_length);
+
+/*
+ * Runs a journal. Refusals 1 to 24; the count is the number of steps accepted, 0 under 1 to 10 and 24.
+ *
+ * The rest of the journal starts at byte 4 * count: at the refused step, or at the journal's end where none is refused.
+ * Under 1 to 10 and 24 it is the whole journal.
+ */
+uint32_t swap_run(const uint8_t *sheet, size_t sheet_length,
+                  const uint8_t *setup, size_t setup_length,
+                  const uint8_t *journal, size_t journal_length);
+
+/*
+ * Lists the steps that are open after a journal: 4 bytes each, as in a journal. Alice's stand first, then Bob's, then
+ * the miner's, each by kind, transaction and destination. Refusals 1 to 24 are the journal's; the count is the number of
+ * steps written, 0 under a refusal.
+ *
+ * The output takes up 4 * count bytes, 1,060 (SWAP_LIST_SIZE) at most; an empty list needs no buffer. Refusal 25 says that
+ * the buffer is shorter than that. Bytes after the output keep their values, and under a refusal all bytes do.
+ */
+uint32_t swap_list(const uint8_t *sheet, size_t sheet_length,
+                   const uint8_t *setup, size_t setup_length,
+                   const uint8_t *journal, size_t journal_length,
+                   uint8_t *output, size_t output_length);
 
 #ifdef __cplusplus
 }

@@ -2,10 +2,94 @@
 
 extern "C" {
     fn swap_check(sheet: *const u8, sheet_length: usize) -> u32;
+    fn swap_run(
+        sheet: *const u8,
+        sheet_length: usize,
+        setup: *const u8,
+        setup_length: usize,
+        journal: *const u8,
+        journal_length: usize,
+    ) -> u32;
+    fn swap_list(
+        sheet: *const u8,
+        sheet_length: usize,
+        setup: *const u8,
+        setup_length: usize,
+        journal: *const u8,
+        journal_length: usize,
+        output: *mut u8,
+        output_length: usize,
+    ) -> u32;
+    #[cfg(feature = "report")]
+    fn swap_report(
+        sheet: *const u8,
+        sheet_length: usize,
+        setup: *const u8,
+        setup_length: usize,
+        journal: *const u8,
+        journal_length: usize,
+        output: *mut u8,
+        output_length: usize,
+    ) -> u32;
 }
 
 /// The engine's check of a sheet, in one number.
 pub fn check(sheet: &[u8]) -> u32 {
     // SAFETY: the pointer and the length are one slice's, and the call only reads.
     unsafe { swap_check(sheet.as_ptr(), sheet.len()) }
+}
+
+/// The engine's run of a journal, in one number.
+pub fn run(sheet: &[u8], setup: &[u8], journal: &[u8]) -> u32 {
+    // SAFETY: each pointer and length are one slice's, and the call only reads.
+    unsafe {
+        swap_run(
+            sheet.as_ptr(),
+            sheet.len(),
+            setup.as_ptr(),
+            setup.len(),
+            journal.as_ptr(),
+            journal.len(),
+        )
+    }
+}
+
+/// The C form of a call that writes into a lent buffer.
+type Writes = unsafe extern "C" fn(
+    *const u8,
+    usize,
+    *const u8,
+    usize,
+    *const u8,
+    usize,
+    *mut u8,
+    usize,
+) -> u32;
+
+/// A call that is lent a buffer, in one number.
+fn lent(call: Writes, sheet: &[u8], setup: &[u8], journal: &[u8], output: &mut [u8]) -> u32 {
+    // SAFETY: each pointer and length are one slice's, and the call writes only to the last one, which is lent alone.
+    unsafe {
+        call(
+            sheet.as_ptr(),
+            sheet.len(),
+            setup.as_ptr(),
+            setup.len(),
+            journal.as_ptr(),
+            journal.len(),
+            output.as_mut_ptr(),
+            output.len(),
+        )
+    }
+}
+
+/// The engine's list of open steps, in one number.
+pub fn list(sheet: &[u8], setup: &[u8], journal: &[u8], output: &mut [u8]) -> u32 {
+    lent(swap_list, sheet, setup, journal, output)
+}
+
+#[cfg(feature = "report")]
+/// The engine's report, in one number.
+pub fn report(sheet: &[u8], setup: &[u8], journal: &[u8], output: &mut [u8]) -> u32 {
+    lent(swap_report, sheet, setup, journal, output)
 }

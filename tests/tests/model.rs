@@ -2,7 +2,6 @@
 //! table, the desk errors, and invariants on random walks.
 
 use std::collections::{BTreeMap, BTreeSet};
-use swap_tests::model::conduct::{SECRET_ALICE, SECRET_BOB};
 use swap_tests::model::heights::NEVER;
 use swap_tests::model::journal::{self, Course};
 use swap_tests::model::ledger::{self, Entry};
@@ -10,8 +9,8 @@ use swap_tests::model::position::Position;
 use swap_tests::model::report::{self, Holders};
 use swap_tests::model::setup::Setup;
 use swap_tests::model::sheet::{self, Lock, Sheet};
-use swap_tests::model::{calls, open, setup, step, swapreport, ALICE, BOB};
-use swap_tests::random::{self, Manner, Random, Shape, MINE};
+use swap_tests::model::{calls, claims, open, step, swapreport, ALICE, BOB};
+use swap_tests::random::{self, read, Case, Manner, Random, Shape, MINE};
 
 /// lock_A to pool, included and mined.
 const LOCK_A: [[u8; 4]; 3] = [[3, 0, 0, 2], [5, 2, 0, 2], MINE];
@@ -108,13 +107,6 @@ struct Row {
     block: u32,
     lock_height: u32,
     deadline: u32,
-}
-
-fn read(sheet: &[u8], setup: &[u8]) -> (Sheet, Setup) {
-    (
-        sheet::read(sheet).unwrap(),
-        setup::read(sheet, setup).unwrap(),
-    )
 }
 
 // Known positions.
@@ -1130,18 +1122,13 @@ fn play_is_the_run_of_its_accepted_steps() {
     assert!(passed_over > 300 && accepted > 5_000);
 }
 
-/// Holders from the position, from the report of the accepted steps, and from
-/// the ledger over the entries of the mined blocks.
-fn assert_holders_agree(game: &(Vec<u8>, Vec<u8>), course: &Course) -> Holders {
+/// The holders, which the ledger over the entries of the mined blocks gives too.
+fn agreed_holders(game: &(Vec<u8>, Vec<u8>), course: &Course) -> Holders {
     let (sheet, setup) = read(&game.0, &game.1);
-    let position = report::holders_from_position(&sheet, &course.position);
     let journal = course.accepted.concat();
     let bytes = calls::report_bytes(&game.0, &game.1, &journal).unwrap();
-    let from_report = report::holders_from_report(&sheet, &bytes);
-    let by_ledger = ledger::holders(&sheet, setup.blocks_per_day, &course.entries);
-    assert_eq!(position, from_report);
-    assert_eq!(Some(&position), by_ledger.as_ref());
-    position
+    assert!(claims::ledger_agrees(&sheet, &setup, course, &bytes));
+    report::holders_from_position(&sheet, &course.position)
 }
 
 #[test]
@@ -1152,7 +1139,7 @@ fn ledger_agrees_on_random_sheets() {
         let game = random::any_game(&mut random);
         let manner = random::manner(&mut random, 120);
         let course = walk(&mut random, &game, manner, |_, _, _| {});
-        for holder in assert_holders_agree(&game, &course).values() {
+        for holder in agreed_holders(&game, &course).values() {
             match holder {
                 None => nobody += 1,
                 Some(2) => locked += 1,
@@ -1172,7 +1159,7 @@ fn ledger_agrees_on_saswap_sheets() {
         let game = random::saswap_game(&mut random, conduct);
         let manner = random::manner(&mut random, 100);
         let course = walk(&mut random, &game, manner, |_, _, _| {});
-        let holders = assert_holders_agree(&game, &course);
+        let holders = agreed_holders(&game, &course);
         *seen
             .entry((conduct, report::payouts(&holders).len()))
             .or_insert(0) += 1;
@@ -1221,18 +1208,6 @@ fn positions_are_sound() {
     assert!(positions > 10_000, "{positions}");
 }
 
-/// The secrets known beyond their owners: shared, or held by the other party.
-fn secrets_beyond_owners(sheet: &Sheet, position: &Position) -> u8 {
-    let mut secrets = position.shared_secrets(sheet);
-    if position.holds(ALICE, SECRET_BOB) {
-        secrets |= 1 << SECRET_BOB;
-    }
-    if position.holds(BOB, SECRET_ALICE) {
-        secrets |= 1 << SECRET_ALICE;
-    }
-    secrets
-}
-
 /// What walks under one conduct met.
 #[derive(Default)]
 struct Met {
@@ -1250,16 +1225,16 @@ fn meet(seed: u64, conduct: u8, walks: usize) -> Met {
         let manner = random::manner(&mut random, 100);
         let mut most_secrets = 0;
         let course = walk(&mut random, &game, manner, |sheet, _, course| {
-            let secrets = secrets_beyond_owners(sheet, &course.position);
+            let secrets = claims::secrets_out(sheet, &course.position);
             most_secrets = most_secrets.max(secrets.count_ones());
         });
         met.one_secret += usize::from(most_secrets == 1);
         met.both_secrets += usize::from(most_secrets == 2);
         let (sheet, _) = read(&game.0, &game.1);
         let holders = report::holders_from_position(&sheet, &course.position);
-        let paid: Vec<u8> = report::payouts(&holders).into_values().collect();
-        met.two_payouts += usize::from(paid.len() == 2);
-        met.one_party_takes_all += usize::from(paid.len() == 2 && paid[0] == paid[1]);
+        met.two_payouts += usize::from(report::payouts(&holders).len() == 2);
+        let twice = claims::paid_twice(&sheet, &course.position);
+        met.one_party_takes_all += usize::from(twice);
     }
     met
 }
@@ -1300,9 +1275,6 @@ fn to_write(case: &Case, is_list: bool) -> Vec<u8> {
         false => calls::report_bytes(sheet, setup, journal).unwrap(),
     }
 }
-
-/// Sheet, setup and journal.
-type Case = (Vec<u8>, Vec<u8>, Vec<u8>);
 
 #[test]
 fn calls_and_buffers_on_random_cases() {

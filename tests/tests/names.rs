@@ -1,4 +1,5 @@
-//! The refusals have the same names and numbers in the code, in its definitions and in the C header.
+//! The refusals have the same names and numbers in the code, in its definitions and in the C header, and the header
+//! declares the calls that the code exports.
 
 use std::collections::BTreeMap;
 
@@ -67,4 +68,48 @@ fn same_names_and_numbers() {
     assert_eq!(numbers, (0..=25).collect::<Vec<u32>>());
     assert_eq!(code, header());
     assert_eq!(code, definitions());
+}
+
+/// The calls by name, each with its slices in order: whether it writes to them.
+type Calls = BTreeMap<String, Vec<bool>>;
+
+/// The calls of a text. Each begins after the mark with a name, and its slices are the parameters with the sign of one.
+fn calls(text: &str, mark: &str, sign: char, writes: impl Fn(&str) -> bool) -> Calls {
+    let heads = text.split(mark).skip(1);
+    let call = |head: &str| {
+        let (name, rest) = head.split_once('(').expect("parameters");
+        let (name, _) = name.split_once('<').unwrap_or((name, ""));
+        let (parameters, _) = rest.split_once(')').expect("an end of them");
+        let slices = parameters.split(',').filter(|part| part.contains(sign));
+        (name.to_string(), slices.map(&writes).collect())
+    };
+    heads.map(call).collect()
+}
+
+/// `pub extern "C" fn swap_list(sheet: &[u8], .. output: &mut [u8]) -> u32`, in some file of the crate
+fn exported() -> Calls {
+    let folder = format!("{}/../crates/swap/src", env!("CARGO_MANIFEST_DIR"));
+    let files = std::fs::read_dir(folder).expect("the crate's files");
+    let names = files.map(|file| file.expect("a file").file_name());
+    let texts = names.map(|name| text(&format!("crates/swap/src/{}", name.to_string_lossy())));
+    calls(
+        &texts.collect::<String>(),
+        "extern \"C\" fn ",
+        '&',
+        |slice| slice.contains("mut "),
+    )
+}
+
+/// `uint32_t swap_list(const uint8_t *sheet, size_t sheet_length, .. uint8_t *output, size_t output_length);`
+fn declared() -> Calls {
+    calls(&text("include/swap.h"), "\nuint32_t ", '*', |slice| {
+        !slice.contains("const ")
+    })
+}
+
+#[test]
+fn the_header_declares_the_calls() {
+    let names: Vec<String> = declared().into_keys().collect();
+    assert_eq!(names, ["swap_check", "swap_list", "swap_run"]);
+    assert_eq!(declared(), exported());
 }

@@ -11,8 +11,10 @@ use Rattle.sheet.specs.Setup.{setupRefusal}
 use Rattle.ledger.specs.Ledger.{Kept, Books, noneKept, ledger, ledgerHolder}
 use Rattle.position.specs.Position.{start}
 use Rattle.position.specs.Play.{FourBytes}
-use Rattle.position.specs.Holder.{holderIn, reportedHolder, isPayout, isPayoutTo}
-use Rattle.position.proofs.ReportHolders.{answered-holder}
+use Rattle.readings.specs.Holder.{isPayout, isPayoutTo}
+use Rattle.readings.specs.Reported.{reportedHolder}
+use Rattle.position.specs.Holder.{holderIn}
+use Rattle.moves.proofs.ReportHolders.{answered-holder}
 use Rattle.agreement.specs.Claim.{entriesOf, booksOf, positionOf, reportedBytes, Same, Agrees}
 use Rattle.agreement.proofs.SoundSteps.{sound-start}
 use Rattle.agreement.proofs.TakenList.{Taken, start-linked, list-taken}
@@ -26,14 +28,14 @@ same-by s held kept h = record { holders = h; payouts = λ coin. rw (h coin); pa
 
 module _ (s u : List ℕ) (h : sheetRefusal s ≡ 0) (k : setupRefusal s u ≡ 0) (bs : List FourBytes) where
   taken : Taken s u bs (start s) noneKept
-  taken = list-taken s u h k bs (start s) noneKept (sound-start s u h) (start-linked s)
+  taken = list-taken s u h k bs (start s) noneKept (sound-start s u) (start-linked s)
 
   books : booksOf s u bs ≡ record { accepts = true; kept = taken .after }
   unfolding ledger
   books = taken .entered
 
   after : After s (start s .mined) (entriesOf s u bs)
-  after = entries-after s u h k bs (start s) (sound-start s u h)
+  after = entries-after s u h k bs (start s) (sound-start s u)
 
   -- the entries name the sheet's transactions
   pub entries-low : All (λ e. e .transaction < count s) (entriesOf s u bs)

@@ -11,13 +11,13 @@ use Rattle.slots.specs.declared.Step.{Step}
 use Rattle.slots.specs.declared.Step.the-variants.{Share, Give, SendToPool, HandToMiner, Include, Mine, Bump}
 use Rattle.slots.specs.Destination.{destinationNumber}
 use Rattle.position.specs.declared.Position.{Position}
-use Rattle.position.specs.declared.Decoded.the-variants.{Read}
+use Rattle.steps.specs.declared.Decoded.the-variants.{Read}
 use Rattle.position.specs.Effect.{afterMine, effect}
 use Rattle.position.specs.Play.{FourBytes, decodeBytes, step, blockEntries, confirms, confirmedEntries}
-use Rattle.position.proofs.Untouched.{SameConfirmed}
-use Rattle.position.proofs.AfterShares.{share-confirmed, give-confirmed}
-use Rattle.position.proofs.AfterSends.{send-confirmed, hand-confirmed, include-confirmed}
-use Rattle.position.proofs.AfterBlocks.{bump-confirmed}
+use Rattle.moves.proofs.Untouched.{SameConfirmed}
+use Rattle.moves.proofs.AfterShares.{share-confirmed, give-confirmed}
+use Rattle.moves.proofs.AfterSends.{send-confirmed, hand-confirmed, include-confirmed}
+use Rattle.moves.proofs.AfterBlocks.{bump-confirmed}
 use Rattle.agreement.proofs.Sound.{Sound}
 use Rattle.agreement.proofs.EachKind.{wide}
 

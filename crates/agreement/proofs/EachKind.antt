@@ -22,16 +22,16 @@ use Rattle.slots.specs.Signatures.{exposedMask}
 use Rattle.slots.specs.Ancestry.{hasParent, meetsConflict}
 use Rattle.position.specs.declared.Position.{Position}
 use Rattle.position.specs.Position.{slotCount, slot, inPool, poolTo, inBlock, blockTo, blockOf, isConfirmed, confirmedTo, sent, placed}
-use Rattle.position.specs.Decode.{noTransaction, sendsTo, sharesTo, firstShareFields}
+use Rattle.steps.specs.Decode.{noTransaction, sendsTo, sharesTo, firstShareFields}
 use Rattle.position.specs.FirstShares.{firstShares}
 use Rattle.position.specs.Owed.{waiting, enters}
 use Rattle.position.specs.Tests.{blockLimit}
 use Rattle.position.specs.Effect.{afterShare, afterGive, afterSend, afterHandIn, afterInclude, afterMine, afterBump}
-use Rattle.position.proofs.Changed.{one-length, one-other}
-use Rattle.position.proofs.Untouched.{SamePool, SameBlock, SameConfirmed}
-use Rattle.position.proofs.AfterShares.{share-length, share-beyond, share-pool, share-block, share-confirmed, give-slots, give-slot, give-pool, give-block, give-confirmed}
-use Rattle.position.proofs.AfterSends.{send-pool, send-to, send-block, send-confirmed, hand-block, hand-to, hand-pool, hand-confirmed, include-block, include-to, include-pool, include-confirmed}
-use Rattle.position.proofs.AfterBlocks.{mine-blocks, mine-to, mine-block, mine-pool, mine-pool-to, mine-mined, mine-length, mine-beyond, bump-block, bump-to-entered, bump-to-kept, bump-pool, bump-confirmed, bump-length, bump-beyond, enters-in}
+use Rattle.moves.proofs.Changed.{one-length, one-other}
+use Rattle.moves.proofs.Untouched.{SamePool, SameBlock, SameConfirmed}
+use Rattle.moves.proofs.AfterShares.{share-length, share-beyond, share-pool, share-block, share-confirmed, give-slots, give-slot, give-pool, give-block, give-confirmed}
+use Rattle.moves.proofs.AfterSends.{send-pool, send-to, send-block, send-confirmed, hand-block, hand-to, hand-pool, hand-confirmed, include-block, include-to, include-pool, include-confirmed}
+use Rattle.moves.proofs.AfterBlocks.{mine-blocks, mine-to, mine-block, mine-pool, mine-pool-to, mine-mined, mine-length, mine-beyond, bump-block, bump-to-entered, bump-to-kept, bump-pool, bump-confirmed, bump-length, bump-beyond, enters-in}
 use Rattle.agreement.proofs.Sound.{Settled, Waits, Sound}
 use Rattle.agreement.proofs.Waiting.{waits-none, waits-more}
 use Rattle.agreement.proofs.MinedBlock.{settled-mined, waits-mined}

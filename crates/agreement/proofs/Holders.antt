@@ -19,7 +19,8 @@ use Rattle.ledger.specs.Ledger.{Kept, entryHolder, ledgerHolder}
 use Rattle.position.specs.declared.Position.{Position}
 use Rattle.position.specs.Position.{blockOf, isConfirmed, confirmedTo}
 use Rattle.position.specs.Report.{payee, unconfirmed}
-use Rattle.position.specs.Holder.{confirmedChild, endsCoin, payeeBelow, holder, holderIn}
+use Rattle.readings.specs.Holder.{confirmedChild, endsCoin, payeeBelow, holder}
+use Rattle.position.specs.Holder.{holderIn}
 use Rattle.agreement.proofs.Linked.{Child, Leaf, Linked}
 use Rattle.agreement.proofs.OneEntry.{kept-cases}
 

@@ -17,11 +17,11 @@ use Rattle.sheet.proofs.Theorems.{sheet-checked}
 use Rattle.slots.specs.declared.Step.{Step}
 use Rattle.ledger.specs.Entry.{Entry, before, inOrder}
 use Rattle.position.specs.declared.Position.{Position}
-use Rattle.position.specs.declared.Decoded.the-variants.{Read}
+use Rattle.steps.specs.declared.Decoded.the-variants.{Read}
 use Rattle.position.specs.Position.{inBlock, blockTo}
 use Rattle.position.specs.Effect.{effect}
 use Rattle.position.specs.Play.{FourBytes, blockEntries, confirms, confirmedEntries}
-use Rattle.position.proofs.AfterBlocks.{mine-mined}
+use Rattle.moves.proofs.AfterBlocks.{mine-mined}
 use Rattle.position.proofs.StepCases.{StepCase, taken, turned-down, step-case}
 use Rattle.agreement.proofs.Sound.{Sound}
 use Rattle.agreement.proofs.SoundSteps.{sound-step}

@@ -14,7 +14,7 @@ use Rattle.slots.specs.Conflict.{conflict}
 use Rattle.slots.specs.Slot.{emptySlot}
 use Rattle.position.specs.declared.Position.{Position}
 use Rattle.position.specs.Position.{slotCount, slot, inPool, poolTo, inBlock, blockTo, blockOf, isConfirmed, confirmedTo}
-use Rattle.position.specs.Decode.{sharesTo}
+use Rattle.steps.specs.Decode.{sharesTo}
 use Rattle.position.specs.Tests.{blockLimit}
 
 -- the confirmed ones

@@ -6,9 +6,8 @@ use mathlib.Core.Path.{_≡_, refl, ap, fun-ext}
 use mathlib.Core.Bool.{true, false, _&&_, _||_, false≢true}
 use mathlib.Core.List.{List, [], _∷_}
 use lib.Dec.{eqb, ltb}
-use lib.ListN.{length, length-replicate, getD-replicate, List·getD-eq-default, replicate}
-use borrow.Author.Tests.{ltb-true, ltb-false, leb-true}
-use Rattle.laws.specs.Booleans.{split, and-parts}
+use borrow.Author.Tests.{ltb-true, leb-true}
+use Rattle.laws.specs.Booleans.{and-parts}
 use Rattle.laws.specs.Failing.{passed}
 use Rattle.sheet.specs.Field.{count}
 use Rattle.sheet.specs.Check.{sheetRefusal}
@@ -19,35 +18,19 @@ use Rattle.slots.specs.declared.Step.{Step}
 use Rattle.slots.specs.declared.Step.the-variants.{Share, Give, SendToPool, HandToMiner, Include, Mine, Bump}
 use Rattle.slots.specs.Destination.{miner, contract, destinationNumber, isParty}
 use Rattle.slots.specs.declared.Slot.{Slot}
-use Rattle.slots.specs.Slot.{emptySlot}
 use Rattle.position.specs.declared.Position.{Position}
-use Rattle.position.specs.Position.{slotCount, start, slot, inPool, inBlock, blockOf, isConfirmed, lockHeightIn}
-use Rattle.position.specs.Decode.{sendsTo, sharesTo, firstShareFields, fieldsRight}
+use Rattle.position.specs.Position.{start, inPool, inBlock, blockOf, isConfirmed, lockHeightIn}
+use Rattle.steps.specs.Decode.{sendsTo, sharesTo, firstShareFields, fieldsRight}
 use Rattle.position.specs.Tests.{sendTests, poolTests, minerTests, includeTests, mineTests, blockLimit}
 use Rattle.position.specs.StepRefusal.{tests, stepRefusal}
 use Rattle.position.specs.Effect.{effect}
 use Rattle.position.specs.Play.{FourBytes, step, play}
-use Rattle.position.proofs.AfterBlocks.{none-stands}
+use Rattle.moves.proofs.AfterBlocks.{none-stands}
+use Rattle.moves.proofs.Starts.{start-slot, start-length, start-mined}
 use Rattle.position.proofs.StepCases.{StepCase, taken, turned-down, step-case}
 use Rattle.agreement.proofs.Sound.{Settled, Sound}
 use Rattle.agreement.proofs.Waiting.{waits-none}
 use Rattle.agreement.proofs.EachKind.{right-to, sound-share, sound-give, sound-send, sound-hand-in, sound-include, sound-bump, sound-mine}
-
--- every slot of the empty journal's position is empty
-pub start-slot : (s : List ℕ) (t : ℕ) → slot (start s) t ≡ emptySlot
-unfolding slot start
-start-slot s t =
-    split (ltb t slotCount)
-    (λ y. getD-replicate slotCount t emptySlot emptySlot (ltb-true t slotCount y))
-    (λ y. List·getD-eq-default (replicate slotCount emptySlot) emptySlot {n = t} (rw (length-replicate slotCount emptySlot) (ltb-false t slotCount y)))
-
-start-length : (s : List ℕ) → length (start s .slots) ≡ slotCount
-unfolding start
-start-length s = refl
-
-start-mined : (s : List ℕ) → start s .mined ≡ 0
-unfolding start
-start-mined s = refl
 
 pub start-blocks : (s : List ℕ) → blockOf (start s) ≡ (λ k. 0)
 unfolding blockOf
@@ -75,8 +58,8 @@ none-confirmed : (s : List ℕ) (t : ℕ) → isConfirmed (start s) t ≡ false
 unfolding isConfirmed
 none-confirmed s t = rw (start-blocks s)
 
-pub sound-start : (s u : List ℕ) → sheetRefusal s ≡ 0 → Sound s u (start s)
-sound-start s u h =
+pub sound-start : (s u : List ℕ) → Sound s u (start s)
+sound-start s u =
     record {
       sized = start-length s;
       beyond = λ t l. start-slot s t;

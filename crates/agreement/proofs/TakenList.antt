@@ -14,13 +14,13 @@ use Rattle.slots.specs.declared.Step.{Step}
 use Rattle.ledger.specs.Entry.{Entry}
 use Rattle.ledger.specs.Ledger.{Kept, noneKept, enter}
 use Rattle.position.specs.declared.Position.{Position}
-use Rattle.position.specs.declared.Decoded.the-variants.{Read}
+use Rattle.steps.specs.declared.Decoded.the-variants.{Read}
 use Rattle.position.specs.Position.{start, inBlock, blockTo, blockOf, confirmedTo}
 use Rattle.position.specs.Effect.{afterMine, effect}
 use Rattle.position.specs.Play.{FourBytes, play, blockEntries, confirms, confirmedEntries}
-use Rattle.position.proofs.Untouched.{SameConfirmed}
-use Rattle.position.proofs.AfterBlocks.{mine-blocks, mine-to}
-use Rattle.position.proofs.Journals.{play-next}
+use Rattle.moves.proofs.Untouched.{SameConfirmed}
+use Rattle.moves.proofs.AfterBlocks.{mine-blocks, mine-to}
+use Rattle.moves.proofs.Journals.{play-next}
 use Rattle.position.proofs.StepCases.{StepCase, taken, turned-down, step-case}
 use Rattle.agreement.proofs.Sound.{Sound}
 use Rattle.agreement.proofs.SoundSteps.{start-blocks, sound-step}

@@ -21,7 +21,7 @@ use Rattle.position.specs.declared.Position.{Position}
 use Rattle.position.specs.Position.{start, blockOf, isConfirmed, lockHeightIn}
 use Rattle.position.specs.Play.{FourBytes, journalBytes, step, runFrom, run, play, acceptedOf}
 use Rattle.position.proofs.StepCases.{refused-same}
-use Rattle.position.proofs.Journals
+use Rattle.moves.proofs.Journals
 use Rattle.agreement.specs.Claim.{entriesOf, positionOf, Agreement}
 use Rattle.agreement.proofs.SoundSteps.{sound-start, sound-play}
 use Rattle.agreement.proofs.Coins.{coin-opening}
@@ -61,7 +61,7 @@ module _ (s u : List ℕ) (h : sheetRefusal s ≡ accepted) (k : setupRefusal s 
   -- No lock is early: what is confirmed has its lock height below its block.
   pub no-early-lock : (t : ℕ) → t < count s → isConfirmed (positionOf s u bs) t ≡ true → lockHeightIn s u (positionOf s u bs) t < blockOf (positionOf s u bs) t
   unfolding isConfirmed lockHeightIn
-  no-early-lock t l c = sound-play s u h k bs (start s) (sound-start s u h) .settled .locks t l (ltb-true 0 (blockOf (positionOf s u bs) t) c)
+  no-early-lock t l c = sound-play s u h k bs (start s) (sound-start s u) .settled .locks t l (ltb-true 0 (blockOf (positionOf s u bs) t) c)
 
   -- Running a list's accepted steps as a journal, where its length is allowed, takes them all and comes to where playing the list does.
   pub played-as-journal : length (journalBytes (acceptedOf s u bs (start s))) ≤ 65536

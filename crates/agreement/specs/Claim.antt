@@ -14,8 +14,9 @@ use Rattle.ledger.specs.Ledger.{Kept, Books, ledger, ledgerHolder}
 use Rattle.position.specs.declared.Position.{Position}
 use Rattle.position.specs.Position.{start}
 use Rattle.position.specs.Play.{FourBytes, journalBytes, play, acceptedOf, confirmedEntries}
-use Rattle.position.specs.Report.{rowWidth}
-use Rattle.position.specs.Holder.{holderIn, reportedHolder, isPayout, isPayoutTo}
+use Rattle.readings.specs.Holder.{isPayout, isPayoutTo}
+use Rattle.readings.specs.Reported.{rowWidth, reportedHolder}
+use Rattle.position.specs.Holder.{holderIn}
 use Rattle.position.specs.Answers.{Written, reportAnswer}
 
 -- "entries .. in demand 3 those that the accepted kind 6 steps confirm": of a list played from the empty journal's position

@@ -10,13 +10,13 @@ use Rattle.sheet.proofs.Theorems.{saswap-passes, sheet-checked, setup-checked}
 use Rattle.slots.specs.declared.Step.{Step}
 use Rattle.position.specs.declared.Position.{Position}
 use Rattle.position.specs.Position.{start}
-use Rattle.position.specs.Decode.{fieldsRight}
+use Rattle.steps.specs.Decode.{fieldsRight}
 use Rattle.position.specs.StepRefusal.{stepRefusal}
 use Rattle.position.specs.Effect.{effect}
 use Rattle.position.specs.Play.{FourBytes, step, play}
 use Rattle.position.proofs.StepCases.{StepCase, taken, turned-down, step-case}
-use Rattle.position.proofs.Provenance.{Moved}
-use Rattle.position.proofs.Moved.{moved}
+use Rattle.moves.proofs.Provenance.{Moved}
+use Rattle.moves.proofs.Moved.{moved}
 use Rattle.agreement.proofs.Sound.{Sound}
 use Rattle.agreement.proofs.SoundSteps.{sound-start, sound-effect}
 use Rattle.careful.proofs.Fate.{Lasts, lasts}
@@ -86,4 +86,4 @@ module _ (u : List ℕ) (r : setupRefusal (sheet u) u ≡ 0) (c : conduct u ≡ 
   pub guarded : (bs : List FourBytes) → Guarded u (play (sheet u) u bs (start (sheet u)))
   guarded bs =
       guarded-play bs (start (sheet u))
-      (record { sound = sound-start (sheet u) u (saswap-passes (perDay u)); invariant = invariant-start u })
+      (record { sound = sound-start (sheet u) u; invariant = invariant-start u })

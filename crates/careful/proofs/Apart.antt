@@ -12,7 +12,7 @@ use Rattle.sheet.specs.Setup.{perDay}
 use Rattle.slots.specs.Conflict.{conflict}
 use Rattle.position.specs.declared.Position.{Position}
 use Rattle.position.specs.Position.{blockOf}
-use Rattle.position.specs.Names.{secretAlice, secretBob, success, refund1, revoke, refund2, spendA}
+use Rattle.steps.specs.Names.{secretAlice, secretBob, success, refund1, revoke, refund2, spendA}
 use Rattle.agreement.proofs.Sound.{Sound}
 use Rattle.careful.proofs.Table.{fifteen, revoke-rivals}
 use Rattle.careful.proofs.Heights.{refund1Height, revokeHeight, heights-rise, refund1-lock, revoke-lock, refund2-lock}

@@ -19,12 +19,12 @@ use Rattle.slots.specs.Destination.{alice}
 use Rattle.slots.specs.Signatures.{shareMask, exposedMask}
 use Rattle.position.specs.declared.Position.{Position}
 use Rattle.position.specs.Position.{inPool, inBlock, blockTo, blockOf, sent, keys, deadlineIn}
-use Rattle.position.specs.Names.{secretAlice, secretBob, success, refund1, timeout}
-use Rattle.position.specs.Decode.{noTransaction}
+use Rattle.steps.specs.Names.{secretAlice, secretBob, success, refund1, timeout}
+use Rattle.steps.specs.Decode.{noTransaction}
 use Rattle.position.specs.FirstShares.{firstShares}
 use Rattle.position.specs.Conduct.{phase, late, aliceShares, mayShare}
-use Rattle.position.proofs.Sending.{Sent}
-use Rattle.position.proofs.Provenance.{Shown, byFirstShares, byShare, bySend, byBlock}
+use Rattle.moves.proofs.Sending.{Sent}
+use Rattle.moves.proofs.Provenance.{Shown, byFirstShares, byShare, bySend, byBlock}
 use Rattle.careful.proofs.Setting.{sheet, allowed}
 
 -- a share never has a secret in it

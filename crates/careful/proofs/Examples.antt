@@ -8,7 +8,7 @@ use mathlib.Core.List.{List, [], _∷_, _++_}
 use Rattle.sheet.specs.Refusal.{accepted, stepConduct}
 use Rattle.sheet.specs.Saswap.{saswap}
 use Rattle.slots.specs.Destination.{alice, bob, contract}
-use Rattle.position.specs.Names.{secretAlice, secretBob, lockA, lockB}
+use Rattle.steps.specs.Names.{secretAlice, secretBob, lockA, lockB}
 use Rattle.position.specs.Play.{run}
 use Rattle.position.specs.Holder.{holderIn}
 use Rattle.position.proofs.Opened.{opened}

@@ -18,12 +18,12 @@ use Rattle.slots.proofs.Conflicts.{conflict-self, conflict-sym}
 use Rattle.slots.proofs.Ancestors.{Above, here, up, above-le, meets-find}
 use Rattle.position.specs.declared.Position.{Position}
 use Rattle.position.specs.Position.{inPool, inBlock, blockOf, deadlineIn}
-use Rattle.position.specs.Decode.{fieldsRight}
+use Rattle.steps.specs.Decode.{fieldsRight}
 use Rattle.position.specs.Owed.{waiting, owed, anyOwed}
 use Rattle.position.specs.StepRefusal.{stepRefusal}
 use Rattle.position.specs.Effect.{afterMine, effect}
-use Rattle.position.proofs.AfterBlocks.{mine-blocks, mine-pool, mine-mined}
-use Rattle.position.proofs.Quiet.{Quiet, lasting}
+use Rattle.moves.proofs.AfterBlocks.{mine-blocks, mine-pool, mine-mined}
+use Rattle.moves.proofs.Quiet.{Quiet, lasting}
 use Rattle.agreement.proofs.Sound.{Sound}
 use Rattle.agreement.proofs.BumpedBlock.{settled-up}
 

@@ -15,10 +15,10 @@ use Rattle.sheet.specs.Setup.{conduct}
 use Rattle.slots.specs.Destination.{alice, bob, contract, isParty}
 use Rattle.position.specs.declared.Position.{Position}
 use Rattle.position.specs.Position.{holds, senderHas}
-use Rattle.position.specs.Names.{sigAlice, secretAlice, secretBob, success}
-use Rattle.position.specs.Decode.{isOther}
+use Rattle.steps.specs.Names.{sigAlice, secretAlice, secretBob, success}
+use Rattle.steps.specs.Decode.{isOther}
 use Rattle.position.specs.Conduct.{phase, late, aliceGives, bobGives, mayGive}
-use Rattle.position.proofs.Provenance.{Given, given}
+use Rattle.moves.proofs.Provenance.{Given, given}
 use Rattle.careful.proofs.Setting.{sheet, allowed}
 
 -- how a key came to be held: Bob gave secretBob, or Alice sigAlice

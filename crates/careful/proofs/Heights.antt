@@ -11,7 +11,7 @@ use Rattle.sheet.specs.Saswap.{offset, saswap}
 use Rattle.sheet.specs.LockHeight.{lockHeight, never}
 use Rattle.sheet.proofs.Theorems.{refund-lock-height, revoke-lock-height}
 use Rattle.slots.specs.Deadline.{deadline}
-use Rattle.position.specs.Names.{success, refund1, revoke, refund2, timeout}
+use Rattle.steps.specs.Names.{success, refund1, revoke, refund2, timeout}
 use Rattle.position.proofs.Opened.{opened}
 
 -- refund_1's and revoke's lock heights

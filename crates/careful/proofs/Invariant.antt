@@ -10,8 +10,8 @@ use Rattle.sheet.specs.Setup.{perDay}
 use Rattle.slots.specs.Destination.{alice, bob, contract, destinations}
 use Rattle.position.specs.declared.Position.{Position}
 use Rattle.position.specs.Position.{inPool, blockOf, shared, holds}
-use Rattle.position.specs.Names.{sigAlice, sigBob, secretAlice, secretBob, lockA, success, refund1, revoke, refund2, spendA, spendB}
-use Rattle.position.proofs.Provenance.{Stands}
+use Rattle.steps.specs.Names.{sigAlice, sigBob, secretAlice, secretBob, lockA, success, refund1, revoke, refund2, spendA, spendB}
+use Rattle.moves.proofs.Provenance.{Stands}
 use Rattle.careful.proofs.Table.{BothSign}
 use Rattle.careful.proofs.Heights.{refund1Height, revokeHeight}
 use Rattle.careful.proofs.Places.{Anywhere}

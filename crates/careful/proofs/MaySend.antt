@@ -15,11 +15,12 @@ use Rattle.sheet.specs.Setup.{conduct}
 use Rattle.slots.specs.Destination.{alice, bob, contract}
 use Rattle.position.specs.declared.Position.{Position}
 use Rattle.position.specs.Position.{blockOf, isConfirmed, shared, holds}
-use Rattle.position.specs.Names.{secretBob, lockA, lockB, success, refund1, refund2}
+use Rattle.steps.specs.Names.{secretBob, lockA, lockB, success, refund1, refund2}
 use Rattle.position.specs.FirstShares.{firstSharesMade}
-use Rattle.position.specs.Conduct.{isCareful, phase, maySend, successUnshared, secretSafe, safeToSend, sendAllowed}
+use Rattle.steps.specs.Conduct.{maySend}
+use Rattle.position.specs.Conduct.{isCareful, phase, successUnshared, secretSafe, safeToSend, sendAllowed}
 use Rattle.position.proofs.Opened.{opened}
-use Rattle.position.proofs.Sending.{Sent}
+use Rattle.moves.proofs.Sending.{Sent}
 use Rattle.careful.proofs.Setting.{sheet, allowed}
 
 -- "Phase 3: lock_B confirmed; else 2: lock_A confirmed"

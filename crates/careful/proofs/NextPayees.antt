@@ -11,9 +11,9 @@ use Rattle.sheet.specs.Setup.{perDay, conduct}
 use Rattle.slots.specs.Destination.{alice, bob, destinations, isContract}
 use Rattle.position.specs.declared.Position.{Position}
 use Rattle.position.specs.Position.{holds}
-use Rattle.position.specs.Names.{sigAlice, sigBob, secretAlice, secretBob, success, refund1, refund2, timeout, spendB}
-use Rattle.position.proofs.Sending.{Sent}
-use Rattle.position.proofs.Provenance.{Stands, Moved}
+use Rattle.steps.specs.Names.{sigAlice, sigBob, secretAlice, secretBob, success, refund1, refund2, timeout, spendB}
+use Rattle.moves.proofs.Sending.{Sent}
+use Rattle.moves.proofs.Provenance.{Stands, Moved}
 use Rattle.careful.proofs.Table.{BothSign, both-sign, needs, spendB-pays, sigAlice-plain, sigBob-plain}
 use Rattle.careful.proofs.Places.{block-stands}
 use Rattle.careful.proofs.Has.{Has, held, shown, secret}

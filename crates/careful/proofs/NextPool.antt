@@ -15,8 +15,8 @@ use Rattle.slots.specs.Destination.{alice, contract, isParty}
 use Rattle.slots.specs.Conflict.{conflict}
 use Rattle.position.specs.declared.Position.{Position}
 use Rattle.position.specs.Position.{inPool, inBlock, blockOf, holds, deadlineIn}
-use Rattle.position.specs.Names.{secretAlice, secretBob, lockA, success, refund1, revoke, refund2, timeout, spendA, spendRevoke}
-use Rattle.position.proofs.Provenance.{Moved}
+use Rattle.steps.specs.Names.{secretAlice, secretBob, lockA, success, refund1, revoke, refund2, timeout, spendA, spendRevoke}
+use Rattle.moves.proofs.Provenance.{Moved}
 use Rattle.agreement.proofs.Sound.{Sound}
 use Rattle.careful.proofs.Table.{BothSign, both-sign, parents, rivals-success, rivals-refund1, rivals-refund2}
 use Rattle.careful.proofs.Heights.{refund1Height, revokeHeight, heights-rise, timeout-lock, success-deadline, refund1-deadline, refund2-deadline}

@@ -12,9 +12,9 @@ use Rattle.sheet.specs.Setup.{perDay, conduct}
 use Rattle.slots.specs.Destination.{alice, bob, contract, destinations}
 use Rattle.position.specs.declared.Position.{Position}
 use Rattle.position.specs.Position.{blockOf, shared, holds}
-use Rattle.position.specs.Names.{sigAlice, sigBob, secretAlice, secretBob, lockA, lockB, success, refund1, revoke, refund2}
-use Rattle.position.proofs.Sending.{Sent}
-use Rattle.position.proofs.Provenance.{Moved}
+use Rattle.steps.specs.Names.{sigAlice, sigBob, secretAlice, secretBob, lockA, lockB, success, refund1, revoke, refund2}
+use Rattle.moves.proofs.Sending.{Sent}
+use Rattle.moves.proofs.Provenance.{Moved}
 use Rattle.agreement.proofs.Sound.{Sound}
 use Rattle.careful.proofs.Table.{exposes-secretAlice, exposes-secretBob}
 use Rattle.careful.proofs.Heights.{refund1Height, heights-rise}

@@ -16,10 +16,11 @@ use Rattle.slots.specs.Destination.{alice, bob, isParty, isContract}
 use Rattle.ledger.specs.Coin.{coinOf, nobody}
 use Rattle.position.specs.declared.Position.{Position}
 use Rattle.position.specs.Position.{blockOf, isConfirmed, confirmedTo}
-use Rattle.position.specs.Names.{lockA, lockB, success, refund1, revoke, refund2, timeout, spendB, spendSuccess, spendRefund1Alice, spendRefund2, spendTimeout}
+use Rattle.steps.specs.Names.{lockA, lockB, success, refund1, revoke, refund2, timeout, spendB, spendSuccess, spendRefund1Alice, spendRefund2, spendTimeout}
 use Rattle.position.specs.Report.{payee}
-use Rattle.position.specs.Holder.{confirmedChild, endsCoin, payeeBelow, holder, holderIn, isPayout, isPayoutTo}
-use Rattle.position.proofs.Provenance.{Stands}
+use Rattle.readings.specs.Holder.{confirmedChild, endsCoin, payeeBelow, holder, isPayout, isPayoutTo}
+use Rattle.position.specs.Holder.{holderIn}
+use Rattle.moves.proofs.Provenance.{Stands}
 use Rattle.agreement.proofs.Sound.{Sound}
 use Rattle.careful.specs.Claim.{PaidOnce}
 use Rattle.careful.proofs.Table.{Pays, pays-alice, pays-bob, pays-from-B, Below, below, revoke-rivals, timeout-rival}

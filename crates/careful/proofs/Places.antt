@@ -16,9 +16,9 @@ use Rattle.slots.specs.Slot.{emptySlot, entryTo}
 use Rattle.slots.proofs.Entered.{Entered, pooled, filled, settled}
 use Rattle.position.specs.declared.Position.{Position}
 use Rattle.position.specs.Position.{slot, inPool, poolTo, inBlock, blockTo, blockOf, isConfirmed, confirmedTo}
-use Rattle.position.specs.Decode.{sharesTo}
-use Rattle.position.proofs.AfterBlocks.{none-stands}
-use Rattle.position.proofs.Provenance.{Stands}
+use Rattle.steps.specs.Decode.{sharesTo}
+use Rattle.moves.proofs.AfterBlocks.{none-stands}
+use Rattle.moves.proofs.Provenance.{Stands}
 use Rattle.agreement.proofs.Sound.{Sound}
 
 -- "anywhere": in pool or block, or confirmed, for some destination

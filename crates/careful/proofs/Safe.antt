@@ -6,7 +6,9 @@ use mathlib.Core.List.{List}
 use Rattle.sheet.specs.Setup.{perDay}
 use Rattle.sheet.proofs.Theorems.{saswap-passes, setup-checked}
 use Rattle.ledger.specs.Ledger.{ledgerHolder}
-use Rattle.position.specs.Holder.{isPayoutTo, holderIn, reportedHolder}
+use Rattle.readings.specs.Holder.{isPayoutTo}
+use Rattle.readings.specs.Reported.{reportedHolder}
+use Rattle.position.specs.Holder.{holderIn}
 use Rattle.agreement.specs.Claim.{booksOf, positionOf, reportedBytes}
 use Rattle.agreement.proofs.Theorems.{agreement}
 use Rattle.careful.specs.Claim.{PaidOnce, Careful}

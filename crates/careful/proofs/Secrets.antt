@@ -17,7 +17,7 @@ use Rattle.slots.specs.Destination.{alice, bob}
 use Rattle.slots.specs.Slot.{sharedAny}
 use Rattle.position.specs.declared.Position.{Position}
 use Rattle.position.specs.Position.{slot, holds}
-use Rattle.position.specs.Names.{secretAlice, secretBob}
+use Rattle.steps.specs.Names.{secretAlice, secretBob}
 use Rattle.position.proofs.Opened.{opened}
 use Rattle.agreement.proofs.Sound.{Sound}
 use Rattle.careful.specs.Claim.{inShared, heldByOther, known}

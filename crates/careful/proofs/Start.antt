@@ -13,10 +13,10 @@ use Rattle.sheet.specs.Setup.{perDay}
 use Rattle.slots.specs.Destination.{alice, bob}
 use Rattle.slots.specs.Slot.{emptySlot, sharedFor}
 use Rattle.position.specs.Position.{start, shared, holds}
-use Rattle.position.specs.Names.{sigAlice, sigBob, secretAlice, secretBob}
+use Rattle.steps.specs.Names.{sigAlice, sigBob, secretAlice, secretBob}
 use Rattle.position.proofs.Opened.{opened}
-use Rattle.position.proofs.Provenance.{Stands}
-use Rattle.agreement.proofs.SoundSteps.{start-slot}
+use Rattle.moves.proofs.Provenance.{Stands}
+use Rattle.moves.proofs.Starts.{start-slot}
 use Rattle.careful.proofs.Places.{nothing-entered}
 use Rattle.careful.proofs.Setting.{sheet}
 use Rattle.careful.proofs.Invariant.{Touched, Invariant}

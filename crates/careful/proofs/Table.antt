@@ -16,7 +16,7 @@ use Rattle.slots.specs.Conflict.{conflict}
 use Rattle.slots.specs.Destination.{alice, bob, isContract, isPayee}
 use Rattle.slots.specs.Signatures.{exposedMask}
 use Rattle.ledger.specs.Coin.{coinOf}
-use Rattle.position.specs.Names.{sigAlice, sigBob, secretAlice, secretBob, lockA, lockB, success, refund1, revoke, refund2, timeout, spendA, spendB, spendSuccess, spendRefund1Bob, spendRefund1Alice, spendRevoke, spendRefund2, spendTimeout}
+use Rattle.steps.specs.Names.{sigAlice, sigBob, secretAlice, secretBob, lockA, lockB, success, refund1, revoke, refund2, timeout, spendA, spendB, spendSuccess, spendRefund1Bob, spendRefund1Alice, spendRevoke, spendRefund2, spendTimeout}
 use Rattle.position.proofs.Opened.{opened}
 
 pub fifteen : (d : ℕ) → count (saswap d) ≡ 15

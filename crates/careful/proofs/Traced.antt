@@ -16,11 +16,11 @@ use Rattle.sheet.specs.Setup.{perDay, conduct}
 use Rattle.slots.specs.Destination.{alice, bob, contract, isContract, isPayee}
 use Rattle.position.specs.declared.Position.{Position}
 use Rattle.position.specs.Position.{blockOf, holds, lockHeightIn, deadlineIn}
-use Rattle.position.specs.Names.{sigAlice, secretAlice, secretBob, success, refund1, revoke, refund2}
-use Rattle.position.specs.Decode.{sendsTo}
+use Rattle.steps.specs.Names.{sigAlice, secretAlice, secretBob, success, refund1, revoke, refund2}
+use Rattle.steps.specs.Decode.{sendsTo}
 use Rattle.position.specs.Conduct.{late}
-use Rattle.position.proofs.Sending.{Sent}
-use Rattle.position.proofs.Provenance.{Moved}
+use Rattle.moves.proofs.Sending.{Sent}
+use Rattle.moves.proofs.Provenance.{Moved}
 use Rattle.agreement.proofs.Sound.{Sound}
 use Rattle.careful.proofs.Table.{needs, contracts, revoke-rivals, sigAlice-plain}
 use Rattle.careful.proofs.Heights.{refund1Height, refund1-lock, refund2-lock, success-deadline}

@@ -14,10 +14,12 @@ use Rattle.sheet.specs.Setup.{perDay, conduct, setupRefusal}
 use Rattle.slots.specs.Slot.{sharedAny}
 use Rattle.ledger.specs.Ledger.{ledgerHolder}
 use Rattle.position.specs.declared.Position.{Position}
-use Rattle.position.specs.Names.{secretAlice, secretBob, lockA, lockB}
+use Rattle.steps.specs.Names.{secretAlice, secretBob, lockA, lockB}
 use Rattle.position.specs.Position.{slot, holds}
 use Rattle.position.specs.Play.{FourBytes}
-use Rattle.position.specs.Holder.{holderIn, reportedHolder, isPayoutTo}
+use Rattle.readings.specs.Holder.{isPayoutTo}
+use Rattle.readings.specs.Reported.{reportedHolder}
+use Rattle.position.specs.Holder.{holderIn}
 use Rattle.agreement.specs.Claim.{booksOf, positionOf, reportOf, reportedBytes}
 
 -- "shared knowledge": signature i is in it, for some transaction and destination

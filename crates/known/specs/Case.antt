@@ -18,7 +18,7 @@ use Rattle.slots.specs.Deadline.{deadline}
 use Rattle.slots.specs.Signatures.{signed}
 use Rattle.position.specs.declared.Position.{Position}
 use Rattle.position.specs.declared.Ran.{Ran}
-use Rattle.position.specs.Names.{lockA, revoke}
+use Rattle.steps.specs.Names.{lockA, revoke}
 use Rattle.position.specs.Position.{isConfirmed, sent, inBlock, shared, senderHas}
 use Rattle.position.specs.Play.{run}
 use Rattle.position.specs.Report.{status}

@@ -17,7 +17,7 @@ use Rattle.slots.specs.Conflict.{conflict, conflictIn, otherConflictIn}
 use Rattle.slots.specs.Ancestry.{inAncestry}
 use Rattle.slots.specs.Invalidated.{invalidated}
 use Rattle.slots.specs.Deadline.{deadline}
-use Rattle.position.specs.Names.{revoke, refund2, timeout, spendRevoke}
+use Rattle.steps.specs.Names.{revoke, refund2, timeout, spendRevoke}
 use Rattle.position.specs.Position.{start, slot, inPool, inBlock, blockOf, isConfirmed}
 use Rattle.position.specs.Report.{status}
 use Rattle.position.proofs.Opened.{opened}

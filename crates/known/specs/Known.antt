@@ -8,7 +8,7 @@ use lib.ListN.{length, getD}
 use Rattle.laws.specs.Gather.{every, every-at}
 use Rattle.sheet.specs.LockHeight.{never}
 use Rattle.slots.specs.Destination.{alice, contract}
-use Rattle.position.specs.Names.{lockA, success, refund1, revoke, refund2, timeout, spendB, spendRevoke}
+use Rattle.steps.specs.Names.{lockA, success, refund1, revoke, refund2, timeout, spendB, spendRevoke}
 use Rattle.position.proofs.Opened.{opened}
 use Rattle.known.specs.Case.{Case, lockIs, deadlineIs, sheetLength, statusesZero, sendGets, sharedIs, statusIs, prints, revokedIn, swapSheet, passes, sendPlace, sameLines, holds}
 

@@ -1,8 +1,8 @@
 -- The bits of masks that others are made of.
 -- Assumes nothing.
-use Prim.Native.Nat.{ℕ, zero, suc, _/_, _%_, _^_, _<_}
+use Prim.Native.Nat.{ℕ, zero, suc, _/_, _%_, _^_, _<_, _≤_}
 use native.Mathlib.Omega.{arith}
-use native.Mathlib.Nat.{zero-div}
+use native.Mathlib.Nat.{zero-div, pow-le-pow-right, div-eq-of-lt}
 use mathlib.Core.Path.{_≡_, refl, sym, _∙_}
 use mathlib.Core.Logic.{_⊎_, inl, inr}
 use mathlib.Core.Bool.{true, false, not, _&&_, _||_}
@@ -61,3 +61,11 @@ union-bit (suc n) f i h =
 pub subset-bit : (n a b : ℕ) → subset n a b ≡ true → (i : ℕ) → i < n → bit a i ≡ true → bit b i ≡ true
 unfolding subset
 subset-bit n a b h i l e = rw e at (all-at n (λ k. not (bit a k) || bit b k) h i l)
+
+-- a number of n bits has none from place n on
+pub bit-above : (m n k : ℕ) → m < 2 ^ n → n ≤ k → bit m k ≡ false
+unfolding bit
+bit-above m n k h l =
+    let w : 2 ^ n ≤ 2 ^ k = pow-le-pow-right (omega arith) l in
+    let z : m / 2 ^ k ≡ 0 = div-eq-of-lt (omega (arith, w, h)) in
+    rw z

@@ -23,6 +23,11 @@ pub picked : {A : Type 0} (b : Bool) {x y w : A} → w ≡ pick b x y → ((b �
 picked true q = inl (refl, q)
 picked false q = inr (refl, q)
 
+-- what both have, the chosen one has
+pub picked-has : {A : Type 0} (P : A → Type 0) (b : Bool) {x y : A} → P x → P y → P (pick b x y)
+picked-has P true h k = h
+picked-has P false h k = k
+
 -- after a store, an element is the one from before, or the one stored
 pub stored : {A : Type 0} (l : List A) (i k : ℕ) (v d : A) → (getD (set l i v) k d ≡ getD l k d) ⊎ ((k ≡ i) × (getD (set l i v) k d ≡ v))
 stored l i k v d =

@@ -26,6 +26,15 @@ pub passes : (n a : ℕ) (b r : Bool) (xs : List (ℕ × Bool)) → r ≡ b → 
 unfolding firstFailing
 passes n a b r xs e h k = rw (sym e ∙ not-false r h) k
 
+-- the same of a test that passes where the code's answer is no
+pub fails-not : (n : ℕ) (b r : Bool) (xs : List (ℕ × Bool)) → r ≡ b → r ≡ true → n ≡ firstFailing ((n, not b) ∷ xs)
+unfolding firstFailing
+fails-not n b r xs e h = rw (sym e ∙ h)
+
+pub passes-not : (n a : ℕ) (b r : Bool) (xs : List (ℕ × Bool)) → r ≡ b → r ≡ false → a ≡ firstFailing xs → a ≡ firstFailing ((n, not b) ∷ xs)
+unfolding firstFailing
+passes-not n a b r xs e h k = rw (sym e ∙ h) k
+
 -- the test with number k, true where the list has none
 abbrev pub testOf : ℕ → List (ℕ × Bool) → Bool
 testOf k [] = true
@@ -69,3 +78,9 @@ passed-append (x ∷ xs) b n h =
     let m = and-parts (ltb 0 (x .0)) (numbered xs) n in
     let g = first (x .1) (x .0) (firstFailing xs) (m .0) h in
     rw (g .0) (passed-append xs b (m .1) (g .1))
+
+-- a test that fails leaves nothing to those behind it
+pub failed-append : (a b : List (ℕ × Bool)) → (firstFailing a ≡ 0 → ⊥) → firstFailing (a ++ b) ≡ firstFailing a
+unfolding firstFailing
+failed-append [] b h = absurd (h refl)
+failed-append (x ∷ xs) b h = split (x .1) (λ e. rw e (failed-append xs b (λ z. h (rw e z)))) (λ e. rw e)

@@ -2,11 +2,12 @@
 -- Assumes nothing.
 use Prim.Native.Nat.{ℕ, zero, suc, _+_, _*_, _≤_, _<_}
 use native.Mathlib.Omega.{arith}
-use mathlib.Core.Path.{_≡_, sym, _∙_}
+use mathlib.Core.Path.{_≡_, refl, sym, _∙_}
 use mathlib.Core.Bool.{Bool, true, _&&_}
 use mathlib.Core.List.{List, [], _∷_, _++_}
 use lib.ListN.{length, getD, length-append, List·getD-append}
 use lib.Seq.{getD-append-add}
+use native.Mathlib.Numerals.{add-one}
 use native.Mathlib.Nat.{not-suc-le-zero, le-of-suc-le-suc, eq-or-lt-of-le, mul-suc, mul-zero, mul-le-mul-left}
 use Rattle.laws.specs.Booleans.{either, and-parts}
 
@@ -14,6 +15,33 @@ use Rattle.laws.specs.Booleans.{either, and-parts}
 unfoldable pub gather : {A : Type 0} → ℕ → (ℕ → List A) → List A
 gather zero f = []
 gather (suc n) f = gather n f ++ f n
+
+-- a loop that makes it: its start, a turn, and the room for a turn where all has room
+module _ {A : Type 0} (f : ℕ → List A) where
+  pub gather-none : gather 0 f ≡ []
+  unfolding gather
+  gather-none = refl
+
+  pub gather-more : (n : ℕ) (w : List A) → f n ≡ w → gather (n + 1) f ≡ gather n f ++ w
+  unfolding gather
+  gather-more n w e = rw (add-one, e)
+
+  gather-mono : (k n : ℕ) → k ≤ n → length (gather k f) ≤ length (gather n f)
+  unfolding gather
+  gather-mono k zero h = let z : k ≡ 0 = omega arith in rw z (omega arith)
+  gather-mono k (suc n) h =
+      either (eq-or-lt-of-le h)
+      (λ e. rw e (omega arith))
+      (λ l. omega (arith, gather-mono k n (le-of-suc-le-suc l), length-append (gather n f) (f n)))
+
+  pub gather-room : (t n m : ℕ) → t < n → length (gather n f) ≤ m → length (gather t f ++ f t) ≤ m
+  gather-room t n m h l = rw (← (gather-more t (f t) refl)) (omega (arith, gather-mono (t + 1) n (omega arith)))
+
+  -- empty lists only
+  pub gather-empty : (n : ℕ) → ((k : ℕ) → f k ≡ []) → gather n f ≡ []
+  unfolding gather
+  gather-empty zero e = refl
+  gather-empty (suc n) e = rw (gather-empty n e, e n)
 
 -- p holds of every element
 unfoldable pub every : {A : Type 0} → (A → Bool) → List A → Bool

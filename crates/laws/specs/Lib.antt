@@ -15,3 +15,6 @@ pub mod Bits
 pub mod Cases
 pub mod Sets
 pub mod All
+pub mod Wrote
+pub mod Sum
+pub mod Ones

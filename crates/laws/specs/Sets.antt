@@ -9,8 +9,8 @@ use mathlib.Core.Bool.{Bool, true, false, not, _&&_, _||_, Bool·beq, or-false, 
 use lib.Bits.{bitAnd, bitOr}
 use lib.Dec.{eqb}
 use borrow.Author.Tests.{eq-eqb, ne-eqb}
-use Rattle.laws.specs.Booleans.{pick, either, and-parts, beq-same}
-use Rattle.laws.specs.Below.{allBelow, all-at}
+use Rattle.laws.specs.Booleans.{pick, split, clash, either, and-parts, beq-same}
+use Rattle.laws.specs.Below.{allBelow, anyBelow, all-at, any-some, any-none}
 use Rattle.laws.specs.Mask.{bit}
 use Rattle.laws.specs.Bits.{bit-or, bit-and, no-bit}
 
@@ -75,3 +75,17 @@ set-more n p m r b e h k = rw (add-one, h, e, k)
 
 pub set-done : (k n : ℕ) (p : ℕ → Bool) (m : ℕ) → k ≤ n → n ≤ k → m ≡ setBelow k p → m ≡ setBelow n p
 set-done k n p m l h e = rw (le-antisymm h l) e
+
+none-set : (n : ℕ) (p : ℕ → Bool) → ((k : ℕ) → k < n → p k ≡ false) → setBelow n p ≡ 0
+unfolding setBelow joined
+none-set zero p h = refl
+none-set (suc n) p h = rw (h n (omega arith), none-set n p (λ k m. h k (omega arith)))
+
+-- the set is not empty where some number below n passes
+pub set-some : (n : ℕ) (p : ℕ → Bool) → n ≤ 32 → not (eqb (setBelow n p) 0) ≡ anyBelow n p
+set-some n p l =
+    split (anyBelow n p)
+    (λ e.
+    let w = any-some n p e in
+    rw (e, ne-eqb (setBelow n p) 0 (λ z. clash (set-bit n p l (w .0) (w .1) ∙ w .2) (rw z (no-bit (w .0))))))
+    (λ e. rw (e, none-set n p (any-none n p e)))

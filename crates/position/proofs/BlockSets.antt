@@ -20,7 +20,7 @@ use Rattle.position.specs.Position.{inPool, inBlock}
 use Rattle.position.specs.Owed.{waiting, enters}
 use Rattle.position.specs.Effect.{leavesPool, mineSlot, leavesBlock, bumpSlot}
 use Rattle.position.specs.View.{viewBelow}
-use Rattle.position.specs.Blocks.{minedSlot, bumpedSlot, entersIn}
+use Rattle.steps.specs.Blocks.{minedSlot, bumpedSlot, entersIn}
 
 -- the line meets the set of those with a rival in the set e where it meets a rival of a member of e
 set-meets : (s : List ℕ) (e : ℕ) (member : ℕ → Bool) (t : ℕ) → count s ≤ 32 → t < count s → ((k : ℕ) → k < count s → bit e k ≡ member k)

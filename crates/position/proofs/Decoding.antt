@@ -16,10 +16,10 @@ use Rattle.slots.specs.declared.Destination.the-variants.{Alice, Bob, Contract}
 use Rattle.slots.specs.declared.Step.{Step}
 use Rattle.slots.specs.declared.Step.the-variants.{Share, Give, SendToPool, HandToMiner, Include, Mine, Bump}
 use Rattle.slots.specs.Destination.{miner, destinations, destinationNumber, isParty}
-use Rattle.position.specs.declared.Decoded.{Decoded}
-use Rattle.position.specs.declared.Decoded.the-variants.{Read, Refused}
+use Rattle.steps.specs.declared.Decoded.{Decoded}
+use Rattle.steps.specs.declared.Decoded.the-variants.{Read, Refused}
 use Rattle.position.specs.Position.{slotCount}
-use Rattle.position.specs.Decode.{noTransaction, sharesTo, firstShareFields, fieldsRight, ofKind, spelled, rangeChecked, decode, stepBytes}
+use Rattle.steps.specs.Decode.{noTransaction, sharesTo, firstShareFields, fieldsRight, ofKind, spelled, rangeChecked, decode, stepBytes}
 use Rattle.position.specs.Open.{kinds, actors}
 
 -- what is read from the bytes k a t d, whatever the sheet
@@ -27,7 +27,7 @@ data Spelled (k a t d : ℕ) : Decoded → Type 0 where
   is : (x : Step) → stepBytes x ≡ k ∷ a ∷ t ∷ d ∷ [] → 1 ≤ k → k ≤ kinds → d < destinations → Spelled k a t d (Read x)
   not : Spelled k a t d Refused
 
-within-three : (to : Destination) → destinationNumber to < destinations
+pub within-three : (to : Destination) → destinationNumber to < destinations
 unfolding destinationNumber
 within-three Alice = lit< tt
 within-three Bob = lit< tt

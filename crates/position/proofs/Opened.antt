@@ -20,17 +20,21 @@ use Rattle.slots.specs.Invalidated.{invalidated}
 use Rattle.slots.specs.Deadline.{deadline}
 use Rattle.slots.specs.Signatures.{sharedSecrets, senderMask, signed, shareMask, exposedMask}
 use Rattle.position.specs.Position.{start, slot, inPool, poolTo, inBlock, blockTo, blockOf, isConfirmed, confirmedTo, sent, placed, shared, keys, holds, marked, senderHas, lockHeightIn, deadlineIn}
-use Rattle.position.specs.Decode.{sendsTo, sharesTo, isOther, firstShareFields, fieldsRight, ofKind, spelled, rangeChecked, decode, stepBytes}
+use Rattle.steps.specs.Decode.{sendsTo, sharesTo, isOther, firstShareFields, fieldsRight, ofKind, spelled, rangeChecked, decode, stepBytes}
 use Rattle.position.specs.FirstShares.{firstShares, firstSharesMade}
 use Rattle.position.specs.Owed.{waiting, owed, anyOwed, enters}
 use Rattle.position.specs.Tests.{shareMet, shareTests, giveMet, giveTests, sendTests, poolTests, minerTests, includeTests, blockMet, mineTests, bumpTests}
-use Rattle.position.specs.Conduct.{isOpen, isCareful, phase, late, aliceShares, mayShare, aliceGives, bobGives, mayGive, maySend, successUnshared, secretSafe, safeToSend, sendAllowed, payingPasses, canPay, payingFirst, conductAllows}
+use Rattle.steps.specs.Conduct.{maySend}
+use Rattle.position.specs.Conduct.{isOpen, isCareful, phase, late, aliceShares, mayShare, aliceGives, bobGives, mayGive, successUnshared, secretSafe, safeToSend, sendAllowed, payingPasses, canPay, payingFirst, conductAllows}
 use Rattle.position.specs.StepRefusal.{tests, stepRefusal}
-use Rattle.position.specs.Effect.{withSlots, changeSlot, changeSlots, withKey, shareOne, shareEach, afterShare, afterGive, afterSend, afterHandIn, afterInclude, leavesPool, confirmEntry, mineSlot, withMined, afterMine, leavesBlock, bumpSlot, afterBump, effect}
+use Rattle.steps.specs.Blocks.{confirmEntry}
+use Rattle.position.specs.Effect.{withSlots, changeSlot, changeSlots, withKey, shareOne, shareEach, afterShare, afterGive, afterSend, afterHandIn, afterInclude, leavesPool, mineSlot, withMined, afterMine, leavesBlock, bumpSlot, afterBump, effect}
 use Rattle.position.specs.Play.{journalSteps, journalBytes, decodeBytes, takeStep, takeDecoded, step, runFrom, journalRight, callTests, run, play, acceptedOf, blockEntries, confirms, confirmedEntries}
 use Rattle.position.specs.Open.{actors, ifAccepted, openAt, openOf, actorSteps, openSteps, listBytes}
-use Rattle.position.specs.Report.{status, payee, row, reportBytes, reportedStatus, reportedPayee, reportedConfirmed, reportedLine}
-use Rattle.position.specs.Holder.{confirmedChild, endsCoin, payeeBelow, holder, holderIn, reportedHolder, isPayout, isPayoutTo}
+use Rattle.readings.specs.Holder.{confirmedChild, endsCoin, payeeBelow, holder, isPayout, isPayoutTo}
+use Rattle.readings.specs.Reported.{reportedStatus, reportedPayee, reportedConfirmed, reportedLine, reportedHolder}
+use Rattle.position.specs.Report.{status, payee, row, reportBytes}
+use Rattle.position.specs.Holder.{holderIn}
 use Rattle.position.specs.Answers.{packed, runPart, fitted, passOn, listAnswer, reportAnswer}
 use Rattle.position.specs.Printed.{printedLines, printed}
 

@@ -1,20 +1,20 @@
 -- The two outcomes of a step of four bytes: taken, with its fields right and its tests passed, or refused.
 -- Assumes nothing.
 use Prim.Native.Nat.{ℕ}
-use mathlib.Core.Path.{_≡_, refl, ap}
+use mathlib.Core.Path.{_≡_, refl, sym, ap, _∙_}
 use mathlib.Core.Bool.{true, false}
 use mathlib.Core.Logic.{_⊎_, inl, inr}
 use mathlib.Core.List.{List}
 use lib.Dec.{eqb}
-use borrow.Author.Tests.{eqb-true}
+use borrow.Author.Tests.{eqb-true, eq-eqb, ne-eqb}
 use Rattle.laws.specs.Booleans.{split, either, clash}
 use Rattle.sheet.specs.Refusal.{accepted, stepField}
 use Rattle.slots.specs.declared.Step.{Step}
 use Rattle.position.specs.declared.Position.{Position}
-use Rattle.position.specs.declared.Decoded.{Decoded}
-use Rattle.position.specs.declared.Decoded.the-variants.{Read, Refused}
+use Rattle.steps.specs.declared.Decoded.{Decoded}
+use Rattle.steps.specs.declared.Decoded.the-variants.{Read, Refused}
 use Rattle.position.specs.declared.Stepped.{Stepped}
-use Rattle.position.specs.Decode.{fieldsRight, rangeChecked, decode, spelled}
+use Rattle.steps.specs.Decode.{fieldsRight, rangeChecked, decode, spelled}
 use Rattle.position.specs.StepRefusal.{stepRefusal}
 use Rattle.position.specs.Effect.{effect}
 use Rattle.position.specs.Play.{FourBytes, decodeBytes, takeStep, takeDecoded, step}
@@ -41,6 +41,13 @@ module _ (s u : List ℕ) (p : Position) where
   left : (x : Step) → eqb (stepRefusal s u p x) accepted ≡ false → takeStep s u p x ≡ record { refusal = stepRefusal s u p x; position = p }
   unfolding takeStep
   left x e = rw (e, takeStep)
+
+  -- a method's two returns, where r is the number that it found
+  pub refuses : (x : Step) (r : ℕ) → r ≡ stepRefusal s u p x → (r ≡ 0 → ⊥) → record { refusal = r; position = p } ≡ takeStep s u p x
+  refuses x r e h = rw e (sym (left x (ne-eqb (stepRefusal s u p x) accepted (λ z. h (e ∙ z)))))
+
+  pub accepts : (x : Step) (r : ℕ) (q : Position) → r ≡ stepRefusal s u p x → r ≡ 0 → q ≡ effect s p x → record { refusal = 0; position = q } ≡ takeStep s u p x
+  accepts x r q e h k = rw k (sym (took x (eq-eqb (stepRefusal s u p x) accepted (sym e ∙ h))))
 
   pub step-case : (b : FourBytes) → StepCase s u p b
   unfolding step takeDecoded

@@ -8,11 +8,12 @@ use Rattle.laws.specs.Mask.{unionBelow}
 use Rattle.laws.specs.Sets.{setBelow}
 use Rattle.slots.specs.declared.Slot.{Slot}
 use Rattle.position.specs.declared.Position.{Position}
-use Rattle.position.specs.declared.View.{View}
+use Rattle.steps.specs.declared.View.{View}
 use Rattle.position.specs.Position.{slot, inPool, inBlock, blockOf, isConfirmed}
-use Rattle.position.specs.View.{viewBelow, viewWith}
+use Rattle.steps.specs.View.{viewWith}
+use Rattle.position.specs.View.{viewBelow}
 
-pub view-start : (p : Position) → record { pool = 0; block = 0; confirmed = 0; shared = 0 } ≡ viewBelow 0 p
+pub view-start : (p : Position) → record { pool = 0; block = 0; confirmed = 0; mined = p .mined; shared = 0; alice = p .alice; bob = p .bob } ≡ viewBelow 0 p
 unfolding viewBelow setBelow unionBelow
 view-start p = refl
 

@@ -16,8 +16,9 @@ use Rattle.slots.specs.declared.Step.the-variants.{Share, Give, SendToPool, Han
 use Rattle.slots.specs.Destination.{alice, bob, contract, isPayee, isContract}
 use Rattle.position.specs.declared.Position.{Position}
 use Rattle.position.specs.Position.{isConfirmed, sent, holds, shared, senderHas, deadlineIn}
-use Rattle.position.specs.Names.{sigAlice, secretAlice, secretBob, lockA, lockB, success, refund1, spendB}
-use Rattle.position.specs.Decode.{noTransaction}
+use Rattle.steps.specs.Names.{sigAlice, secretAlice, secretBob, lockA, lockB, success, refund1, spendB}
+use Rattle.steps.specs.Decode.{noTransaction}
+use Rattle.steps.specs.Conduct.{maySend}
 use Rattle.position.specs.FirstShares.{firstSharesMade}
 use Rattle.position.specs.Tests.{poolTests, minerTests}
 
@@ -64,12 +65,6 @@ bobGives s u p i =
 -- "a step of Alice or Bob not named below gets 13": of gives these two are named
 unfoldable pub mayGive : List ℕ → List ℕ → Position → ℕ → ℕ → Bool
 mayGive s u p party i = (eqb party alice && aliceGives s u p i) || (eqb party bob && bobGives s u p i)
-
--- who may send in which phase: "Phase 1: Alice may send lock_A only. Phase 2: Alice waits.", "Phase 3: Alice .. may send", "Phases 2 and 3: Bob may send."
-unfoldable pub maySend : ℕ → ℕ → ℕ → Bool
-maySend phase party t =
-    (eqb party alice && ((eqb phase 1 && eqb t lockA) || eqb phase 3))
-    || (eqb party bob && leb 2 phase)
 
 -- "success has no shared entry (by a share, a pool send or a mined block)"
 unfoldable pub successUnshared : Position → Bool

@@ -13,12 +13,13 @@ use Rattle.slots.specs.declared.Slot.{Slot}
 use Rattle.slots.specs.declared.Step.{Step}
 use Rattle.slots.specs.declared.Step.the-variants.{Share, Give, SendToPool, HandToMiner, Include, Mine, Bump}
 use Rattle.slots.specs.Destination.{alice, bob, contract, destinationNumber}
-use Rattle.slots.specs.Slot.{standing, entryFor, entryTo, withPool, withBlock, withConfirmed, withShared, withMark}
+use Rattle.slots.specs.Slot.{entryFor, withPool, withBlock, withShared, withMark}
 use Rattle.slots.specs.Ancestry.{meetsConflict}
 use Rattle.slots.specs.Signatures.{shareMask, exposedMask}
 use Rattle.position.specs.declared.Position.{Position}
 use Rattle.position.specs.Position.{slot, inBlock, keys}
-use Rattle.position.specs.Decode.{noTransaction}
+use Rattle.steps.specs.Decode.{noTransaction}
+use Rattle.steps.specs.Blocks.{confirmEntry}
 use Rattle.position.specs.FirstShares.{firstShares}
 use Rattle.position.specs.Owed.{enters}
 
@@ -78,13 +79,6 @@ afterInclude t p = changeSlot t (λ x. withBlock (x .pool) x) p
 -- "every pool entry whose line meets a rival of a mined one leaves": who leaves the pool, where `mined` tells the mined ones
 unfoldable pub leavesPool : List ℕ → (ℕ → Bool) → ℕ → Bool
 leavesPool s mined t = meetsConflict s mined t
-
--- "the block is confirmed and its entries shared as in 3": a block entry is confirmed in block b, and out of the block being filled
-unfoldable pub confirmEntry : List ℕ → ℕ → ℕ → Slot → Slot
-confirmEntry s b t x =
-    pick (standing (x .block))
-    (withBlock 0 (withConfirmed (x .block) b (withShared (entryTo (x .block)) (exposedMask s t) x)))
-    x
 
 -- what a mined block makes of t's slot: confirmed if it was in the block, out of the pool if it leaves
 unfoldable pub mineSlot : List ℕ → Position → ℕ → Slot → Slot

@@ -1,10 +1,10 @@
 pub mod Position
-pub mod Decode
-pub mod Names
 pub mod FirstShares
 pub mod Owed
 pub mod Tests
 pub mod Conduct
+pub mod Outlook
+pub mod Fit
 pub mod StepRefusal
 pub mod Effect
 pub mod Play
@@ -14,4 +14,4 @@ pub mod Holder
 pub mod Answers
 pub mod Printed
 pub mod View
-pub mod Blocks
+pub mod OpenSets

@@ -11,10 +11,10 @@ use Rattle.sheet.specs.Refusal.{accepted}
 use Rattle.slots.specs.declared.Step.{Step}
 use Rattle.slots.specs.Destination.{alice, bob, miner, destinations}
 use Rattle.position.specs.declared.Position.{Position}
-use Rattle.position.specs.declared.Decoded.{Decoded}
-use Rattle.position.specs.declared.Decoded.the-variants.{Read, Refused}
+use Rattle.steps.specs.declared.Decoded.{Decoded}
+use Rattle.steps.specs.declared.Decoded.the-variants.{Read, Refused}
 use Rattle.position.specs.Position.{slotCount}
-use Rattle.position.specs.Decode.{decode, stepBytes, noTransaction}
+use Rattle.steps.specs.Decode.{decode, stepBytes, noTransaction}
 use Rattle.position.specs.StepRefusal.{stepRefusal}
 use Rattle.position.specs.Play.{FourBytes, journalSteps}
 

@@ -16,12 +16,12 @@ use Rattle.ledger.specs.Entry.{Entry}
 use Rattle.slots.specs.declared.Step.{Step}
 use Rattle.slots.specs.declared.Step.the-variants.{Share, Give, SendToPool, HandToMiner, Include, Mine, Bump}
 use Rattle.position.specs.declared.Position.{Position}
-use Rattle.position.specs.declared.Decoded.{Decoded}
-use Rattle.position.specs.declared.Decoded.the-variants.{Read, Refused}
+use Rattle.steps.specs.declared.Decoded.{Decoded}
+use Rattle.steps.specs.declared.Decoded.the-variants.{Read, Refused}
 use Rattle.position.specs.declared.Stepped.{Stepped}
 use Rattle.position.specs.declared.Ran.{Ran}
 use Rattle.position.specs.Position.{start, inBlock, blockTo}
-use Rattle.position.specs.Decode.{decode}
+use Rattle.steps.specs.Decode.{decode}
 use Rattle.position.specs.StepRefusal.{stepRefusal}
 use Rattle.position.specs.Effect.{effect}
 

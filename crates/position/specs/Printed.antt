@@ -8,7 +8,8 @@ use Rattle.laws.specs.Gather.{gather}
 use Rattle.sheet.specs.Refusal.{accepted}
 use Rattle.sheet.specs.Field.{count}
 use Rattle.position.specs.Play.{run}
-use Rattle.position.specs.Report.{reportBytes, reportedLine}
+use Rattle.readings.specs.Reported.{reportedLine}
+use Rattle.position.specs.Report.{reportBytes}
 
 -- "then transaction, status, payee, block, lock height, deadline": a line for each transaction of a report
 unfoldable pub printedLines : List ℕ → List ℕ → List (List ℕ)

@@ -1,21 +1,14 @@
 -- The report: "14 bytes for each transaction".
 -- Assumes nothing.
-use Prim.Native.Nat.{ℕ, _+_, _*_}
-use mathlib.Core.Bool.{Bool}
-use mathlib.Core.List.{List, [], _∷_, _++_}
-use lib.ListN.{getD}
+use Prim.Native.Nat.{ℕ, _+_}
+use mathlib.Core.List.{List, _∷_, _++_}
 use Rattle.laws.specs.Booleans.{pick}
 use Rattle.laws.specs.Gather.{gather}
-use Rattle.laws.specs.Little.{bytesOf, numberAt}
-use Rattle.laws.specs.Mask.{bit}
+use Rattle.laws.specs.Little.{bytesOf}
 use Rattle.sheet.specs.Field.{count}
 use Rattle.slots.specs.Invalidated.{invalidated}
 use Rattle.position.specs.declared.Position.{Position}
 use Rattle.position.specs.Position.{inPool, inBlock, isConfirmed, confirmedTo, blockOf, lockHeightIn, deadlineIn}
-
--- "14 bytes for each transaction"
-abbrev pub rowWidth : ℕ
-rowWidth = 14
 
 -- "status (1 pool, 2 block, 4 confirmed, 8 dead, summed)"
 unfoldable pub status : List ℕ → Position → ℕ → ℕ
@@ -39,21 +32,3 @@ row s u p t =
 -- "Report writes 14 bytes for each transaction"
 unfoldable pub reportBytes : List ℕ → List ℕ → Position → List ℕ
 reportBytes s u p = gather (count s) (row s u p)
-
--- "status", read from a report
-unfoldable pub reportedStatus : List ℕ → ℕ → ℕ
-reportedStatus report t = getD report (rowWidth * t) 0
-
--- "payee", read from a report
-unfoldable pub reportedPayee : List ℕ → ℕ → ℕ
-reportedPayee report t = getD report (rowWidth * t + 1) 0
-
--- "4 confirmed", read from a report
-unfoldable pub reportedConfirmed : List ℕ → ℕ → Bool
-reportedConfirmed report t = bit (reportedStatus report t) 2
-
--- "transaction, status, payee, block, lock height, deadline", read from a report
-unfoldable pub reportedLine : List ℕ → ℕ → List ℕ
-reportedLine report t =
-    t ∷ reportedStatus report t ∷ reportedPayee report t
-    ∷ numberAt 4 report (rowWidth * t + 2) ∷ numberAt 4 report (rowWidth * t + 6) ∷ numberAt 4 report (rowWidth * t + 10) ∷ []

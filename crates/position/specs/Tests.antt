@@ -14,7 +14,7 @@ use Rattle.slots.specs.Ancestry.{hasParent}
 use Rattle.slots.specs.Signatures.{signed, shareMask}
 use Rattle.position.specs.declared.Position.{Position}
 use Rattle.position.specs.Position.{inPool, inBlock, isConfirmed, sent, placed, keys, holds, marked, senderHas, lockHeightIn, deadlineIn}
-use Rattle.position.specs.Decode.{noTransaction}
+use Rattle.steps.specs.Decode.{noTransaction}
 use Rattle.position.specs.FirstShares.{firstSharesMade}
 use Rattle.position.specs.Owed.{owed, anyOwed}
 

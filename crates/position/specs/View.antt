@@ -1,15 +1,15 @@
--- What the tests read off a position, once for each step: sets of transactions as masks, and what is shared.
+-- The view of a position: what the tests read off it, once for each step.
 -- Assumes nothing.
 use Prim.Native.Nat.{ℕ}
-use lib.Bits.{bitOr}
+use mathlib.Core.List.{List}
 use Rattle.laws.specs.Mask.{unionBelow}
-use Rattle.laws.specs.Sets.{joined, setBelow}
-use Rattle.slots.specs.declared.Slot.{Slot}
-use Rattle.slots.specs.Slot.{standing, sharedAny}
+use Rattle.laws.specs.Sets.{setBelow}
+use Rattle.sheet.specs.Field.{count}
+use Rattle.slots.specs.Slot.{sharedAny}
+use Rattle.steps.specs.declared.View.{View}
+use Rattle.steps.specs.Parent.{slotAbove, blockAbove}
 use Rattle.position.specs.declared.Position.{Position}
-use Rattle.position.specs.declared.View.{View}
 use Rattle.position.specs.Position.{slot, inPool, inBlock, isConfirmed}
-use lib.Dec.{ltb}
 
 -- of the transactions below n
 unfoldable pub viewBelow : ℕ → Position → View
@@ -18,15 +18,12 @@ viewBelow n p =
       pool = setBelow n (inPool p);
       block = setBelow n (inBlock p);
       confirmed = setBelow n (isConfirmed p);
+      mined = p .mined;
       shared = unionBelow n (λ k. sharedAny (slot p k));
+      alice = p .alice;
+      bob = p .bob;
     }
 
--- with transaction k, whose slot is x
-unfoldable pub viewWith : View → ℕ → Slot → View
-viewWith v k x =
-    record {
-      pool = joined (v .pool) (standing (x .pool)) k;
-      block = joined (v .block) (standing (x .block)) k;
-      confirmed = joined (v .confirmed) (ltb 0 (x .height)) k;
-      shared = bitOr (v .shared) (sharedAny x);
-    }
+-- the parent's block, as a loop over the slots reads it
+unfoldable pub sinceIn : List ℕ → Position → ℕ → ℕ
+sinceIn s p t = blockAbove s t (slot p (slotAbove s t) .height)

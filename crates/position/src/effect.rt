@@ -3,9 +3,14 @@ use crate::Position;
 use slots::signatures;
 ghost use Prim.Native.Nat.{_<_, _≤_};
 ghost use mathlib.Core.Path.{_≡_};
+ghost use mathlib.Core.Bool.{true};
 ghost use Rattle.sheet.specs.Field.{count, Sized};
 ghost use Rattle.position.specs.Position.{keys};
-ghost use Rattle.position.specs.Effect.{shareOne, withKey, afterSend, afterHandIn, afterInclude};
+ghost use Rattle.position.specs.FirstShares.{firstShares, shareable};
+ghost use Rattle.position.specs.Effect.{shareOne, shareEach, afterShare, withKey, afterSend, afterHandIn, afterInclude};
+
+// No signature.
+const NOTHING: u8 = 0;
 
 impl Position {
     // The keys that a party holds.
@@ -32,6 +37,37 @@ impl Position {
         let marked = y.with_mark(party, destination);
         self.slots[t] = marked;
         self
+    }
+
+    // A party's first shares: revoke and timeout, of Bob also refund_1 and refund_2, for the contract.
+    fn share_first(self, sheet: &[u8], party: u8) -> Position
+        requires { ⌜ Sized (now sheet) ⌝ }
+        requires { ⌜ 6 < count (now sheet) ⌝ }
+        requires { ⌜ party < 2 ⌝ }
+        ensures { λ r. ⌜ r ≡ shareEach (now (sheet .entry)) party (firstShares party) self ⌝ }
+    {
+        if party == 0 {
+            let revoke = self.share_one(sheet, party, 4, 2);
+            return revoke.share_one(sheet, party, 6, 2);
+        }
+        let refund = self.share_one(sheet, party, 3, 2);
+        let revoke = refund.share_one(sheet, party, 4, 2);
+        let second = revoke.share_one(sheet, party, 5, 2);
+        second.share_one(sheet, party, 6, 2)
+    }
+
+    // A share: of one transaction, or with 255 of the party's first shares.
+    pub fn after_share(self, sheet: &[u8], party: u8, t: u8, destination: u8) -> Position
+        requires { ⌜ Sized (now sheet) ⌝ }
+        requires { ⌜ party < 2 ⌝ }
+        requires { ⌜ destination < 3 ⌝ }
+        requires { ⌜ shareable (now sheet) t ≡ true ⌝ }
+        ensures { λ r. ⌜ r ≡ afterShare (now (sheet .entry)) party t destination self ⌝ }
+    {
+        if t == 255 {
+            return self.share_first(sheet, party);
+        }
+        self.share_one(sheet, party, sheet::field::wide(t), destination)
     }
 
     // A gift of signature i to a receiver.
@@ -70,7 +106,8 @@ impl Position {
         ensures { λ r. ⌜ r ≡ afterHandIn t destination self ⌝ }
     {
         let x = self.slots[t];
-        let handed = x.with_block(destination + 1);
+        let y = x.with_shared(destination, NOTHING);
+        let handed = y.with_block(destination + 1);
         self.slots[t] = handed;
         self
     }

@@ -2,17 +2,21 @@
 ghost use Prim.Native.Nat.{_<_};
 ghost use mathlib.Core.Path.{_≡_};
 ghost use Rattle.sheet.specs.Field.{count, Sized};
-ghost use Rattle.position.specs.View.{viewBelow, viewWith};
+ghost use Rattle.position.specs.View.{viewBelow};
 
-mod blocks;
 mod bumped;
-pub mod decode;
+mod conduct;
 pub mod effect;
 pub mod height;
+pub mod holder;
 mod mined;
+pub mod open;
+mod owed;
+mod refusal;
+pub mod step;
 
 use slots::Slot;
-use slots::Step;
+use steps::View;
 
 // "A position holds, for each of 32 transactions, its pool entry, block entry, confirmation and shared knowledge; beside these the
 // blocks mined, each party's keys held and the shares it has made." 324 bytes, without padding.
@@ -22,12 +26,6 @@ pub struct Position {
     // keys held
     pub alice: u8,
     pub bob: u8,
-}
-
-// Four bytes read as a step, or refused as one: 11.
-pub enum Decoded {
-    Read(Step),
-    Refused,
 }
 
 // A step's refusal number and the position after it, whole, accepted or not.
@@ -43,35 +41,11 @@ pub struct Ran {
     pub position: Position,
 }
 
-// What the tests read off a position, once for each step: the transactions in the pool, in the block being filled and
-// confirmed, as masks, and the signatures shared of any.
-pub struct View {
-    pub pool: u32,
-    pub block: u32,
-    pub confirmed: u32,
-    pub shared: u8,
-}
-
-// A change of the slots of all transactions: a mined block, with its number and those with a rival in it; or a bump, with
-// those that enter the block and those with a rival among them.
-pub struct Change {
-    pub mine: bool,
-    pub block: u16,
-    pub entering: u32,
-    pub leaving: u32,
-}
-
-// A view with one transaction more.
-fn view_with(v: View, k: usize, x: Slot) -> View
-    requires { ⌜ k < 32 ⌝ }
-    ensures { λ r. ⌜ r ≡ viewWith v k x ⌝ }
-{
-    View {
-        pool: slots::set::join(v.pool, 0 < x.pool, k),
-        block: slots::set::join(v.block, 0 < x.block, k),
-        confirmed: slots::set::join(v.confirmed, 0 < x.height, k),
-        shared: v.shared | x.shared_any(),
-    }
+// An actor's open steps: at place 3 * k + d the set of kind k + 1 and destination d, bit t for transaction byte t; in `last` bit
+// 3 * k + d for transaction byte 255.
+pub struct OpenSets {
+    pub below: [u32; 21],
+    pub last: u32,
 }
 
 impl Position {
@@ -85,12 +59,15 @@ impl Position {
             pool: 0,
             block: 0,
             confirmed: 0,
+            mined: self.mined,
             shared: 0,
+            alice: self.alice,
+            bob: self.bob,
         };
         let mut k: usize = 0;
         while k < n {
             let x = self.slots[k];
-            let w = view_with(v, k, x);
+            let w = v.add(k, x);
             v = w;
             k += 1;
         }

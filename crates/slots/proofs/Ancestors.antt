@@ -8,11 +8,12 @@ use mathlib.Core.List.{List}
 use lib.Dec.{eqb, ltb}
 use borrow.Author.Tests.{eqb-true, eq-eqb, ltb-true, lt-ltb}
 use Rattle.laws.specs.Booleans.{pick, split, either, or-right, or-neither}
-use Rattle.laws.specs.Climb.{climbIn, climb, climb-step}
+use Rattle.laws.specs.Climb.{climbIn, climb}
 use Rattle.sheet.specs.Field.{count, parent}
 use Rattle.sheet.specs.Checked.{Checked}
 use Rattle.slots.specs.Conflict.{conflict, conflictIn}
 use Rattle.slots.specs.Ancestry.{inAncestry, isSelfOrAncestor, meetsConflict}
+use Rattle.slots.proofs.AncestrySets.{line-step}
 use Rattle.slots.proofs.Parents.{parent-lower}
 use Rattle.slots.proofs.Conflicts.{conflict-parts, same-opening, none-in, some-in}
 
@@ -35,26 +36,21 @@ holds-above P f here l c = c
 holds-above P f (up {t = k} h r) l c = holds-above P f r (omega arith) (f k l h c)
 
 module _ (s : List ℕ) (passes : ℕ → Bool) where
-  -- the line of t is t and the line of its parent
-  line-step : (t : ℕ) → inAncestry s passes t ≡ (passes t || pick (ltb (parent s t) t) (inAncestry s passes (parent s t)) false)
-  unfolding inAncestry
-  line-step t = climb-step (parent s) (λ k above. passes k || above) false t
-
   pub line-here : (t : ℕ) → passes t ≡ true → inAncestry s passes t ≡ true
-  line-here t h = rw (line-step t, h)
+  line-here t h = rw (line-step s passes t, h)
 
   pub line-up : (t : ℕ) → parent s t < t → inAncestry s passes (parent s t) ≡ true → inAncestry s passes t ≡ true
-  line-up t l h = line-step t ∙ rw (lt-ltb (parent s t) t l, h) (or-right (passes t) true refl)
+  line-up t l h = line-step s passes t ∙ rw (lt-ltb (parent s t) t l, h) (or-right (passes t) true refl)
 
   pub line-at : {x t : ℕ} → Above s x t → passes x ≡ true → inAncestry s passes t ≡ true
   line-at {x} here e = line-here x e
   line-at (up {t} l r) e = line-up t l (line-at r e)
 
   pub off-here : (t : ℕ) → inAncestry s passes t ≡ false → passes t ≡ false
-  off-here t h = or-neither (passes t) (pick (ltb (parent s t) t) (inAncestry s passes (parent s t)) false) (sym (line-step t) ∙ h) .0
+  off-here t h = or-neither (passes t) (pick (ltb (parent s t) t) (inAncestry s passes (parent s t)) false) (sym (line-step s passes t) ∙ h) .0
 
   pub off-up : (t : ℕ) → parent s t < t → inAncestry s passes t ≡ false → inAncestry s passes (parent s t) ≡ false
-  off-up t l h = or-neither (passes t) (inAncestry s passes (parent s t)) (sym (line-step t ∙ rw (lt-ltb (parent s t) t l)) ∙ h) .1
+  off-up t l h = or-neither (passes t) (inAncestry s passes (parent s t)) (sym (line-step s passes t ∙ rw (lt-ltb (parent s t) t l)) ∙ h) .1
 
   find-in : (k t : ℕ) → climbIn (parent s) (λ j above. passes j || above) false k t ≡ true → (x : ℕ) × Above s x t × (passes x ≡ true)
   unfolding climbIn

@@ -12,6 +12,7 @@ use Rattle.laws.specs.Climb.{climb-step}
 use Rattle.sheet.specs.Field.{parent}
 use Rattle.slots.specs.Ancestry.{inAncestry}
 
+-- the line of t is t and the line of its parent
 pub line-step : (s : List ℕ) (p : ℕ → Bool) (t : ℕ) → inAncestry s p t ≡ (p t || pick (ltb (parent s t) t) (inAncestry s p (parent s t)) false)
 unfolding inAncestry
 line-step s p t = climb-step (parent s) (λ k above. p k || above) false t

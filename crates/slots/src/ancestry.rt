@@ -30,9 +30,9 @@ pub fn line_of(sheet: &[u8], t: usize) -> u32
     requires { ⌜ t < count (now sheet) ⌝ }
     ensures { λ r. ⌜ r ≡ lineSet (now (sheet .entry)) t ⌝ }
 {
-    let up = sheet::field::parent(sheet, t);
-    if up < t {
-        return set::join(line_of(sheet, up), true, t);
+    let above = sheet::field::parent(sheet, t);
+    if above < t {
+        return set::join(line_of(sheet, above), true, t);
     }
     set::join(0, true, t)
 }

@@ -117,17 +117,18 @@ pub fn list(sheet: &[u8], setup: &[u8], journal: &[u8], output: &mut [u8]) -> Li
             refusal,
             written: 0,
         },
-        Ok(steps) => match write(output, &steps.concat()) {
-            0 => List {
-                refusal: 0,
-                written: steps.len(),
-            },
-            refusal => List {
-                refusal,
-                written: 0,
-            },
-        },
+        Ok(steps) => write_steps(output, &steps),
     }
+}
+
+/// The answer of list where these are the open steps.
+fn write_steps(output: &mut [u8], steps: &[[u8; 4]]) -> List {
+    let refusal = write(output, &steps.concat());
+    let written = match refusal {
+        0 => steps.len(),
+        _ => 0,
+    };
+    List { refusal, written }
 }
 
 /// Report.
@@ -139,7 +140,7 @@ pub fn report(sheet: &[u8], setup: &[u8], journal: &[u8], output: &mut [u8]) -> 
 }
 
 /// "C gets one number, refusal × 65,536 + count (0 for check and report)."
-fn number(refusal: u32, count: usize) -> u32 {
+pub fn number(refusal: u32, count: usize) -> u32 {
     refusal * 65_536 + count as u32
 }
 
@@ -160,7 +161,18 @@ pub fn list_number(sheet: &[u8], setup: &[u8], journal: &[u8], output: &mut [u8]
     number(answer.refusal, answer.written)
 }
 
+/// The same where these are the open steps.
+pub fn list_answer(output: &mut [u8], steps: &[[u8; 4]]) -> u32 {
+    let answer = write_steps(output, steps);
+    number(answer.refusal, answer.written)
+}
+
 /// The number that C gets from report.
 pub fn report_number(sheet: &[u8], setup: &[u8], journal: &[u8], output: &mut [u8]) -> u32 {
     number(report(sheet, setup, journal, output), 0)
+}
+
+/// The same where these are the rows.
+pub fn report_answer(output: &mut [u8], rows: &[u8]) -> u32 {
+    number(write(output, rows), 0)
 }

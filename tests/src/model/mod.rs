@@ -1,8 +1,10 @@
 //! The reference model, one file for each idea of document 01. In its order:
 //! sheet, setup, heights, report (holders and payouts), ledger, position, step,
-//! conduct, journal, open, calls, swapreport.
+//! conduct, journal, open, calls, swapreport; and claims, what demand 3 says of
+//! them.
 
 pub mod calls;
+pub mod claims;
 pub mod conduct;
 pub mod heights;
 pub mod journal;

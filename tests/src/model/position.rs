@@ -6,14 +6,14 @@ use super::sheet::Sheet;
 use std::collections::{BTreeMap, BTreeSet};
 
 /// The confirmation of a transaction.
-#[derive(Clone, Copy, Debug, PartialEq, Eq)]
+#[derive(Clone, Copy, Debug, PartialEq, Eq, Hash)]
 pub struct Confirmation {
     pub destination: u8,
     /// "Blocks are numbered from 1."
     pub block: u32,
 }
 
-#[derive(Clone, Debug, PartialEq, Eq)]
+#[derive(Clone, Debug, PartialEq, Eq, Hash)]
 pub struct Position {
     /// The pool entries: the destination for each transaction in the pool.
     pub pool: BTreeMap<u8, u8>,

@@ -1,7 +1,9 @@
 -- The refusal is small, so the product fits.
 use denote.Ref.{now}
-use Rattle.sheet.proofs.Theorems.{sheet-refusal-below}
 use native.Mathlib.Omega.{arith}
+use native.Mathlib.Nat.{add-zero}
+use Rattle.sheet.proofs.Theorems.{sheet-refusal-below}
+use Rattle.position.specs.Answers.{packed}
 use borrow.Author.Needs.{needs}
 use Rattle.swap.proofs.swap_check.Statement.{statement}
 use Rattle.swap.proofs.swap_check.Tie as tie
@@ -13,6 +15,7 @@ mul-result : tie.Need-mul-result
 mul-result c = record { fits = omega (arith, c .check .ensures, sheet-refusal-below (now (c .before .before .args .sheet))) }
 
 returns : tie.Need-returns
+unfolding packed
 returns c = search needs
 
 pub swap-check-spec : {M : Type 1} → statement M

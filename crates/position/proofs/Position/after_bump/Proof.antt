@@ -1,8 +1,8 @@
 -- The slots.
 use Rattle.position.proofs.BlockSets.{bumped-right}
-use Rattle.position.specs.Blocks.{changedSlot, entersIn}
+use Rattle.steps.specs.Blocks.{changedSlot, entersIn}
 use Rattle.position.specs.Effect.{withSlots, changeSlots, afterBump}
-use Rattle.position.specs.declared.View.{View}
+use Rattle.steps.specs.declared.View.{View}
 use Rattle.slots.specs.Line.{lineSet}
 use Rattle.sheet.specs.Field.{count}
 use Rattle.laws.specs.Sets.{setBelow}

@@ -1,6 +1,7 @@
 -- The slot of t with a block entry.
 use Rattle.position.specs.Effect.{withSlots, changeSlot, afterHandIn}
 use Rattle.position.specs.Position.{slot}
+use Rattle.position.proofs.SharedNone.{shared-none}
 use Rattle.slots.specs.Slot.{entryFor}
 use borrow.Author.Needs.{needs}
 use Rattle.position.proofs.Position.after_hand_in.Statement.{statement}
@@ -11,6 +12,9 @@ mul-x c = search needs
 
 element-copy-out-x : tie.Need-element-copy-out-x
 element-copy-out-x c = search needs
+
+with-shared-requires : tie.Need-with-shared-requires
+with-shared-requires c κs = search needs
 
 add-with-block : tie.Need-add-with-block
 add-with-block c = search needs
@@ -26,7 +30,7 @@ element-set-from-handed c = search needs
 
 returns : tie.Need-returns
 unfolding afterHandIn changeSlot withSlots slot entryFor
-returns c = rw (c .with-block .ensures)
+returns c = rw (c .with-block .ensures, c .before .with-shared .ensures, shared-none)
 
 pub after-hand-in-spec : {M : Type 1} → statement M
 after-hand-in-spec =
@@ -34,6 +38,7 @@ after-hand-in-spec =
     (tie.spec
     mul-x
     element-copy-out-x
+    with-shared-requires
     add-with-block
     with-block-requires
     mul-handed

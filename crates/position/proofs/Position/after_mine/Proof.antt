@@ -1,8 +1,8 @@
 -- The slots, and one block more.
 use Rattle.position.proofs.BlockSets.{mined-right}
-use Rattle.position.specs.Blocks.{changedSlot}
+use Rattle.steps.specs.Blocks.{changedSlot}
 use Rattle.position.specs.Effect.{withSlots, changeSlots, withMined, afterMine}
-use Rattle.position.specs.declared.View.{View}
+use Rattle.steps.specs.declared.View.{View}
 use Rattle.slots.specs.Conflict.{foundIn}
 use Rattle.sheet.specs.Field.{count}
 use Rattle.laws.specs.Sets.{setBelow}

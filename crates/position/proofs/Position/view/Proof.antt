@@ -26,8 +26,8 @@ mul-x c = search needs
 element-copy-out-x : tie.Need-element-copy-out-x Inv-loop μ-loop
 element-copy-out-x c = search needs
 
-view-with-requires : tie.Need-view-with-requires Inv-loop μ-loop
-view-with-requires c κs = search needs
+add-requires : tie.Need-add-requires Inv-loop μ-loop
+add-requires c κs = search needs
 
 add-k : tie.Need-add-k Inv-loop μ-loop
 add-k c = search needs
@@ -37,7 +37,7 @@ loop-less c = search needs
 
 loop-again : tie.Need-loop-again Inv-loop μ-loop
 unfolding slot
-loop-again c = (search needs, view-more _ _ _ _ _ (c .before .before .before .loop .inv .1) (c .view-with .ensures) refl)
+loop-again c = (search needs, view-more _ _ _ _ _ (c .before .before .before .loop .inv .1) (c .add .ensures) refl)
 
 returns : tie.Need-returns Inv-loop μ-loop
 returns c = rw (← (c .before .before .count .ensures .is)) (view-done _ _ _ _ (c .before .loop .inv .0) (c .loop-test .left) (c .before .loop .inv .1))
@@ -52,7 +52,7 @@ view-spec =
     loop-holds
     mul-x
     element-copy-out-x
-    view-with-requires
+    add-requires
     add-k
     loop-less
     loop-again

@@ -1,0 +1,100 @@
+-- The open steps rise by actor, kind, transaction and destination.
+-- Assumes nothing.
+use Prim.Native.Nat.{ℕ, _+_, _<_}
+use native.Mathlib.Omega.{arith}
+use mathlib.Core.Path.{_≡_}
+use mathlib.Core.Bool.{Bool, true}
+use mathlib.Core.List.{List, [], _∷_, List·Memᴰ, List·Memᴰ·not-nil}
+use lib.Dec.{eqb}
+use lib.ListN.{length, getD}
+use Rattle.laws.specs.Booleans.{split}
+use Rattle.laws.specs.Gather.{gather}
+use Rattle.laws.specs.Members.{member-gather, Rising, rising-append, rising-gather}
+use Rattle.laws.specs.Order.{lower, lower-here, lower-later}
+use Rattle.sheet.specs.Refusal.{accepted}
+use Rattle.slots.specs.declared.Step.{Step}
+use Rattle.slots.specs.Destination.{destinations}
+use Rattle.position.specs.declared.Position.{Position}
+use Rattle.steps.specs.declared.Decoded.{Decoded}
+use Rattle.steps.specs.declared.Decoded.the-variants.{Read, Refused}
+use Rattle.position.specs.Position.{slotCount}
+use Rattle.steps.specs.Decode.{noTransaction, decode, stepBytes}
+use Rattle.position.specs.StepRefusal.{stepRefusal}
+use Rattle.position.specs.Play.{FourBytes}
+use Rattle.position.specs.Open.{actors, kinds, ifAccepted, openAt, openOf, actorSteps, openSteps, listPlace, listedBefore}
+use Rattle.position.proofs.Decoding.{decodes}
+use Rattle.moves.proofs.Listed.{IsOpen, alone-is, place-open, kind-open, actor-open, open-gathered}
+
+-- the four bytes of a step
+unfoldable pub fourOf : Step → FourBytes
+fourOf x =
+    record {
+      kind = getD (stepBytes x) 0 0;
+      party = getD (stepBytes x) 1 0;
+      transaction = getD (stepBytes x) 2 0;
+      destination = getD (stepBytes x) 3 0;
+    }
+
+unfoldable pub stepBefore : Step → Step → Bool
+stepBefore x y = listedBefore (fourOf x) (fourOf y)
+
+module _ (s u : List ℕ) (p : Position) where
+  place-is : (k a t d : ℕ) (x : Step) → IsOpen s u p k a t d x → listPlace (fourOf x) ≡ a ∷ k ∷ t ∷ d ∷ []
+  unfolding listPlace fourOf
+  place-is k a t d x o = rw (decodes s u k a t d x (o .reads) .bytes)
+
+  -- two open steps, by where they stand
+  before : (k a t d k′ a′ t′ d′ : ℕ) (x y : Step) → IsOpen s u p k a t d x → IsOpen s u p k′ a′ t′ d′ y
+      → lower (a ∷ k ∷ t ∷ d ∷ []) (a′ ∷ k′ ∷ t′ ∷ d′ ∷ []) ≡ true → stepBefore x y ≡ true
+  unfolding stepBefore listedBefore
+  before k a t d k′ a′ t′ d′ x y o q h = rw (place-is k a t d x o, place-is k′ a′ t′ d′ y q) h
+
+  alone-rises : (y : Decoded) → Rising stepBefore (ifAccepted s u p y)
+  unfolding ifAccepted Rising
+  alone-rises (Read x) =
+      split (eqb (stepRefusal s u p x) accepted) (λ e. rw e ((λ y m. absurd (List·Memᴰ·not-nil m)), tt)) (λ e. rw e tt)
+  alone-rises Refused = tt
+
+  at-rises : (k a t : ℕ) → Rising stepBefore (openAt s u p a k t)
+  unfolding openAt
+  at-rises k a t =
+      rising-gather stepBefore destinations (λ d. ifAccepted s u p (decode s u k a t d))
+      (λ d l. alone-rises (decode s u k a t d))
+      (λ d e l m x y f g.
+      before k a t d k a t e x y (alone-is s u p k a t d x f) (alone-is s u p k a t e y g)
+      (lower-later a _ _ (lower-later k _ _ (lower-later t _ _ (lower-here d e [] [] l)))))
+
+  -- two steps of one kind, by transaction
+  kind-before : (k a t t′ : ℕ) → t < t′ → (x y : Step) → List·Memᴰ x (openAt s u p a k t) → List·Memᴰ y (openAt s u p a k t′) → stepBefore x y ≡ true
+  kind-before k a t t′ l x y f g =
+      let o = place-open s u p k a t x f in
+      let q = place-open s u p k a t′ y g in
+      before k a t (o .0) k a t′ (q .0) x y (o .1) (q .1) (lower-later a _ _ (lower-later k _ _ (lower-here t t′ _ _ l)))
+
+  of-rises : (k a : ℕ) → Rising stepBefore (openOf s u p a k)
+  unfolding openOf
+  of-rises k a =
+      rising-append stepBefore (gather slotCount (openAt s u p a k)) (openAt s u p a k noTransaction)
+      (rising-gather stepBefore slotCount (openAt s u p a k) (λ t l. at-rises k a t) (λ t t′ l m. kind-before k a t t′ l))
+      (at-rises k a noTransaction)
+      (λ x y f g. let w = member-gather slotCount (openAt s u p a k) f in kind-before k a (w .0) noTransaction (omega (arith, w .1)) x y (w .2) g)
+
+  actor-rises : (a : ℕ) → Rising stepBefore (actorSteps s u p a)
+  unfolding actorSteps
+  actor-rises a =
+      rising-gather stepBefore kinds (λ j. openOf s u p a (j + 1))
+      (λ j l. of-rises (j + 1) a)
+      (λ i j l m x y f g.
+      let o = kind-open s u p (i + 1) a x f in
+      let q = kind-open s u p (j + 1) a y g in
+      before (i + 1) a (o .0) (o .1) (j + 1) a (q .0) (q .1) x y (o .2) (q .2) (lower-later a _ _ (lower-here (i + 1) (j + 1) _ _ (omega arith))))
+
+  pub open-rises : Rising stepBefore (openSteps s u p)
+  open-rises =
+      rw (open-gathered s u p)
+      (rising-gather stepBefore (length actors) (actorSteps s u p)
+      (λ a l. actor-rises a)
+      (λ a b l m x y f g.
+      let o = actor-open s u p a x f in
+      let q = actor-open s u p b y g in
+      before (o .0) a (o .1) (o .2) (q .0) b (q .1) (q .2) x y (o .3) (q .3) (lower-here a b _ _ l)))

@@ -1,0 +1,89 @@
+-- What the passed tests of a send tell, to the pool or to the miner.
+-- Assumes nothing.
+use Prim.Native.Nat.{ℕ, _≤_, _<_}
+use native.Mathlib.Omega.{arith}
+use mathlib.Core.Path.{_≡_, refl}
+use mathlib.Core.Bool.{Bool, true, false, _&&_, _||_}
+use mathlib.Core.List.{List}
+use lib.Dec.{ltb}
+use borrow.Author.Tests.{ltb-true, ltb-false, leb-true}
+use Rattle.laws.specs.Booleans.{and-parts, or-neither}
+use Rattle.laws.specs.Bits.{subset-bit}
+use Rattle.laws.specs.Failing.{passed}
+use Rattle.laws.specs.Mask.{bit}
+use Rattle.sheet.specs.Field.{parties, count, signatures, required}
+use Rattle.slots.specs.declared.Destination.{Destination}
+use Rattle.slots.specs.declared.Step.the-variants.{SendToPool, HandToMiner}
+use Rattle.slots.specs.Destination.{destinationNumber, isParty}
+use Rattle.slots.specs.Conflict.{conflict}
+use Rattle.slots.specs.Signatures.{signed}
+use Rattle.slots.proofs.Conflicts.{no-conflict}
+use Rattle.position.specs.declared.Position.{Position}
+use Rattle.position.specs.Position.{inPool, inBlock, blockOf, isConfirmed, sent, placed, senderHas, lockHeightIn, deadlineIn}
+use Rattle.steps.specs.Decode.{sendsTo, fieldsRight}
+use Rattle.position.specs.Tests.{sendTests, poolTests, minerTests}
+use Rattle.position.specs.Conduct.{sendAllowed, payingFirst, conductAllows}
+use Rattle.position.specs.StepRefusal.{tests, stepRefusal}
+
+-- a send of t by a party to a destination, "kind 3 or 4", that passes
+pub record Sent (s u : List ℕ) (p : Position) (party t to : ℕ) : Type 0 where
+  pub who : party < parties
+  pub low : t < count s
+  pub right : sendsTo s party t to ≡ true
+  pub allowed : sendAllowed s u p party t ≡ true
+  pub signs : (i : ℕ) → i < signatures s → bit (required s t) i ≡ true → bit (senderHas s p party t to) i ≡ true
+  pub lock : lockHeightIn s u p t ≤ p .mined
+  pub free : (k : ℕ) → k < count s → conflict s k t ≡ true → blockOf p k ≡ 0
+
+unconfirmed : (p : Position) (x : Bool) (k : ℕ) → (x || isConfirmed p k) ≡ false → blockOf p k ≡ 0
+unfolding isConfirmed
+unconfirmed p x k h = let w = ltb-false 0 (blockOf p k) (or-neither x (isConfirmed p k) h .1) in omega arith
+
+module _ (s u : List ℕ) (p : Position) (party t : ℕ) (to : Destination) where
+  record Fields : Type 0 where
+    who : party < parties
+    low : t < count s
+    right : sendsTo s party t (destinationNumber to) ≡ true
+
+  fields : (isParty party && (ltb t (count s) && sendsTo s party t (destinationNumber to))) ≡ true → Fields
+  unfolding isParty
+  fields h =
+      let a = and-parts (isParty party) (ltb t (count s) && sendsTo s party t (destinationNumber to)) h in
+      let b = and-parts (ltb t (count s)) (sendsTo s party t (destinationNumber to)) (a .1) in
+      record { who = ltb-true party parties (a .0); low = ltb-true t (count s) (b .0); right = b .1 }
+
+  pub sent-to-pool : fieldsRight s u (SendToPool party t to) ≡ true → stepRefusal s u p (SendToPool party t to) ≡ 0
+      → Sent s u p party t (destinationNumber to)
+  unfolding fieldsRight stepRefusal tests poolTests sendTests conductAllows sent signed
+  sent-to-pool f h =
+      let w = fields f in
+      let test = passed (tests s u p (SendToPool party t to)) refl h in
+      record {
+        who = w .who;
+        low = w .low;
+        right = w .right;
+        allowed = and-parts (sendAllowed s u p party t) (payingFirst s u p party t) (test 13) .0;
+        signs = subset-bit (signatures s) (required s t) (senderHas s p party t (destinationNumber to)) (test 16);
+        lock = leb-true (lockHeightIn s u p t) (p .mined) (test 17);
+        free = λ k l c. unconfirmed p (inPool p k) k (no-conflict s (sent p) t (test 14) k l c);
+      }
+
+  pub before-deadline : stepRefusal s u p (SendToPool party t to) ≡ 0 → p .mined < deadlineIn s u p t
+  unfolding stepRefusal tests poolTests sendTests conductAllows
+  before-deadline h = ltb-true (p .mined) (deadlineIn s u p t) (passed (tests s u p (SendToPool party t to)) refl h 18)
+
+  pub handed-in : fieldsRight s u (HandToMiner party t to) ≡ true → stepRefusal s u p (HandToMiner party t to) ≡ 0
+      → Sent s u p party t (destinationNumber to)
+  unfolding fieldsRight stepRefusal tests minerTests sendTests conductAllows placed signed
+  handed-in f h =
+      let w = fields f in
+      let test = passed (tests s u p (HandToMiner party t to)) refl h in
+      record {
+        who = w .who;
+        low = w .low;
+        right = w .right;
+        allowed = and-parts (sendAllowed s u p party t) (payingFirst s u p party t) (test 13) .0;
+        signs = subset-bit (signatures s) (required s t) (senderHas s p party t (destinationNumber to)) (test 16);
+        lock = leb-true (lockHeightIn s u p t) (p .mined) (test 17);
+        free = λ k l c. unconfirmed p (inBlock p k) k (no-conflict s (placed p) t (test 14) k l c);
+      }

@@ -1,0 +1,40 @@
+-- What is proved of the open steps, and of every position that steps lead to.
+-- Assumes nothing.
+use Prim.Native.Nat.{ℕ}
+use mathlib.Core.Path.{_≡_}
+use mathlib.Core.List.{List, List·Memᴰ}
+use Rattle.laws.specs.Members.{Rising}
+use Rattle.sheet.specs.Refusal.{accepted}
+use Rattle.sheet.specs.Check.{sheetRefusal}
+use Rattle.sheet.proofs.Theorems.{sheet-checked}
+use Rattle.position.specs.declared.Position.{Position}
+use Rattle.position.specs.Position.{start}
+use Rattle.position.specs.Play.{FourBytes, step, run, play}
+use Rattle.position.specs.Open.{listSteps, listedBefore}
+use Rattle.moves.specs.Wellformed.{Wellformed}
+use Rattle.moves.proofs.ListedBytes
+use Rattle.moves.proofs.Wellformeds
+
+-- Four bytes are accepted as a step on a position if and only if they stand in the list for that position.
+pub open-exact : (s u : List ℕ) (p : Position) (b : FourBytes) → sheetRefusal s ≡ 0 → (step s u p b .refusal ≡ accepted → List·Memᴰ b (listSteps s u p)) × (List·Memᴰ b (listSteps s u p) → step s u p b .refusal ≡ accepted)
+open-exact s u p b h = (ListedBytes.accepted-listed s u p b (sheet-checked s h), ListedBytes.listed-accepted s u p b)
+
+-- The list rises by actor, kind, transaction and destination: each step stands before every later one.
+pub list-rises : (s u : List ℕ) (p : Position) → Rising listedBefore (listSteps s u p)
+list-rises = ListedBytes.list-rises
+
+-- The empty journal's position is well formed on a checked sheet.
+pub wellformed-start : (s : List ℕ) → sheetRefusal s ≡ 0 → Wellformed s (start s)
+wellformed-start s h = Wellformeds.wellformed-start s (sheet-checked s h)
+
+-- A step of any four bytes, accepted or not, keeps a position well formed, whatever the setup.
+pub wellformed-step : (s u : List ℕ) (p : Position) (b : FourBytes) → sheetRefusal s ≡ 0 → Wellformed s p → Wellformed s (step s u p b .position)
+wellformed-step s u p b h = Wellformeds.wellformed-step s u (sheet-checked s h) p b
+
+-- So does every list of steps, refused ones passed over.
+pub wellformed-play : (s u : List ℕ) (bs : List FourBytes) (p : Position) → sheetRefusal s ≡ 0 → Wellformed s p → Wellformed s (play s u bs p)
+wellformed-play s u bs p h = Wellformeds.wellformed-play s u (sheet-checked s h) bs p
+
+-- The position after a journal, refused or not, is well formed on a checked sheet.
+pub wellformed-run : (s u j : List ℕ) → sheetRefusal s ≡ 0 → Wellformed s (run s u j .position)
+wellformed-run s u j h = Wellformeds.wellformed-run s u (sheet-checked s h) j

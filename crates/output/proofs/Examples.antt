@@ -1,0 +1,28 @@
+-- Some open steps and a row, written out.
+-- Assumes nothing.
+use mathlib.Core.Path.{_≡_, refl}
+use mathlib.Core.List.{List, [], _∷_}
+use Prim.Native.Nat.{ℕ}
+use Rattle.laws.specs.Gather.{gather}
+use Rattle.laws.specs.Mask.{bit}
+use Rattle.laws.specs.Little.{bytesOf}
+use Rattle.laws.specs.Sum.{sumBelow, bitsBelow}
+use Rattle.output.specs.Emitted.{emitted, emittedAt, opensBelow, opensLast, belowBytes, lastBytes, kindBytes, actorBytes, openCount}
+use Rattle.output.specs.Row.{rowBytes}
+
+-- kind 1 on transaction 31 for Bob and on 0 for the contract, kind 2 on 3 for Alice; byte 255: kind 1 for Alice and kind 6 for Alice
+sets : List ℕ
+sets = 0 ∷ 2147483648 ∷ 1 ∷ 8 ∷ []
+
+listed : actorBytes sets 32769 1
+    ≡ 1 ∷ 1 ∷ 0 ∷ 2 ∷ 1 ∷ 1 ∷ 31 ∷ 1 ∷ 1 ∷ 1 ∷ 255 ∷ 0 ∷ 2 ∷ 1 ∷ 3 ∷ 0 ∷ 6 ∷ 1 ∷ 255 ∷ 0 ∷ []
+unfolding sets actorBytes kindBytes belowBytes lastBytes opensBelow opensLast emittedAt emitted gather bit
+listed = refl
+
+counted : openCount sets 32769 ≡ 5
+unfolding sets openCount sumBelow bitsBelow bit
+counted = refl
+
+row : rowBytes 4 2 258 65536 4294967295 ≡ 4 ∷ 2 ∷ 2 ∷ 1 ∷ 0 ∷ 0 ∷ 0 ∷ 0 ∷ 1 ∷ 0 ∷ 255 ∷ 255 ∷ 255 ∷ 255 ∷ []
+unfolding rowBytes bytesOf
+row = refl

@@ -1,0 +1,82 @@
+-- The sum over the sets before i.
+use Rattle.output.specs.Emitted.{openCount}
+use Rattle.output.proofs.Lengths.{count-bound}
+use Rattle.laws.specs.Sum.{sumBelow, bitsBelow, sum-start, sum-more, sum-done}
+use Rattle.laws.specs.Ones.{bits-short, bits-low}
+use lib.ListN.{getD}
+use mathlib.Core.Path.{_≡_, ap₂, _∙_}
+use Prim.Native.Nat.{ℕ, _≤_, _+_, _-_, _*_}
+use native.Mathlib.Omega.{arith}
+use native.Mathlib.Nat.{mod-lt}
+use borrow.Author.Needs.{needs}
+use Rattle.output.proofs.open.open_count.Statement.{statement}
+use Rattle.output.proofs.open.open_count.Tie as tie
+
+abbrev Inv-loop : tie.InvT-loop
+Inv-loop last below sum₀ i₀ sum i = (i ≤ 21) × (sum ≤ 32 * i) × (sum ≡ sumBelow i (λ k. bitsBelow 32 (getD below k 0)))
+
+abbrev μ-loop : tie.MeasureT-loop
+μ-loop last below sum₀ i₀ sum i = 21 - i
+
+loop-holds : tie.Need-loop-holds Inv-loop μ-loop
+loop-holds c = (search needs, search needs, sum-start _)
+
+mul-ones : tie.Need-mul-ones Inv-loop μ-loop
+mul-ones c = search needs
+
+array-read-ones : tie.Need-array-read-ones Inv-loop μ-loop
+array-read-ones c = search needs
+
+ones-requires : tie.Need-ones-requires Inv-loop μ-loop
+ones-requires c κs = search needs
+
+add-sum : tie.Need-add-sum Inv-loop μ-loop
+add-sum c = let h = c .ones .ensures .small in search needs
+
+add-i : tie.Need-add-i Inv-loop μ-loop
+add-i c = search needs
+
+loop-less : tie.Need-loop-less Inv-loop μ-loop
+loop-less c = search needs
+
+loop-again : tie.Need-loop-again Inv-loop μ-loop
+loop-again c =
+    let l = c .before .before .loop in
+    let n : l .sum + c .ones .result ≤ 32 * (l .i + 1) = omega (arith, l .inv .1, c .ones .ensures .small) in
+    (search needs, n, sum-more _ _ _ _ (l .inv .2) (c .ones .ensures .is))
+
+ones-requires-2 : tie.Need-ones-requires-2 Inv-loop μ-loop
+ones-requires-2 c κs = search needs
+
+add-result : tie.Need-add-result Inv-loop μ-loop
+add-result c = let h = c .ones2 .ensures .small in search needs
+
+returns : tie.Need-returns Inv-loop μ-loop
+unfolding openCount
+returns c =
+    let l = c .before .before .loop in
+    let last = c .before .before .before .args .last in
+    let is : l .sum + c .ones2 .result ≡ openCount (c .before .before .before .args .t1) last =
+    ap₂ (λ (x y : ℕ). x + y)
+    (sum-done _ _ _ _ (l .inv .0) (c .before .loop-test .left) (l .inv .2))
+    (c .ones2 .ensures .is ∙ bits-short 21 32 _ (omega arith) (mod-lt last (omega arith)) ∙ bits-low 21 last)
+    in
+    record { is = is; small = omega (arith, is, count-bound (c .before .before .before .args .t1) last) }
+
+pub open-count-spec : {M : Type 1} → statement M
+open-count-spec =
+    tie.close
+    (tie.spec
+    Inv-loop
+    μ-loop
+    loop-holds
+    mul-ones
+    array-read-ones
+    ones-requires
+    add-sum
+    add-i
+    loop-less
+    loop-again
+    ones-requires-2
+    add-result
+    returns)

@@ -1,0 +1,94 @@
+-- The steps of the destinations before d.
+use Rattle.output.specs.Emitted.{emitted, emittedAt, opens}
+use Rattle.laws.specs.Wrote.{Turns, turns-start, turn-room, turn-end, turn-more, turns-done}
+use mathlib.Core.Bool.{Bool}
+use mathlib.Core.List.{List}
+use Prim.Native.Nat.{ℕ, _-_}
+use native.Mathlib.Omega.{arith}
+use borrow.Author.Needs.{needs}
+use Rattle.output.proofs.open.write_at.Statement.{statement}
+use Rattle.output.proofs.open.write_at.Tie as tie
+
+-- what turn d writes
+abbrev turn : List Bool → ℕ → ℕ → ℕ → ℕ → List ℕ
+turn on kind actor t d = emitted (opens on d) kind actor t d
+
+abbrev Inv-loop : tie.InvT-loop
+Inv-loop kind actor t out₀ on at₀ d₀ out at d = Turns (turn on kind actor t) 3 out₀ out at d
+
+abbrev μ-loop : tie.MeasureT-loop
+μ-loop kind actor t out₀ on at₀ d₀ out at d = 3 - d
+
+loop-holds : tie.Need-loop-holds Inv-loop μ-loop
+unfolding emittedAt
+loop-holds c = turns-start _ _ _ (c .before .pre)
+
+array-read-write-step : tie.Need-array-read-write-step Inv-loop μ-loop
+array-read-write-step c = search needs
+
+cast-write-step : tie.Need-cast-write-step Inv-loop μ-loop
+cast-write-step c = search needs
+
+sub-write-step : tie.Need-sub-write-step Inv-loop μ-loop
+sub-write-step c = omega (arith, c .before .loop .inv .wrote)
+
+part-write-step-start : tie.Need-part-write-step-start Inv-loop μ-loop
+part-write-step-start c = omega (arith, c .before .loop .inv .wrote)
+
+part-write-step-end : tie.Need-part-write-step-end Inv-loop μ-loop
+part-write-step-end c = search needs
+
+write-step-requires : tie.Need-write-step-requires Inv-loop μ-loop
+unfolding opens
+write-step-requires c κs =
+    let l = c .before .before .loop in
+    let a = c .before .before .before .before .args in
+    turn-room (turn (a .t1) (a .kind) (a .actor) (a .t)) _ _ _ _ _ (l .inv) (c .before .loop-test .taken)
+
+add-at : tie.Need-add-at Inv-loop μ-loop
+unfolding opens
+add-at c =
+    let l = c .before .before .before .before .before .loop in
+    let a = c .before .before .before .before .before .before .before .args in
+    omega (arith, turn-end (turn (a .t1) (a .kind) (a .actor) (a .t)) _ _ _ _ _ _ (l .inv) (c .before .before .before .before .loop-test .taken) (c .before .before .write-step .ensures .0))
+
+add-d : tie.Need-add-d Inv-loop μ-loop
+add-d c = search needs
+
+loop-less : tie.Need-loop-less Inv-loop μ-loop
+loop-less c = search needs
+
+loop-again : tie.Need-loop-again Inv-loop μ-loop
+unfolding opens
+loop-again c =
+    let l = c .before .before .before .before .before .loop in
+    let a = c .before .before .before .before .before .before .before .args in
+    let w = c .before .before .write-step in
+    turn-more (turn (a .t1) (a .kind) (a .actor) (a .t)) _ _ _ _ _ _ _ (l .inv) (c .before .before .before .before .loop-test .taken) (w .ensures .0) (w .ensures .1)
+
+same-length : tie.Need-same-length Inv-loop μ-loop
+same-length c = c .before .loop .inv .wrote .long
+
+returns : tie.Need-returns Inv-loop μ-loop
+unfolding emittedAt
+returns c = let w = turns-done _ _ _ _ _ _ (c .before .loop .inv) (c .loop-test .left) in (w .at, w .is)
+
+pub write-at-spec : {M : Type 1} → statement M
+write-at-spec =
+    tie.close
+    (tie.spec
+    Inv-loop
+    μ-loop
+    loop-holds
+    array-read-write-step
+    cast-write-step
+    sub-write-step
+    part-write-step-start
+    part-write-step-end
+    write-step-requires
+    add-at
+    add-d
+    loop-less
+    loop-again
+    same-length
+    returns)

@@ -1,0 +1,58 @@
+-- The three bits of byte 255.
+use Rattle.output.proofs.Three.{three-last}
+use borrow.Author.Needs.{needs}
+use Rattle.output.proofs.open.write_last.Statement.{statement}
+use Rattle.output.proofs.open.write_last.Tie as tie
+
+mul-i : tie.Need-mul-i
+mul-i c = search needs
+
+has-requires : tie.Need-has-requires
+has-requires c κs = search needs
+
+add-has : tie.Need-add-has
+add-has c = search needs
+
+has-requires-2 : tie.Need-has-requires-2
+has-requires-2 c κs = search needs
+
+add-has-2 : tie.Need-add-has-2
+add-has-2 c = search needs
+
+has-requires-3 : tie.Need-has-requires-3
+has-requires-3 c κs = search needs
+
+add-write-at : tie.Need-add-write-at
+add-write-at c = search needs
+
+cast-write-at : tie.Need-cast-write-at
+cast-write-at c = search needs
+
+write-at-requires : tie.Need-write-at-requires
+write-at-requires c κs = rw (three-last _ _ _ _ _ _ (c .before .before .before .has .ensures) (c .before .before .has2 .ensures) (c .before .has3 .ensures)) (c .before .before .before .before .before .pre .1)
+
+same-length : tie.Need-same-length
+same-length c = search needs
+
+returns : tie.Need-returns
+returns c =
+    let a = c .before .before .before .before .before .before .before .before .args in
+    let e = three-last (a .last) (a .actor) (a .k) _ _ _ (c .before .before .before .before .before .before .has .ensures) (c .before .before .before .before .before .has2 .ensures) (c .before .before .before .before .has3 .ensures) in
+    let w = c .before .before .write-at .ensures in
+    rw e at w
+
+pub write-last-spec : {M : Type 1} → statement M
+write-last-spec =
+    tie.close
+    (tie.spec
+    mul-i
+    has-requires
+    add-has
+    has-requires-2
+    add-has-2
+    has-requires-3
+    add-write-at
+    cast-write-at
+    write-at-requires
+    same-length
+    returns)

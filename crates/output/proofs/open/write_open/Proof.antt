@@ -1,0 +1,74 @@
+-- The steps of the kinds before k + 1.
+use Rattle.output.specs.Emitted.{kindBytes, actorBytes}
+use Rattle.laws.specs.Wrote.{Turns, turns-start, turn-room, turn-end, turn-more, turns-done}
+use Prim.Native.Nat.{_-_}
+use native.Mathlib.Omega.{arith}
+use borrow.Author.Needs.{needs}
+use Rattle.output.proofs.open.write_open.Statement.{statement}
+use Rattle.output.proofs.open.write_open.Tie as tie
+
+abbrev Inv-loop : tie.InvT-loop
+Inv-loop below last actor out₀ at₀ k₀ out at k = Turns (kindBytes below last actor) 7 out₀ out at k
+
+abbrev μ-loop : tie.MeasureT-loop
+μ-loop below last actor out₀ at₀ k₀ out at k = 7 - k
+
+loop-holds : tie.Need-loop-holds Inv-loop μ-loop
+unfolding actorBytes
+loop-holds c = turns-start _ _ _ (c .before .pre)
+
+sub-write-kind : tie.Need-sub-write-kind Inv-loop μ-loop
+sub-write-kind c = omega (arith, c .before .loop .inv .wrote)
+
+part-write-kind-start : tie.Need-part-write-kind-start Inv-loop μ-loop
+part-write-kind-start c = omega (arith, c .before .loop .inv .wrote)
+
+part-write-kind-end : tie.Need-part-write-kind-end Inv-loop μ-loop
+part-write-kind-end c = search needs
+
+write-kind-requires : tie.Need-write-kind-requires Inv-loop μ-loop
+write-kind-requires c κs =
+    let t = c .before .loop-test .taken in
+    (search needs, turn-room _ _ _ _ _ _ (c .before .before .loop .inv) t)
+
+add-at : tie.Need-add-at Inv-loop μ-loop
+add-at c =
+    let t = c .before .before .before .before .loop-test .taken in
+    omega (arith, turn-end _ _ _ _ _ _ _ (c .before .before .before .before .before .loop .inv) t (c .before .before .write-kind .ensures .0))
+
+add-k : tie.Need-add-k Inv-loop μ-loop
+add-k c = search needs
+
+loop-less : tie.Need-loop-less Inv-loop μ-loop
+loop-less c = search needs
+
+loop-again : tie.Need-loop-again Inv-loop μ-loop
+loop-again c =
+    let w = c .before .before .write-kind in
+    let t = c .before .before .before .before .loop-test .taken in
+    turn-more _ _ _ _ _ _ _ _ (c .before .before .before .before .before .loop .inv) t (w .ensures .0) (w .ensures .1)
+
+same-length : tie.Need-same-length Inv-loop μ-loop
+same-length c = c .before .loop .inv .wrote .long
+
+returns : tie.Need-returns Inv-loop μ-loop
+unfolding actorBytes
+returns c = let w = turns-done _ _ _ _ _ _ (c .before .loop .inv) (c .loop-test .left) in (w .at, w .is)
+
+pub write-open-spec : {M : Type 1} → statement M
+write-open-spec =
+    tie.close
+    (tie.spec
+    Inv-loop
+    μ-loop
+    loop-holds
+    sub-write-kind
+    part-write-kind-start
+    part-write-kind-end
+    write-kind-requires
+    add-at
+    add-k
+    loop-less
+    loop-again
+    same-length
+    returns)

@@ -1,0 +1,33 @@
+// The bytes of a report's row.
+ghost use Prim.Native.Nat.{_≤_};
+ghost use mathlib.Core.Path.{_≡_};
+ghost use lib.ListN.{length};
+ghost use Rattle.laws.specs.Little.{bytesOf};
+ghost use Rattle.laws.specs.Over.{over};
+ghost use Rattle.output.specs.Row.{rowBytes};
+
+// The four bytes of a number, the lowest first.
+fn write_number(out: &mut [u8], x: u32)
+    requires { ⌜ 4 ≤ length (now out) ⌝ }
+    ensures { λ _. ⌜ now (out .exit) ≡ over (bytesOf 4 x) (now (out .entry)) ⌝ }
+{
+    let x1 = x / 256;
+    let x2 = x1 / 256;
+    let x3 = x2 / 256;
+    out[0] = (x % 256) as u8;
+    out[1] = (x1 % 256) as u8;
+    out[2] = (x2 % 256) as u8;
+    out[3] = (x3 % 256) as u8;
+}
+
+// A row's 14 bytes, at the front of the buffer.
+pub fn write_row(out: &mut [u8], status: u8, payee: u8, block: u32, lock: u32, deadline: u32)
+    requires { ⌜ 14 ≤ length (now out) ⌝ }
+    ensures { λ _. ⌜ now (out .exit) ≡ over (rowBytes status payee block lock deadline) (now (out .entry)) ⌝ }
+{
+    out[0] = status;
+    out[1] = payee;
+    write_number(&mut out[2..], block);
+    write_number(&mut out[6..], lock);
+    write_number(&mut out[10..], deadline);
+}

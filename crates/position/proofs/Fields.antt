@@ -1,0 +1,71 @@
+-- What right fields tell of a step of each kind, for the methods.
+-- Assumes nothing.
+use Prim.Native.Nat.{ℕ, _<_, _≤_}
+use native.Mathlib.Omega.{arith}
+use mathlib.Core.Path.{_≡_, refl, sym, ap, _∙_}
+use mathlib.Core.Bool.{Bool, true, false, not, _&&_, _||_}
+use mathlib.Core.List.{List}
+use lib.Dec.{eqb, ltb}
+use borrow.Author.Tests.{eqb-true, ltb-true, lt-ltb, eq-eqb, not-true}
+use Rattle.laws.specs.Booleans.{split, either, and-parts, or-parts, or-right}
+use Rattle.sheet.specs.Field.{count, signatures}
+use Rattle.sheet.specs.Setup.{conduct}
+use Rattle.slots.specs.declared.Destination.{Destination}
+use Rattle.slots.specs.declared.Step.{Step}
+use Rattle.slots.specs.declared.Step.the-variants.{Share, Give, SendToPool, HandToMiner}
+use Rattle.slots.specs.Destination.{destinationNumber, isParty}
+use Rattle.steps.specs.Names.{timeout}
+use Rattle.steps.specs.Decode.{noTransaction, sharesTo, isOther, firstShareFields, fieldsRight}
+use Rattle.steps.proofs.RightFields.{give-listed, pool-listed, miner-listed}
+use Rattle.position.specs.FirstShares.{shareable}
+use Rattle.position.specs.Conduct.{isOpen}
+use Rattle.position.specs.Fit.{Fit}
+
+party-below : (party : ℕ) → isParty party ≡ true → party < 2
+unfolding isParty
+party-below party h = ltb-true party 2 h
+
+module _ (s u : List ℕ) (party t : ℕ) (to : Destination) (x : Step) where
+  pub share-fields : x ≡ Share party t to → Fit s u → fieldsRight s u x ≡ true → (party < 2) × (shareable s t ≡ true)
+  unfolding fieldsRight shareable firstShareFields isOpen
+  share-fields e fit h =
+      let w = and-parts (isParty party) _ (rw e at h) in (
+        party-below party (w .0),
+        either (or-parts (ltb t (count s) && sharesTo s t (destinationNumber to)) _ (w .1))
+            (λ y. rw (and-parts (ltb t (count s)) _ y .0))
+            (λ y.
+            let z = and-parts (eqb t noTransaction) _ y in
+            let n : count s ≡ 15 = fit .named (not-true (eqb (conduct u) 0) (and-parts (not (eqb (conduct u) 0)) _ (z .1) .0)) in
+            or-right (ltb t (count s)) (eqb t noTransaction && ltb timeout (count s)) (rw (z .0, n))),
+      )
+
+  pub give-fields : x ≡ Give party t to → signatures s ≤ 8 → fieldsRight s u x ≡ true → (t < 8) × (destinationNumber to < 2)
+  unfolding fieldsRight isOther
+  give-fields e few h =
+      let w = and-parts (isParty party) _ (rw e at h) in
+      let z = and-parts (ltb t (signatures s)) _ (w .1) in
+      (give-listed s u party t to x e few h, party-below (destinationNumber to) (and-parts (isParty (destinationNumber to)) _ (z .1) .0))
+
+  pub pool-fields : x ≡ SendToPool party t to → fieldsRight s u x ≡ true → (party < 2) × (t < count s)
+  unfolding fieldsRight
+  pool-fields e h = (party-below party (and-parts (isParty party) _ (rw e at h) .0), pool-listed s u party t to x e h)
+
+  pub miner-fields : x ≡ HandToMiner party t to → fieldsRight s u x ≡ true → (party < 2) × (t < count s)
+  unfolding fieldsRight
+  miner-fields e h = (party-below party (and-parts (isParty party) _ (rw e at h) .0), miner-listed s u party t to x e h)
+
+-- a share of one transaction, and of the first shares
+module _ (s : List ℕ) (t : ℕ) (few : count s ≤ 32) (h : shareable s t ≡ true) where
+  pub share-one-fits : (t ≡ 255 → ⊥) → t < count s
+  unfolding shareable
+  share-one-fits other =
+      either (or-parts (ltb t (count s)) _ h)
+      (λ y. ltb-true t (count s) y)
+      (λ y. absurd (other (eqb-true t noTransaction (and-parts (eqb t noTransaction) _ y .0))))
+
+  pub share-first-fits : t ≡ 255 → 6 < count s
+  unfolding shareable
+  share-first-fits e =
+      either (or-parts (ltb t (count s)) _ h)
+      (λ y. let l = ltb-true t (count s) y in omega (arith, l, e, few))
+      (λ y. ltb-true timeout (count s) (and-parts (eqb t noTransaction) _ y .1))

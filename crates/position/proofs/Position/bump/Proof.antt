@@ -1,0 +1,38 @@
+-- The test, then the effect.
+use Rattle.position.proofs.StepCases.{refuses, accepts}
+use Rattle.position.specs.StepRefusal.{tests, stepRefusal}
+use Rattle.position.specs.Effect.{effect}
+use borrow.Author.Needs.{needs}
+use Rattle.position.proofs.Position.bump.Statement.{statement}
+use Rattle.position.proofs.Position.bump.Tie as tie
+
+view-requires : tie.Need-view-requires
+view-requires c κs = search needs
+
+wide-requires : tie.Need-wide-requires
+wide-requires c κs = search needs
+
+bump-refusal-requires : tie.Need-bump-refusal-requires
+bump-refusal-requires c κs = (c .before .before .before .before .pre .0, (c .before .before .before .before .pre .1 .0, (c .before .view .ensures, rw (c .wide .ensures .is) (c .before .before .before .before .pre .1 .1 .1))))
+
+returns : tie.Need-returns
+unfolding stepRefusal tests
+returns c = refuses _ _ _ _ _ (rw (← (c .before .before .wide .ensures .is)) (c .before .bump-refusal .ensures)) (c .if1 .taken)
+
+after-bump-requires : tie.Need-after-bump-requires
+after-bump-requires c κs = (c .before .before .before .before .before .before .pre .0, (c .before .before .before .view .ensures, rw (c .before .before .wide .ensures .is) (c .before .before .before .before .before .before .pre .1 .1 .1)))
+
+returns-2 : tie.Need-returns-2
+unfolding stepRefusal tests effect
+returns-2 c = accepts _ _ _ _ _ _ (rw (← (c .before .before .before .wide .ensures .is)) (c .before .before .bump-refusal .ensures)) (c .before .if1 .left) (rw (← (c .before .before .before .wide .ensures .is)) (c .after-bump .ensures))
+
+pub bump-spec : {M : Type 1} → statement M
+bump-spec =
+    tie.close
+    (tie.spec
+    view-requires
+    wide-requires
+    bump-refusal-requires
+    returns
+    after-bump-requires
+    returns-2)

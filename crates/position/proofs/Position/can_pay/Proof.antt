@@ -1,0 +1,91 @@
+-- Some transaction pays. None below t does.
+use Rattle.position.specs.Position.{slot}
+use Rattle.position.proofs.Outlooks.{paysAt, pays-turn, pays-found, pays-none}
+use Rattle.laws.specs.Below.{anyBelow, any-start, any-more}
+use Rattle.laws.specs.Each.{length-of-map}
+use lib.ListN.{length}
+use mathlib.Core.Bool.{false}
+use mathlib.Core.Path.{_≡_, sym, _∙_}
+use Prim.Native.Nat.{_≤_, _-_}
+use borrow.Author.Needs.{needs}
+use Rattle.position.proofs.Position.can_pay.Statement.{statement}
+use Rattle.position.proofs.Position.can_pay.Tie as tie
+
+abbrev Inv-loop : tie.InvT-loop
+Inv-loop sheet setup view o party self n t₀ t = (t ≤ n) × (anyBelow t (paysAt sheet setup self view o party) ≡ false)
+
+abbrev μ-loop : tie.MeasureT-loop
+μ-loop sheet setup view o party self n t₀ t = n - t
+
+count-requires : tie.Need-count-requires Inv-loop μ-loop
+count-requires c κs = search needs
+
+loop-holds : tie.Need-loop-holds Inv-loop μ-loop
+loop-holds c = (search needs, any-start _)
+
+mul-x : tie.Need-mul-x Inv-loop μ-loop
+mul-x c = search needs
+
+element-copy-out-x : tie.Need-element-copy-out-x Inv-loop μ-loop
+element-copy-out-x c = search needs
+
+slot-above-requires : tie.Need-slot-above-requires Inv-loop μ-loop
+slot-above-requires c κs = search needs
+
+mul-above : tie.Need-mul-above Inv-loop μ-loop
+mul-above c = search needs
+
+element-copy-out-above : tie.Need-element-copy-out-above Inv-loop μ-loop
+element-copy-out-above c = search needs
+
+block-above-requires : tie.Need-block-above-requires Inv-loop μ-loop
+block-above-requires c κs = search needs
+
+send-allowed-requires : tie.Need-send-allowed-requires Inv-loop μ-loop
+send-allowed-requires c κs = search needs
+
+pays-requires : tie.Need-pays-requires Inv-loop μ-loop
+pays-requires c κs = search needs
+
+returns : tie.Need-returns Inv-loop μ-loop
+unfolding slot
+returns c =
+    let l : length (c .before .before .before .before .before .before .before .before .before .before .before .before .args .t1 .slots) ≡ 32 = search (length-of-map, c .before .before .before .before .before .before .before .before .before .before .before .before .good) in
+    pays-found _ _ _ _ _ _ (c .before .before .before .before .before .before .before .before .before .before .before .before .pre .1 .1 .1 .0) l (c .before .before .before .before .before .before .before .before .before .before .before .before .pre .1 .1 .1 .1 .0) (c .before .before .before .before .before .before .before .before .before .before .before .before .pre .1 .1 .1 .1 .1 .0) _ _ (c .before .before .before .before .before .before .before .before .before .count .ensures .is) (c .before .before .before .before .before .before .before .loop-test .taken) (sym (pays-turn _ _ _ _ _ _ _ _ _ _ _ (c .before .before .before .before .before .slot-above .ensures .0) (c .before .before .before .block-above .ensures) (c .before .before .send-allowed .ensures) (c .before .pays .ensures)) ∙ c .if1 .taken)
+
+add-t : tie.Need-add-t Inv-loop μ-loop
+add-t c = search needs
+
+loop-less : tie.Need-loop-less Inv-loop μ-loop
+loop-less c = search needs
+
+loop-again : tie.Need-loop-again Inv-loop μ-loop
+unfolding slot
+loop-again c = (search needs, any-more _ _ (c .before .before .before .before .before .before .before .before .loop .inv .1) (sym (pays-turn _ _ _ _ _ _ _ _ _ _ _ (c .before .before .before .before .before .slot-above .ensures .0) (c .before .before .before .block-above .ensures) (c .before .before .send-allowed .ensures) (c .before .pays .ensures)) ∙ c .if1 .left))
+
+returns-2 : tie.Need-returns-2 Inv-loop μ-loop
+returns-2 c =
+    let l : length (c .before .before .before .before .before .args .t1 .slots) ≡ 32 = search (length-of-map, c .before .before .before .before .before .good) in
+    pays-none _ _ _ _ _ _ (c .before .before .before .before .before .pre .1 .1 .1 .0) l (c .before .before .before .before .before .pre .1 .1 .1 .1 .0) (c .before .before .before .before .before .pre .1 .1 .1 .1 .1 .0) _ _ (c .before .before .count .ensures .is) (c .before .loop .inv .0) (c .loop-test .left) (c .before .loop .inv .1)
+
+pub can-pay-spec : {M : Type 1} → statement M
+can-pay-spec =
+    tie.close
+    (tie.spec
+    Inv-loop
+    μ-loop
+    count-requires
+    loop-holds
+    mul-x
+    element-copy-out-x
+    slot-above-requires
+    mul-above
+    element-copy-out-above
+    block-above-requires
+    send-allowed-requires
+    pays-requires
+    returns
+    add-t
+    loop-less
+    loop-again
+    returns-2)

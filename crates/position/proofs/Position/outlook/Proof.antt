@@ -1,0 +1,57 @@
+-- Open, or made of its parts.
+use Rattle.position.specs.Position.{slot}
+use Rattle.position.specs.Conduct.{isOpen}
+use Rattle.position.specs.Outlook.{openOutlook, outlook}
+use Rattle.position.proofs.Outlooks.{success-there, outlook-made}
+use mathlib.Core.Path.{sym, _∙_}
+use borrow.Author.Tests.{eq-eqb}
+use borrow.Author.Needs.{needs}
+use Rattle.position.proofs.Position.outlook.Statement.{statement}
+use Rattle.position.proofs.Position.outlook.Tie as tie
+
+conduct-requires : tie.Need-conduct-requires
+conduct-requires c κs = search needs
+
+returns : tie.Need-returns
+unfolding outlook openOutlook isOpen
+returns c = rw (eq-eqb _ _ (sym (c .before .conduct .ensures) ∙ c .if1 .taken))
+
+element-copy-out-success : tie.Need-element-copy-out-success
+element-copy-out-success c = search needs
+
+element-copy-out-refund : tie.Need-element-copy-out-refund
+element-copy-out-refund c = search needs
+
+phase-requires : tie.Need-phase-requires
+phase-requires c κs = search needs
+
+late-requires : tie.Need-late-requires
+late-requires c κs = (c .before .before .before .before .before .before .before .pre .0, (c .before .before .before .before .before .before .before .pre .1 .0, success-there (c .before .before .before .before .before .before .before .pre .1 .1 .0) _ (c .before .before .before .before .conduct .ensures) (c .before .before .before .if1 .left)))
+
+is-sent-requires : tie.Need-is-sent-requires
+is-sent-requires c κs = search needs
+
+has-requires : tie.Need-has-requires
+has-requires c κs = search needs
+
+sender-requires : tie.Need-sender-requires
+sender-requires c κs = search needs
+
+returns-2 : tie.Need-returns-2
+unfolding slot
+returns-2 c = outlook-made _ _ _ _ _ _ _ _ _ _ (c .before .before .before .before .before .before .before .before .before .conduct .ensures) (c .before .before .before .before .before .before .before .before .if1 .left) (c .before .before .before .before .before .phase .ensures) (c .before .before .before .before .late .ensures) (c .before .before .before .is-sent .ensures) (c .before .has .ensures) (c .before .before .before .before .before .before .before .before .before .before .before .before .pre .1 .1 .1) (c .sender .ensures)
+
+pub outlook-spec : {M : Type 1} → statement M
+outlook-spec =
+    tie.close
+    (tie.spec
+    conduct-requires
+    returns
+    element-copy-out-success
+    element-copy-out-refund
+    phase-requires
+    late-requires
+    is-sent-requires
+    has-requires
+    sender-requires
+    returns-2)

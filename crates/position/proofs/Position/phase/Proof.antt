@@ -1,0 +1,53 @@
+-- lock_B, lock_A, and the first shares.
+use Rattle.position.specs.Position.{isConfirmed}
+use Rattle.position.specs.Conduct.{phase}
+use borrow.Author.Tests.{lt-ltb, le-ltb, not-true, not-false}
+use borrow.Author.Needs.{needs}
+use Rattle.position.proofs.Position.phase.Statement.{statement}
+use Rattle.position.proofs.Position.phase.Tie as tie
+
+block-of-requires : tie.Need-block-of-requires
+block-of-requires c κs = search needs
+
+returns : tie.Need-returns
+unfolding phase isConfirmed
+returns c = rw (← (c .before .block-of .ensures), lt-ltb _ _ (c .if1 .taken))
+
+block-of-requires-2 : tie.Need-block-of-requires-2
+block-of-requires-2 c κs = search needs
+
+returns-2 : tie.Need-returns-2
+unfolding phase isConfirmed
+returns-2 c = rw (← (c .before .before .before .block-of .ensures), le-ltb _ _ (c .before .before .if1 .left), ← (c .before .block-of2 .ensures), lt-ltb _ _ (c .if2 .taken))
+
+first-shares-made-requires : tie.Need-first-shares-made-requires
+first-shares-made-requires c κs = search needs
+
+returns-3 : tie.Need-returns-3
+unfolding phase isConfirmed
+returns-3 c = rw (← (c .before .before .before .before .before .block-of .ensures), le-ltb _ _ (c .before .before .before .before .if1 .left), ← (c .before .before .before .block-of2 .ensures), le-ltb _ _ (c .before .before .if2 .left), ← (c .before .first-shares-made .ensures), not-true (c .before .first-shares-made .result) (c .if3 .taken))
+
+first-shares-made-requires-2 : tie.Need-first-shares-made-requires-2
+first-shares-made-requires-2 c κs = search needs
+
+returns-4 : tie.Need-returns-4
+unfolding phase isConfirmed
+returns-4 c = rw (← (c .before .before .before .before .before .before .before .block-of .ensures), le-ltb _ _ (c .before .before .before .before .before .before .if1 .left), ← (c .before .before .before .before .before .block-of2 .ensures), le-ltb _ _ (c .before .before .before .before .if2 .left), ← (c .before .before .before .first-shares-made .ensures), not-false (c .before .before .before .first-shares-made .result) (c .before .before .if3 .left), ← (c .before .first-shares-made2 .ensures), not-true (c .before .first-shares-made2 .result) (c .if4 .taken))
+
+returns-5 : tie.Need-returns-5
+unfolding phase isConfirmed
+returns-5 c = rw (← (c .before .before .before .before .before .before .before .block-of .ensures), le-ltb _ _ (c .before .before .before .before .before .before .if1 .left), ← (c .before .before .before .before .before .block-of2 .ensures), le-ltb _ _ (c .before .before .before .before .if2 .left), ← (c .before .before .before .first-shares-made .ensures), not-false (c .before .before .before .first-shares-made .result) (c .before .before .if3 .left), ← (c .before .first-shares-made2 .ensures), not-false (c .before .first-shares-made2 .result) (c .if4 .left))
+
+pub phase-spec : {M : Type 1} → statement M
+phase-spec =
+    tie.close
+    (tie.spec
+    block-of-requires
+    returns
+    block-of-requires-2
+    returns-2
+    first-shares-made-requires
+    returns-3
+    first-shares-made-requires-2
+    returns-4
+    returns-5)

@@ -1,0 +1,117 @@
+-- The tests of kinds 3 and 4 over a view are those of the rules.
+-- Assumes nothing.
+use Prim.Native.Nat.{ℕ, _≤_, _<_}
+use native.Mathlib.Omega.{arith}
+use mathlib.Core.Path.{_≡_, refl, sym, ap, _∙_}
+use mathlib.Core.Bool.{Bool, not}
+use mathlib.Core.List.{List, [], _∷_, _++_}
+use lib.Dec.{eqb, ltb}
+use lib.ListN.{length, List·getD-eq-default}
+use borrow.Author.Tests.{ltb-false}
+use Rattle.laws.specs.Booleans.{split}
+use Rattle.laws.specs.Failing.{firstFailing}
+use Rattle.laws.specs.Mask.{bit}
+use Rattle.laws.specs.Bits.{bit-or}
+use Rattle.laws.specs.Sets.{setBelow, set-bit}
+use Rattle.sheet.specs.Refusal.{stepStealth, stepDeadline}
+use Rattle.sheet.specs.Field.{count, parent, opening}
+use Rattle.sheet.specs.Setup.{perDay, stealth}
+use Rattle.sheet.specs.LockHeight.{lockHeight}
+use Rattle.sheet.specs.Checked.{Checked}
+use Rattle.slots.specs.declared.Slot.{Slot}
+use Rattle.slots.specs.Slot.{emptySlot}
+use Rattle.slots.specs.Conflict.{noConflict}
+use Rattle.slots.specs.Ancestry.{hasParent}
+use Rattle.slots.specs.Signatures.{sharedSecrets}
+use Rattle.slots.specs.Deadline.{deadline}
+use Rattle.slots.proofs.ConflictSets.{conflictIn-same}
+use Rattle.slots.proofs.Parents.{parent-below}
+use Rattle.slots.proofs.Since.{lockHeight-since, deadline-since}
+use Rattle.steps.specs.declared.View.{View}
+use Rattle.steps.specs.Parent.{slotAbove, blockAbove}
+use Rattle.steps.specs.View.{sentSet, placedSet, keysIn, senderIn}
+use Rattle.steps.specs.Sending.{sendTestsIn, poolTestsIn, minerTestsIn}
+use Rattle.position.specs.declared.Position.{Position}
+use Rattle.position.specs.Position.{slot, inPool, inBlock, blockOf, isConfirmed, sent, placed, keys, shared, senderHas, lockHeightIn, deadlineIn}
+use Rattle.position.specs.View.{viewBelow, sinceIn}
+use Rattle.position.specs.Tests.{sendTests, poolTests, minerTests}
+
+-- a set m against a test that tells the same members below the count
+module _ (s : List ℕ) (m : ℕ) (member : ℕ → Bool) (same : (k : ℕ) → k < count s → bit m k ≡ member k) (t : ℕ) where
+  pub noConflict-set : noConflict s (bit m) t ≡ noConflict s member t
+  unfolding noConflict
+  noConflict-set = ap not (conflictIn-same s (bit m) member t same)
+
+  pub hasParent-set : Checked s → t < count s → hasParent s (bit m) t ≡ hasParent s member t
+  unfolding hasParent
+  hasParent-set ok l = split (opening s t) (λ y. rw y) (λ y. rw y (same (parent s t) (parent-below ok t l y)))
+
+-- the view of all transactions of the sheet
+module _ (s : List ℕ) (p : Position) where
+  pub sent-bit : count s ≤ 32 → (k : ℕ) → k < count s → bit (sentSet (viewBelow (count s) p)) k ≡ sent p k
+  unfolding sentSet viewBelow sent
+  sent-bit few k l =
+      bit-or (setBelow (count s) (inPool p)) (setBelow (count s) (isConfirmed p)) k
+      ∙ rw (set-bit (count s) (inPool p) few k l, set-bit (count s) (isConfirmed p) few k l)
+
+  pub placed-bit : count s ≤ 32 → (k : ℕ) → k < count s → bit (placedSet (viewBelow (count s) p)) k ≡ placed p k
+  unfolding placedSet viewBelow placed
+  placed-bit few k l =
+      bit-or (setBelow (count s) (inBlock p)) (setBelow (count s) (isConfirmed p)) k
+      ∙ rw (set-bit (count s) (inBlock p) few k l, set-bit (count s) (isConfirmed p) few k l)
+
+  pub sender-view : (party t destination : ℕ) → senderIn s (viewBelow (count s) p) (slot p t) party destination ≡ senderHas s p party t destination
+  unfolding senderIn viewBelow keysIn senderHas keys sharedSecrets shared
+  sender-view party t destination = refl
+
+  -- past the slots there is no block
+  pub since-parent : length (p .slots) ≡ 32 → (t : ℕ) → sinceIn s p t ≡ blockOf p (parent s t)
+  unfolding sinceIn blockAbove slotAbove blockOf slot
+  since-parent l t =
+      split (ltb (parent s t) 32)
+      (λ y. rw y)
+      (λ y.
+      rw y
+      (sym
+      (ap (λ (x : Slot). x .height) (List·getD-eq-default (p .slots) emptySlot {n = parent s t} (omega (arith, l, ltb-false (parent s t) 32 y))))))
+
+-- over the parent's block alone
+module _ (s u : List ℕ) (p : Position) (t : ℕ) where
+  pub lockHeight-parent : lockHeight s (perDay u) (λ k. blockOf p (parent s t)) t ≡ lockHeightIn s u p t
+  unfolding lockHeightIn
+  lockHeight-parent = sym (lockHeight-since s (perDay u) (blockOf p) (blockOf p (parent s t)) t refl)
+
+  pub deadline-parent : deadline s (perDay u) (λ k. blockOf p (parent s t)) t ≡ deadlineIn s u p t
+  unfolding deadlineIn
+  deadline-parent = sym (deadline-since s (perDay u) (blockOf p) (blockOf p (parent s t)) t refl)
+
+module _ (allowed : Bool) (s u : List ℕ) (p : Position) (ok : Checked s) (party t destination : ℕ) (l : t < count s) where
+  send-tests : (m : ℕ) (member : ℕ → Bool) → ((k : ℕ) → k < count s → bit m k ≡ member k)
+      → sendTestsIn allowed s (perDay u) m (senderIn s (viewBelow (count s) p) (slot p t) party destination) (blockOf p (parent s t)) (p .mined) t
+      ≡ sendTests allowed s u p member party t destination
+  unfolding sendTestsIn sendTests
+  send-tests m member same =
+      rw (noConflict-set s m member same t, hasParent-set s m member same t ok l, sender-view s p party t destination, lockHeight-parent s u p t)
+
+  pub pool-tests : poolTestsIn allowed s u (viewBelow (count s) p) (slot p t) (blockOf p (parent s t)) party t destination
+      ≡ poolTests allowed s u p party t destination
+  unfolding poolTestsIn poolTests viewBelow
+  pool-tests =
+      ap (λ x. x ++ ((stepDeadline, ltb (p .mined) (deadline s (perDay u) (λ k. blockOf p (parent s t)) t)) ∷ []))
+      (send-tests (sentSet (viewBelow (count s) p)) (sent p) (sent-bit s p (ok .sized .few)))
+      ∙ ap (λ d. sendTests allowed s u p (sent p) party t destination ++ ((stepDeadline, ltb (p .mined) d) ∷ [])) (deadline-parent s u p t)
+
+  pub miner-tests : minerTestsIn allowed s u (viewBelow (count s) p) (slot p t) (blockOf p (parent s t)) party t destination
+      ≡ minerTests allowed s u p party t destination
+  unfolding minerTestsIn minerTests viewBelow
+  miner-tests =
+      ap (λ x. (stepStealth, eqb (stealth u) 1) ∷ x)
+      (send-tests (placedSet (viewBelow (count s) p)) (placed p) (placed-bit s p (ok .sized .few)))
+
+  -- what the code answers, where v, since and a are what it found
+  module _ (v : View) (since r : ℕ) (a : Bool) (e : v ≡ viewBelow (count s) p) (f : since ≡ blockOf p (parent s t)) (g : a ≡ allowed) where
+    pub pool-answer : r ≡ firstFailing (poolTestsIn a s u v (slot p t) since party t destination) → r ≡ firstFailing (poolTests allowed s u p party t destination)
+    pool-answer h = (h ∙ rw (e, f, g)) ∙ ap firstFailing pool-tests
+
+    pub miner-answer : r ≡ firstFailing (minerTestsIn a s u v (slot p t) since party t destination) → r ≡ firstFailing (minerTests allowed s u p party t destination)
+    miner-answer h = (h ∙ rw (e, f, g)) ∙ ap firstFailing miner-tests

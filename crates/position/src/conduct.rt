@@ -1,0 +1,204 @@
+// Conduct in a position.
+use crate::Position;
+use slots::Slot;
+use slots::lock_height;
+use slots::party;
+use slots::signatures;
+use steps::Outlook;
+use steps::View;
+use steps::parent;
+use steps::sending;
+ghost use Prim.Native.Nat.{_<_, _≤_};
+ghost use mathlib.Core.Path.{_≡_};
+ghost use mathlib.Core.Bool.{not, _&&_, _||_};
+ghost use lib.Dec.{ltb};
+ghost use lib.ListN.{length};
+ghost use Rattle.sheet.specs.Field.{count, signatures, Sized};
+ghost use Rattle.slots.specs.Slot.{standing};
+ghost use Rattle.position.specs.Position.{marked};
+ghost use Rattle.position.specs.FirstShares.{firstSharesMade};
+ghost use Rattle.position.specs.Conduct.{phase, late, canPay, payingFirst, sendAllowed};
+ghost use Rattle.position.specs.Outlook.{outlook};
+ghost use Rattle.position.specs.View.{viewBelow};
+ghost use Rattle.position.specs.Fit.{Fit};
+
+// Whether a transaction is in the pool or confirmed.
+fn is_sent(x: Slot) -> bool
+    ensures { λ r. ⌜ r ≡ (standing (x .pool) || ltb 0 (x .height)) ⌝ }
+{
+    if 0 < x.pool {
+        return true;
+    }
+    0 < x.height
+}
+
+impl Position {
+    // Whether a party has shared t for the contract.
+    fn marked(self, party: u8, t: usize) -> bool
+        requires { ⌜ t < 32 ⌝ }
+        ensures { λ r. ⌜ r ≡ marked self party t 2 ⌝ }
+    {
+        let x = self.slots[t];
+        x.marked_for(party, 2)
+    }
+
+    // Whether a party's first shares are made: revoke and timeout, of Bob also refund_1 and refund_2.
+    pub fn first_shares_made(self, party: u8) -> bool
+        ensures { λ r. ⌜ r ≡ firstSharesMade self party ⌝ }
+    {
+        if party == 0 {
+            if !self.marked(party, 4) {
+                return false;
+            }
+            return self.marked(party, 6);
+        }
+        if !self.marked(party, 3) {
+            return false;
+        }
+        if !self.marked(party, 4) {
+            return false;
+        }
+        if !self.marked(party, 5) {
+            return false;
+        }
+        self.marked(party, 6)
+    }
+
+    // The phase: by lock_B, lock_A, and the first shares.
+    pub fn phase(self) -> u8
+        ensures { λ r. ⌜ r ≡ phase self ⌝ }
+    {
+        if 0 < self.block_of(1) {
+            return 3;
+        }
+        if 0 < self.block_of(0) {
+            return 2;
+        }
+        if !self.first_shares_made(0) {
+            return 0;
+        }
+        if !self.first_shares_made(1) {
+            return 0;
+        }
+        1
+    }
+
+    // Whether the deadline of success is reached.
+    pub fn late(self, sheet: &[u8], setup: &[u8]) -> bool
+        requires { ⌜ Sized (now sheet) ⌝ }
+        requires { ⌜ length (now setup) ≡ 4 ⌝ }
+        requires { ⌜ 2 < count (now sheet) ⌝ }
+        ensures { λ r. ⌜ r ≡ late (now (sheet .entry)) (now (setup .entry)) self ⌝ }
+    {
+        self.deadline_in(sheet, setup, 2) <= lock_height::wide(self.mined)
+    }
+
+    // What conduct reads off the position.
+    pub fn outlook(self, sheet: &[u8], setup: &[u8], view: View) -> Outlook
+        requires { ⌜ Sized (now sheet) ⌝ }
+        requires { ⌜ length (now setup) ≡ 4 ⌝ }
+        requires { ⌜ Fit (now sheet) (now setup) ⌝ }
+        requires { ⌜ view ≡ viewBelow (count (now sheet)) self ⌝ }
+        ensures { λ r. ⌜ r ≡ outlook (now (sheet .entry)) (now (setup .entry)) self ⌝ }
+    {
+        let way = sheet::setup::conduct(setup);
+        if way == 0 {
+            return Outlook {
+                free: true,
+                careful: false,
+                phase: 0,
+                late: false,
+                refund: false,
+                unshared: false,
+                knows: false,
+                bobhas: 0,
+            };
+        }
+        let success = self.slots[2];
+        let refund = self.slots[3];
+        Outlook {
+            free: false,
+            careful: way == 2,
+            phase: self.phase(),
+            late: self.late(sheet, setup),
+            refund: is_sent(refund),
+            unshared: success.contract == 0,
+            knows: signatures::has(self.alice, 3),
+            bobhas: view.sender(sheet, success, 1, 2),
+        }
+    }
+
+    // Whether a party can send a transaction that pays it.
+    pub fn can_pay(self, sheet: &[u8], setup: &[u8], view: View, o: Outlook, party: u8) -> bool
+        requires { ⌜ Sized (now sheet) ⌝ }
+        requires { ⌜ signatures (now sheet) ≤ 8 ⌝ }
+        requires { ⌜ length (now setup) ≡ 4 ⌝ }
+        requires { ⌜ Fit (now sheet) (now setup) ⌝ }
+        requires { ⌜ view ≡ viewBelow (count (now sheet)) self ⌝ }
+        requires { ⌜ o ≡ outlook (now sheet) (now setup) self ⌝ }
+        requires { ⌜ party < 2 ⌝ }
+        ensures { λ r. ⌜ r ≡ canPay (now (sheet .entry)) (now (setup .entry)) self party ⌝ }
+    {
+        let n = sheet::field::count(sheet);
+        let mut t: usize = 0;
+        while t < n {
+            let x = self.slots[t];
+            let up = parent::slot_above(sheet, t);
+            let above = self.slots[up];
+            let since = parent::block_above(sheet, t, above.height);
+            let allowed = o.send_allowed(sheet, party, t);
+            if sending::pays(sheet, setup, view, allowed, x, since, party, t) {
+                return true;
+            }
+            t += 1;
+        }
+        false
+    }
+
+    // Whether a careful party sends no contract transaction, of which t is one.
+    fn held_back(
+        self,
+        sheet: &[u8],
+        setup: &[u8],
+        view: View,
+        o: Outlook,
+        party: u8,
+        t: usize,
+    ) -> bool
+        requires { ⌜ Sized (now sheet) ⌝ }
+        requires { ⌜ signatures (now sheet) ≤ 8 ⌝ }
+        requires { ⌜ length (now setup) ≡ 4 ⌝ }
+        requires { ⌜ Fit (now sheet) (now setup) ⌝ }
+        requires { ⌜ view ≡ viewBelow (count (now sheet)) self ⌝ }
+        requires { ⌜ o ≡ outlook (now sheet) (now setup) self ⌝ }
+        requires { ⌜ party < 2 ⌝ }
+        requires { ⌜ t < count (now sheet) ⌝ }
+        ensures { λ r. ⌜ r ≡ not (payingFirst (now (sheet .entry)) (now (setup .entry)) self party t) ⌝ }
+    {
+        if !o.careful {
+            return false;
+        }
+        if !party::is_contract(sheet, t) {
+            return false;
+        }
+        self.can_pay(sheet, setup, view, o, party)
+    }
+
+    // Whether conduct allows a party to send t.
+    pub fn may_send(self, sheet: &[u8], setup: &[u8], view: View, party: u8, t: usize) -> bool
+        requires { ⌜ Sized (now sheet) ⌝ }
+        requires { ⌜ signatures (now sheet) ≤ 8 ⌝ }
+        requires { ⌜ length (now setup) ≡ 4 ⌝ }
+        requires { ⌜ Fit (now sheet) (now setup) ⌝ }
+        requires { ⌜ view ≡ viewBelow (count (now sheet)) self ⌝ }
+        requires { ⌜ party < 2 ⌝ }
+        requires { ⌜ t < count (now sheet) ⌝ }
+        ensures { λ r. ⌜ r ≡ (sendAllowed (now (sheet .entry)) (now (setup .entry)) self party t && payingFirst (now (sheet .entry)) (now (setup .entry)) self party t) ⌝ }
+    {
+        let o = self.outlook(sheet, setup, view);
+        if !o.send_allowed(sheet, party, t) {
+            return false;
+        }
+        !self.held_back(sheet, setup, view, o, party, t)
+    }
+}

@@ -1,0 +1,47 @@
+// Whether some bump is owed in a position.
+use crate::Position;
+use steps::View;
+use steps::owed;
+use steps::parent;
+ghost use Prim.Native.Nat.{_<_};
+ghost use mathlib.Core.Path.{_≡_};
+ghost use lib.ListN.{length};
+ghost use Rattle.sheet.specs.Field.{count, Sized};
+ghost use Rattle.position.specs.Owed.{anyOwed, owed};
+ghost use Rattle.position.specs.View.{viewBelow};
+
+impl Position {
+    // Whether a bump of t is owed.
+    pub fn owed(self, sheet: &[u8], setup: &[u8], view: View, t: usize) -> bool
+        requires { ⌜ Sized (now sheet) ⌝ }
+        requires { ⌜ length (now setup) ≡ 4 ⌝ }
+        requires { ⌜ view ≡ viewBelow (count (now sheet)) self ⌝ }
+        requires { ⌜ t < count (now sheet) ⌝ }
+        ensures { λ r. ⌜ r ≡ owed (now (sheet .entry)) (now (setup .entry)) self t ⌝ }
+    {
+        let since = self.block_of(sheet::field::parent(sheet, t));
+        owed::owed_at(sheet, sheet::setup::per_day(setup), view, since, t)
+    }
+
+    // Whether any is.
+    pub fn any_owed(self, sheet: &[u8], setup: &[u8], view: View) -> bool
+        requires { ⌜ Sized (now sheet) ⌝ }
+        requires { ⌜ length (now setup) ≡ 4 ⌝ }
+        requires { ⌜ view ≡ viewBelow (count (now sheet)) self ⌝ }
+        ensures { λ r. ⌜ r ≡ anyOwed (now (sheet .entry)) (now (setup .entry)) self ⌝ }
+    {
+        let n = sheet::field::count(sheet);
+        let per_day = sheet::setup::per_day(setup);
+        let mut t: usize = 0;
+        while t < n {
+            let up = parent::slot_above(sheet, t);
+            let above = self.slots[up];
+            let since = parent::block_above(sheet, t, above.height);
+            if owed::owed_at(sheet, per_day, view, since, t) {
+                return true;
+            }
+            t += 1;
+        }
+        false
+    }
+}

@@ -1,0 +1,51 @@
+-- The last of those below t.
+use Rattle.readings.proofs.Holders.{end-start, end-more, end-done}
+use Rattle.readings.specs.Holder.{endsCoin, payeeBelow, holder, coinEnd}
+use Rattle.laws.specs.Mask.{bit}
+use mathlib.Core.Path.{_≡_}
+use Prim.Native.Nat.{_≤_, _-_}
+use borrow.Author.Needs.{needs}
+use Rattle.readings.proofs.holder.coin_end.Statement.{statement}
+use Rattle.readings.proofs.holder.coin_end.Tie as tie
+
+abbrev Inv-loop : tie.InvT-loop
+Inv-loop sheet confirmed coin n found₀ t₀ found t = (t ≤ n) × (found ≡ payeeBelow t (endsCoin sheet (bit confirmed) coin) (λ k. k))
+
+abbrev μ-loop : tie.MeasureT-loop
+μ-loop sheet confirmed coin n found₀ t₀ found t = n - t
+
+count-requires : tie.Need-count-requires Inv-loop μ-loop
+count-requires c κs = search needs
+
+loop-holds : tie.Need-loop-holds Inv-loop μ-loop
+loop-holds c = (search needs, end-start _)
+
+end-at-requires : tie.Need-end-at-requires Inv-loop μ-loop
+end-at-requires c κs = search needs
+
+add-t : tie.Need-add-t Inv-loop μ-loop
+add-t c = search needs
+
+loop-less : tie.Need-loop-less Inv-loop μ-loop
+loop-less c = search needs
+
+loop-again : tie.Need-loop-again Inv-loop μ-loop
+loop-again c = (search needs, end-more _ _ _ _ (c .before .before .loop .inv .1) (c .end-at .ensures))
+
+returns : tie.Need-returns Inv-loop μ-loop
+unfolding coinEnd holder
+returns c = rw (← (c .before .before .count .ensures .is)) (end-done _ _ _ _ (c .before .loop .inv .0) (c .loop-test .left) (c .before .loop .inv .1))
+
+pub coin-end-spec : {M : Type 1} → statement M
+coin-end-spec =
+    tie.close
+    (tie.spec
+    Inv-loop
+    μ-loop
+    count-requires
+    loop-holds
+    end-at-requires
+    add-t
+    loop-less
+    loop-again
+    returns)

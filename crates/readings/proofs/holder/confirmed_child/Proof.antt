@@ -1,0 +1,59 @@
+-- Some child of t is in the set. None below k is.
+use Rattle.readings.specs.Holder.{confirmedChild}
+use Rattle.laws.specs.Below.{anyBelow, any-start, any-more, any-found, any-done}
+use Rattle.laws.specs.Mask.{bit}
+use Rattle.sheet.specs.Field.{parent}
+use lib.Dec.{eqb}
+use mathlib.Core.Bool.{false, _&&_}
+use mathlib.Core.Path.{_≡_, sym, _∙_}
+use Prim.Native.Nat.{_≤_, _-_}
+use borrow.Author.Needs.{needs}
+use Rattle.readings.proofs.holder.confirmed_child.Statement.{statement}
+use Rattle.readings.proofs.holder.confirmed_child.Tie as tie
+
+abbrev Inv-loop : tie.InvT-loop
+Inv-loop sheet confirmed t n k₀ k = (k ≤ n) × (anyBelow k (λ j. eqb (parent sheet j) t && bit confirmed j) ≡ false)
+
+abbrev μ-loop : tie.MeasureT-loop
+μ-loop sheet confirmed t n k₀ k = n - k
+
+count-requires : tie.Need-count-requires Inv-loop μ-loop
+count-requires c κs = search needs
+
+loop-holds : tie.Need-loop-holds Inv-loop μ-loop
+loop-holds c = (search needs, any-start _)
+
+child-there-requires : tie.Need-child-there-requires Inv-loop μ-loop
+child-there-requires c κs = search needs
+
+returns : tie.Need-returns Inv-loop μ-loop
+unfolding confirmedChild
+returns c = rw (← (c .before .before .before .before .count .ensures .is)) (sym (any-found _ _ _ (c .before .before .loop-test .taken) (sym (c .before .child-there .ensures) ∙ c .if1 .taken)))
+
+add-k : tie.Need-add-k Inv-loop μ-loop
+add-k c = search needs
+
+loop-less : tie.Need-loop-less Inv-loop μ-loop
+loop-less c = search needs
+
+loop-again : tie.Need-loop-again Inv-loop μ-loop
+loop-again c = (search needs, any-more _ _ (c .before .before .before .loop .inv .1) (sym (c .before .child-there .ensures) ∙ c .if1 .left))
+
+returns-2 : tie.Need-returns-2 Inv-loop μ-loop
+unfolding confirmedChild
+returns-2 c = rw (← (c .before .before .count .ensures .is)) (any-done _ _ _ _ (c .before .loop .inv .0) (c .loop-test .left) (c .before .loop .inv .1))
+
+pub confirmed-child-spec : {M : Type 1} → statement M
+confirmed-child-spec =
+    tie.close
+    (tie.spec
+    Inv-loop
+    μ-loop
+    count-requires
+    loop-holds
+    child-there-requires
+    returns
+    add-k
+    loop-less
+    loop-again
+    returns-2)

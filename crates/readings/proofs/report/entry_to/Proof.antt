@@ -1,0 +1,20 @@
+-- One less; 0 stays 0.
+use Rattle.slots.specs.Slot.{entryTo}
+use mathlib.Core.Path.{refl}
+use borrow.Author.Needs.{needs}
+use Rattle.readings.proofs.report.entry_to.Statement.{statement}
+use Rattle.readings.proofs.report.entry_to.Tie as tie
+
+returns : tie.Need-returns
+unfolding entryTo
+returns c = rw (c .if1 .taken)
+
+sub-result : tie.Need-sub-result
+sub-result c = search needs
+
+returns-2 : tie.Need-returns-2
+unfolding entryTo
+returns-2 c = refl
+
+pub entry-to-spec : {M : Type 1} → statement M
+entry-to-spec = tie.close (tie.spec returns sub-result returns-2)

@@ -1,0 +1,20 @@
+-- The confirmation's destination, or 255.
+use Rattle.readings.specs.Report.{payeeIn}
+use Rattle.laws.specs.Booleans.{tests}
+use borrow.Author.Needs.{needs}
+use Rattle.readings.proofs.report.payee_of.Statement.{statement}
+use Rattle.readings.proofs.report.payee_of.Tie as tie
+
+entry-to-requires : tie.Need-entry-to-requires
+entry-to-requires c κs = search needs
+
+returns : tie.Need-returns
+unfolding payeeIn
+returns c = simp (tests, c .before .if1 .taken, ← (c .entry-to .ensures))
+
+returns-2 : tie.Need-returns-2
+unfolding payeeIn
+returns-2 c = simp (tests, c .if1 .left)
+
+pub payee-of-spec : {M : Type 1} → statement M
+payee-of-spec = tie.close (tie.spec entry-to-requires returns returns-2)

@@ -1,0 +1,42 @@
+-- The payee in the row of the transaction that ends the coin.
+use Rattle.readings.proofs.Holders.{held-in, held-by, held-none}
+use Rattle.readings.specs.Reported.{reportedPayee, reportedConfirmed, reportedHolder}
+use denote.Ref.{now}
+use borrow.Author.Needs.{needs}
+use Rattle.readings.proofs.reported.reported_holder.Statement.{statement}
+use Rattle.readings.proofs.reported.reported_holder.Tie as tie
+
+confirmed-set-requires : tie.Need-confirmed-set-requires
+confirmed-set-requires c κs = search needs
+
+coin-end-requires : tie.Need-coin-end-requires
+coin-end-requires c κs = search needs
+
+mul-result : tie.Need-mul-result
+mul-result c = search needs
+
+add-result : tie.Need-add-result
+add-result c = search needs
+
+shared-slice-read-result : tie.Need-shared-slice-read-result
+shared-slice-read-result c = search (needs, held-in (now (c .before .before .before .before .before .before .args .sheet)) (reportedConfirmed (now (c .before .before .before .before .before .before .args .report))) (reportedPayee (now (c .before .before .before .before .before .before .args .report))) (c .before .before .before .before .before .before .args .coin) (c .before .before .before .confirmed-set .result) (c .before .before .coin-end .result) (search needs) (c .before .before .before .confirmed-set .ensures) (c .before .before .coin-end .ensures) (c .before .if1 .taken))
+
+returns : tie.Need-returns
+unfolding reportedHolder reportedPayee
+returns c = held-by (now (c .before .before .before .before .before .before .args .sheet)) (reportedConfirmed (now (c .before .before .before .before .before .before .args .report))) (reportedPayee (now (c .before .before .before .before .before .before .args .report))) (c .before .before .before .before .before .before .args .coin) (c .before .before .before .confirmed-set .result) (c .before .before .coin-end .result) (search needs) (c .before .before .before .confirmed-set .ensures) (c .before .before .coin-end .ensures) (c .before .if1 .taken)
+
+returns-2 : tie.Need-returns-2
+unfolding reportedHolder
+returns-2 c = held-none (now (c .before .before .before .before .before .args .sheet)) (reportedConfirmed (now (c .before .before .before .before .before .args .report))) (reportedPayee (now (c .before .before .before .before .before .args .report))) (c .before .before .before .before .before .args .coin) (c .before .before .confirmed-set .result) (c .before .coin-end .result) (search needs) (c .before .before .confirmed-set .ensures) (c .before .coin-end .ensures) (c .if1 .left)
+
+pub reported-holder-spec : {M : Type 1} → statement M
+reported-holder-spec =
+    tie.close
+    (tie.spec
+    confirmed-set-requires
+    coin-end-requires
+    mul-result
+    add-result
+    shared-slice-read-result
+    returns
+    returns-2)

@@ -1,0 +1,4 @@
+pub mod Holder
+pub mod Reported
+pub mod Report
+pub mod Sight

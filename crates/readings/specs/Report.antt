@@ -1,0 +1,44 @@
+-- The row of a report over a view, the slot x of the transaction and `since`, its parent's block.
+-- Assumes nothing.
+use Prim.Native.Nat.{ℕ, _+_}
+use mathlib.Core.Bool.{Bool, not, _&&_}
+use mathlib.Core.List.{List, _∷_, _++_}
+use lib.Dec.{ltb}
+use Rattle.laws.specs.Booleans.{pick}
+use Rattle.laws.specs.Little.{bytesOf}
+use Rattle.laws.specs.Mask.{bit}
+use Rattle.sheet.specs.LockHeight.{lockHeight}
+use Rattle.slots.specs.declared.Slot.{Slot}
+use Rattle.slots.specs.Slot.{entryTo}
+use Rattle.slots.specs.Ancestry.{inAncestry}
+use Rattle.slots.specs.Deadline.{deadline}
+use Rattle.steps.specs.declared.View.{View}
+use Rattle.readings.specs.declared.Row.{Row}
+
+-- "Dead": where `struck` has those whose other rival is confirmed
+unfoldable pub deadIn : List ℕ → ℕ → ℕ → ℕ → Bool
+deadIn s confirmed struck t = not (bit confirmed t) && inAncestry s (bit struck) t
+
+-- "status (1 pool, 2 block, 4 confirmed, 8 dead, summed)"
+unfoldable pub statusIn : List ℕ → View → ℕ → ℕ → ℕ
+statusIn s v struck t =
+    pick (bit (v .pool) t) 1 0 + pick (bit (v .block) t) 2 0 + pick (bit (v .confirmed) t) 4 0 + pick (deadIn s (v .confirmed) struck t) 8 0
+
+-- "payee (destination, 255 unconfirmed)"
+unfoldable pub payeeIn : Slot → ℕ
+payeeIn x = pick (ltb 0 (x .height)) (entryTo (x .confirmed)) 255
+
+-- the row of t
+unfoldable pub rowIn : List ℕ → ℕ → View → ℕ → Slot → ℕ → ℕ → Row
+rowIn s d v struck x since t =
+    record {
+      block = x .height;
+      lock = lockHeight s d (λ k. since) t;
+      deadline = deadline s d (λ k. since) t;
+      status = statusIn s v struck t;
+      payee = payeeIn x;
+    }
+
+-- "status .., payee .., then three 4-byte values: block or 0, lock height, deadline"
+unfoldable pub rowBytes : Row → List ℕ
+rowBytes r = r .status ∷ r .payee ∷ (bytesOf 4 (r .block) ++ (bytesOf 4 (r .lock) ++ bytesOf 4 (r .deadline)))

@@ -1,0 +1,30 @@
+// What is read off a position, over views, single slots and the sheet: open steps, rows of a report, holders.
+pub mod holder;
+pub mod open;
+pub mod report;
+pub mod reported;
+
+use steps::Outlook;
+use steps::View;
+
+// What is the same for all steps of one actor in a position.
+pub struct Sight {
+    pub view: View,
+    pub outlook: Outlook,
+    // a careful party that can send a transaction that pays it, and so sends no contract transaction
+    pub back: bool,
+    // some bump is owed
+    pub owed: bool,
+    // the actor's first shares are made
+    pub made: bool,
+}
+
+// A transaction's row of a report: its block, 0 while it is unconfirmed, its lock height and deadline, its status and its
+// payee, 255 while it is unconfirmed.
+pub struct Row {
+    pub block: u32,
+    pub lock: u32,
+    pub deadline: u32,
+    pub status: u8,
+    pub payee: u8,
+}

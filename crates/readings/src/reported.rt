@@ -1,0 +1,69 @@
+// What is read from the bytes of a report.
+use crate::holder;
+use slots::set;
+use slots::signatures;
+ghost use Prim.Native.Nat.{_<_, _≤_, _*_};
+ghost use mathlib.Core.Path.{_≡_};
+ghost use lib.ListN.{length};
+ghost use Rattle.laws.specs.Sets.{setBelow};
+ghost use Rattle.sheet.specs.Field.{count, Sized};
+ghost use Rattle.readings.specs.Holder.{isPayout, isPayoutTo};
+ghost use Rattle.readings.specs.Reported.{reportedConfirmed, reportedHolder};
+
+// Whether t is confirmed.
+fn confirmed(report: &[u8], t: usize) -> bool
+    requires { ⌜ t < 32 ⌝ }
+    requires { ⌜ 14 * t < length (now report) ⌝ }
+    ensures { λ r. ⌜ r ≡ reportedConfirmed (now (report .entry)) t ⌝ }
+{
+    signatures::has(report[14 * t], 2)
+}
+
+// The confirmed transactions.
+fn confirmed_set(sheet: &[u8], report: &[u8]) -> u32
+    requires { ⌜ Sized (now sheet) ⌝ }
+    requires { ⌜ 14 * count (now sheet) ≤ length (now report) ⌝ }
+    ensures { λ r. ⌜ r ≡ setBelow (count (now (sheet .entry))) (reportedConfirmed (now (report .entry))) ⌝ }
+{
+    let n = sheet::field::count(sheet);
+    let mut found: u32 = 0;
+    let mut t: usize = 0;
+    while t < n {
+        found = set::join(found, confirmed(report, t), t);
+        t += 1;
+    }
+    found
+}
+
+// The holder of a coin, 255 for nobody.
+pub fn reported_holder(sheet: &[u8], report: &[u8], coin: usize) -> u8
+    requires { ⌜ Sized (now sheet) ⌝ }
+    requires { ⌜ 14 * count (now sheet) ≤ length (now report) ⌝ }
+    ensures { λ r. ⌜ r ≡ reportedHolder (now (sheet .entry)) (now (report .entry)) coin ⌝ }
+{
+    let t = holder::coin_end(sheet, confirmed_set(sheet, report), coin);
+    if t < 32 {
+        return report[14 * t + 1];
+    }
+    255
+}
+
+// Whether a coin is a payout.
+pub fn reported_payout(sheet: &[u8], report: &[u8], coin: usize) -> bool
+    requires { ⌜ Sized (now sheet) ⌝ }
+    requires { ⌜ 14 * count (now sheet) ≤ length (now report) ⌝ }
+    requires { ⌜ coin < count (now sheet) ⌝ }
+    ensures { λ r. ⌜ r ≡ isPayout (now (sheet .entry)) (reportedHolder (now (sheet .entry)) (now (report .entry))) coin ⌝ }
+{
+    holder::payout(sheet, reported_holder(sheet, report, coin), coin)
+}
+
+// Whether a coin is a payout to this party.
+pub fn reported_payout_to(sheet: &[u8], report: &[u8], party: u8, coin: usize) -> bool
+    requires { ⌜ Sized (now sheet) ⌝ }
+    requires { ⌜ 14 * count (now sheet) ≤ length (now report) ⌝ }
+    requires { ⌜ coin < count (now sheet) ⌝ }
+    ensures { λ r. ⌜ r ≡ isPayoutTo (now (sheet .entry)) (reportedHolder (now (sheet .entry)) (now (report .entry))) party coin ⌝ }
+{
+    holder::payout_to(sheet, reported_holder(sheet, report, coin), party, coin)
+}

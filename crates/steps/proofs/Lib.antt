@@ -1,0 +1,3 @@
+pub mod PoolTests
+pub mod Reached
+pub mod RightFields

@@ -1,0 +1,32 @@
+-- Not needed, or not known to Alice, or spend_B.
+use Rattle.laws.specs.Booleans.{tests}
+use Rattle.steps.specs.Conduct.{secretSafeIn}
+use borrow.Author.Tests.{not-true, not-false}
+use borrow.Author.Needs.{needs}
+use Rattle.steps.proofs.Outlook.secret_safe.Statement.{statement}
+use Rattle.steps.proofs.Outlook.secret_safe.Tie as tie
+use Rattle.steps.proofs.Outlook.secret_safe.Reads as reads
+use Rattle.steps.proofs.Outlook.secret_safe.Lts as lts
+use Rattle.sheet.proofs.field.required.Reads as required-reads
+use Rattle.slots.proofs.signatures.has.Reads as has-reads
+
+required-requires : tie.Need-required-requires
+required-requires c κs = search needs
+
+has-requires : tie.Need-has-requires
+has-requires c κs = search needs
+
+returns : tie.Need-returns
+unfolding secretSafeIn
+returns c = rw (← (c .before .before .required .ensures), ← (c .before .has .ensures), not-true (c .before .has .result) (c .if1 .taken))
+
+returns-2 : tie.Need-returns-2
+unfolding secretSafeIn
+returns-2 c = rw (← (c .before .before .before .before .required .ensures), ← (c .before .before .before .has .ensures), not-false (c .before .before .before .has .result) (c .before .before .if1 .left), c .if2 .taken)
+
+returns-3 : tie.Need-returns-3
+unfolding secretSafeIn
+returns-3 c = rw (← (c .before .before .before .before .required .ensures), ← (c .before .before .before .has .ensures), not-false (c .before .before .before .has .result) (c .before .before .if1 .left), c .if2 .left)
+
+pub secret-safe-spec : {M : Type 1} → statement M
+secret-safe-spec = tie.close (tie.spec required-requires has-requires returns returns-2 returns-3)

@@ -1,0 +1,38 @@
+-- Open, or in phase and, if careful, safe.
+use Rattle.laws.specs.Booleans.{tests}
+use Rattle.steps.specs.Conduct.{sendAllowedIn}
+use borrow.Author.Tests.{not-true, not-false}
+use borrow.Author.Needs.{needs}
+use Rattle.steps.proofs.Outlook.send_allowed.Statement.{statement}
+use Rattle.steps.proofs.Outlook.send_allowed.Tie as tie
+use Rattle.steps.proofs.Outlook.send_allowed.Reads as reads
+use Rattle.steps.proofs.Outlook.send_allowed.Lts as lts
+use Rattle.steps.proofs.Outlook.safe_to_send.Reads as safe-to-send-reads
+use Rattle.steps.proofs.conduct.may_send.Reads as may-send-reads
+
+returns : tie.Need-returns
+unfolding sendAllowedIn
+returns c = rw (c .if1 .taken)
+
+may-send-requires : tie.Need-may-send-requires
+may-send-requires c κs = search needs
+
+returns-2 : tie.Need-returns-2
+unfolding sendAllowedIn
+returns-2 c = rw (c .before .before .if1 .left, ← (c .before .may-send .ensures), not-true (c .before .may-send .result) (c .if2 .taken))
+
+returns-3 : tie.Need-returns-3
+unfolding sendAllowedIn
+returns-3 c = rw (c .before .before .before .before .if1 .left, ← (c .before .before .before .may-send .ensures), not-false (c .before .before .before .may-send .result) (c .before .before .if2 .left), c .if3 .taken)
+
+safe-to-send-requires : tie.Need-safe-to-send-requires
+safe-to-send-requires c κs = search needs
+
+returns-4 : tie.Need-returns-4
+unfolding sendAllowedIn
+returns-4 c = rw (c .safe-to-send .ensures, ← (c .before .before .before .before .may-send .ensures), not-false (c .before .before .before .before .may-send .result) (c .before .before .before .if2 .left), c .before .if3 .left, c .before .before .before .before .before .if1 .left)
+
+pub send-allowed-spec : {M : Type 1} → statement M
+send-allowed-spec =
+    tie.close
+    (tie.spec returns may-send-requires returns-2 returns-3 safe-to-send-requires returns-4)

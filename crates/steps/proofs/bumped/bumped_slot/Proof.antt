@@ -1,0 +1,41 @@
+-- In, out, or as it was.
+use Rattle.steps.specs.Blocks.{bumpedSlot}
+use borrow.Author.Needs.{needs}
+use Rattle.steps.proofs.bumped.bumped_slot.Statement.{statement}
+use Rattle.steps.proofs.bumped.bumped_slot.Tie as tie
+
+has-requires : tie.Need-has-requires
+has-requires c κs = search needs
+
+with-block-requires : tie.Need-with-block-requires
+with-block-requires c κs = search needs
+
+returns : tie.Need-returns
+unfolding bumpedSlot
+returns c = rw (← (c .before .before .has .ensures), c .before .if1 .taken) (c .with-block .ensures)
+
+in-ancestry-requires : tie.Need-in-ancestry-requires
+in-ancestry-requires c κs = search needs
+
+with-block-requires-2 : tie.Need-with-block-requires-2
+with-block-requires-2 c κs = search needs
+
+returns-2 : tie.Need-returns-2
+unfolding bumpedSlot
+returns-2 c = rw (← (c .before .before .before .before .has .ensures), c .before .before .before .if1 .left, ← (c .before .before .in-ancestry .ensures), c .before .if2 .taken) (c .with-block2 .ensures)
+
+returns-3 : tie.Need-returns-3
+unfolding bumpedSlot
+returns-3 c = rw (← (c .before .before .before .has .ensures), c .before .before .if1 .left, ← (c .before .in-ancestry .ensures), c .if2 .left)
+
+pub bumped-slot-spec : {M : Type 1} → statement M
+bumped-slot-spec =
+    tie.close
+    (tie.spec
+    has-requires
+    with-block-requires
+    returns
+    in-ancestry-requires
+    with-block-requires-2
+    returns-2
+    returns-3)

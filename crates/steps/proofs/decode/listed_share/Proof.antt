@@ -1,0 +1,24 @@
+-- Below the count, and right for the destination.
+use Rattle.laws.specs.Booleans.{tests}
+use borrow.Author.Needs.{needs}
+use Rattle.steps.proofs.decode.listed_share.Statement.{statement}
+use Rattle.steps.proofs.decode.listed_share.Tie as tie
+
+wide-requires : tie.Need-wide-requires
+wide-requires c κs = search needs
+
+count-requires : tie.Need-count-requires
+count-requires c κs = search needs
+
+shares-to-requires : tie.Need-shares-to-requires
+shares-to-requires c κs = search needs
+
+returns : tie.Need-returns
+returns c = simp (tests, ← (c .before .before .before .wide .ensures .is), ← (c .before .before .count .ensures .is), c .before .if1 .taken, ← (c .shares-to .ensures))
+
+returns-2 : tie.Need-returns-2
+returns-2 c = simp (tests, ← (c .before .before .wide .ensures .is), ← (c .before .count .ensures .is), c .if1 .left)
+
+pub listed-share-spec : {M : Type 1} → statement M
+listed-share-spec =
+    tie.close (tie.spec wide-requires count-requires shares-to-requires returns returns-2)

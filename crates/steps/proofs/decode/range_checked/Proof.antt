@@ -1,0 +1,32 @@
+-- A spelled step with right fields.
+use Rattle.steps.specs.Decode.{rangeChecked}
+use mathlib.Core.Path.{sym, _∙_}
+use borrow.Author.Needs.{needs}
+use Rattle.steps.proofs.decode.range_checked.Statement.{statement}
+use Rattle.steps.proofs.decode.range_checked.Tie as tie
+
+enum-known-read : tie.Need-enum-known-read
+enum-known-read c = search needs
+
+fields-right-requires : tie.Need-fields-right-requires
+fields-right-requires c κs = search needs
+
+enum-told : tie.Need-enum-told
+enum-told c = search needs
+
+returns : tie.Need-returns
+unfolding rangeChecked
+returns c = rw (c .before .before .before .read .given .1, sym (c .before .fields-right .ensures) ∙ c .if1 .taken)
+
+returns-2 : tie.Need-returns-2
+unfolding rangeChecked
+returns-2 c = rw (c .before .before .before .read .given .1, sym (c .before .fields-right .ensures) ∙ c .if1 .left)
+
+returns-3 : tie.Need-returns-3
+unfolding rangeChecked
+returns-3 c = rw (c .enum-told .given .1)
+
+pub range-checked-spec : {M : Type 1} → statement M
+range-checked-spec =
+    tie.close
+    (tie.spec enum-known-read fields-right-requires enum-told returns returns-2 returns-3)

@@ -1,0 +1,43 @@
+-- By the destination.
+use Rattle.steps.specs.Decode.{spelled}
+use Rattle.laws.specs.Booleans.{tests}
+use borrow.Author.Needs.{needs}
+use Rattle.steps.proofs.decode.spelled.Statement.{statement}
+use Rattle.steps.proofs.decode.spelled.Tie as tie
+
+of-kind-requires : tie.Need-of-kind-requires
+of-kind-requires c κs = search needs
+
+of-kind-requires-2 : tie.Need-of-kind-requires-2
+of-kind-requires-2 c κs = search needs
+
+of-kind-requires-3 : tie.Need-of-kind-requires-3
+of-kind-requires-3 c κs = search needs
+
+returns : tie.Need-returns
+unfolding spelled
+returns c = rw (c .before .match .keys1) (c .of-kind .ensures)
+
+returns-2 : tie.Need-returns-2
+unfolding spelled
+returns-2 c = rw (c .before .match .keys2) (c .of-kind2 .ensures)
+
+returns-3 : tie.Need-returns-3
+unfolding spelled
+returns-3 c = rw (c .before .match .keys3) (c .of-kind3 .ensures)
+
+returns-4 : tie.Need-returns-4
+unfolding spelled
+returns-4 c = simp (tests, c .match .rest .1, c .match .rest .0 .1, c .match .rest .0 .0 .1)
+
+pub spelled-spec : {M : Type 1} → statement M
+spelled-spec =
+    tie.close
+    (tie.spec
+    of-kind-requires
+    of-kind-requires-2
+    of-kind-requires-3
+    returns
+    returns-2
+    returns-3
+    returns-4)

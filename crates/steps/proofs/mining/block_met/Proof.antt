@@ -1,0 +1,20 @@
+-- An entry in the block, or transaction 0 confirmed.
+use Rattle.laws.specs.Booleans.{tests}
+use borrow.Author.Needs.{needs}
+use Rattle.steps.proofs.mining.block_met.Statement.{statement}
+use Rattle.steps.proofs.mining.block_met.Tie as tie
+use Rattle.steps.proofs.mining.block_met.Reads as reads
+use Rattle.steps.proofs.mining.block_met.Lts as lts
+use Rattle.slots.proofs.set.has.Reads as has-reads
+
+returns : tie.Need-returns
+returns c = simp (tests, c .if1 .taken)
+
+has-requires : tie.Need-has-requires
+has-requires c κs = search needs
+
+returns-2 : tie.Need-returns-2
+returns-2 c = simp (tests, c .before .if1 .left, c .has .ensures)
+
+pub block-met-spec : {M : Type 1} → statement M
+block-met-spec = tie.close (tie.spec returns has-requires returns-2)

@@ -1,0 +1,20 @@
+-- Owed, or 21.
+use Rattle.steps.specs.Mining.{bumpTestsIn}
+use Rattle.laws.specs.Failing.{none-left, fails, passes}
+use mathlib.Core.Path.{refl}
+use borrow.Author.Needs.{needs}
+use Rattle.steps.proofs.mining.bump_refusal.Statement.{statement}
+use Rattle.steps.proofs.mining.bump_refusal.Tie as tie
+use Rattle.steps.proofs.mining.bump_refusal.Reads as reads
+use Rattle.steps.proofs.mining.bump_refusal.Lts as lts
+
+returns : tie.Need-returns
+unfolding bumpTestsIn
+returns c = fails _ _ _ _ refl (c .if1 .taken)
+
+returns-2 : tie.Need-returns-2
+unfolding bumpTestsIn
+returns-2 c = passes _ _ _ _ _ refl (c .if1 .left) none-left
+
+pub bump-refusal-spec : {M : Type 1} → statement M
+bump-refusal-spec = tie.close (tie.spec returns returns-2)

@@ -1,0 +1,65 @@
+-- The tests in their order.
+use mathlib.Core.Path.{_≡_, sym, _∙_}
+use Rattle.steps.specs.Mining.{includeTestsIn}
+use Rattle.slots.specs.Conflict.{noConflict}
+use Rattle.laws.specs.Failing.{none-left, fails, passes, fails-not, passes-not}
+use mathlib.Core.Path.{refl}
+use borrow.Author.Needs.{needs}
+use Rattle.steps.proofs.mining.include_refusal.Statement.{statement}
+use Rattle.steps.proofs.mining.include_refusal.Tie as tie
+use Rattle.steps.proofs.mining.include_refusal.Reads as reads
+use Rattle.steps.proofs.mining.include_refusal.Lts as lts
+use Rattle.slots.proofs.conflict.conflict_in.Reads as conflict-in-reads
+use Rattle.slots.proofs.set.has.Reads as has-reads
+use Rattle.steps.proofs.View.placed.Reads as placed-reads
+use Rattle.steps.proofs.parent.parent_there.Reads as parent-there-reads
+
+placed-requires : tie.Need-placed-requires
+placed-requires c κs = search needs
+
+conflict-in-requires : tie.Need-conflict-in-requires
+conflict-in-requires c κs = search needs
+
+returns : tie.Need-returns
+unfolding includeTestsIn noConflict
+returns c = rw (← (c .before .before .placed .ensures)) (fails-not _ _ _ _ (c .before .conflict-in .ensures) (c .if1 .taken))
+
+placed-requires-2 : tie.Need-placed-requires-2
+placed-requires-2 c κs = search needs
+
+parent-there-requires : tie.Need-parent-there-requires
+parent-there-requires c κs = search needs
+
+returns-2 : tie.Need-returns-2
+unfolding includeTestsIn noConflict
+returns-2 c = rw (← (c .before .before .before .before .before .placed .ensures)) (passes-not _ _ _ _ _ (c .before .before .before .before .conflict-in .ensures) (c .before .before .before .if1 .left) (rw (c .before .before .before .before .before .placed .ensures, ← (c .before .before .placed2 .ensures)) (fails _ _ _ _ (c .before .parent-there .ensures) (c .if2 .taken))))
+
+has-requires : tie.Need-has-requires
+has-requires c κs = search needs
+
+returns-3 : tie.Need-returns-3
+unfolding includeTestsIn noConflict
+returns-3 c = rw (← (c .before .before .before .before .before .before .before .placed .ensures)) (passes-not _ _ _ _ _ (c .before .before .before .before .before .before .conflict-in .ensures) (c .before .before .before .before .before .if1 .left) (rw (c .before .before .before .before .before .before .before .placed .ensures, ← (c .before .before .before .before .placed2 .ensures)) (passes _ _ _ _ _ (c .before .before .before .parent-there .ensures) (c .before .before .if2 .left) (fails _ _ _ _ (c .before .has .ensures) (c .if3 .taken)))))
+
+returns-4 : tie.Need-returns-4
+unfolding includeTestsIn noConflict
+returns-4 c = rw (← (c .before .before .before .before .before .before .before .before .placed .ensures)) (passes-not _ _ _ _ _ (c .before .before .before .before .before .before .before .conflict-in .ensures) (c .before .before .before .before .before .before .if1 .left) (rw (c .before .before .before .before .before .before .before .before .placed .ensures, ← (c .before .before .before .before .before .placed2 .ensures)) (passes _ _ _ _ _ (c .before .before .before .before .parent-there .ensures) (c .before .before .before .if2 .left) (passes _ _ _ _ _ (c .before .before .has .ensures) (c .before .if3 .left) (fails-not _ _ _ _ refl (c .if4 .taken))))))
+
+returns-5 : tie.Need-returns-5
+unfolding includeTestsIn noConflict
+returns-5 c = rw (← (c .before .before .before .before .before .before .before .before .placed .ensures)) (passes-not _ _ _ _ _ (c .before .before .before .before .before .before .before .conflict-in .ensures) (c .before .before .before .before .before .before .if1 .left) (rw (c .before .before .before .before .before .before .before .before .placed .ensures, ← (c .before .before .before .before .before .placed2 .ensures)) (passes _ _ _ _ _ (c .before .before .before .before .parent-there .ensures) (c .before .before .before .if2 .left) (passes _ _ _ _ _ (c .before .before .has .ensures) (c .before .if3 .left) (passes-not _ _ _ _ _ refl (c .if4 .left) none-left)))))
+
+pub include-refusal-spec : {M : Type 1} → statement M
+include-refusal-spec =
+    tie.close
+    (tie.spec
+    placed-requires
+    conflict-in-requires
+    returns
+    placed-requires-2
+    parent-there-requires
+    returns-2
+    has-requires
+    returns-3
+    returns-4
+    returns-5)

@@ -1,0 +1,38 @@
+-- The tests in their order.
+use borrow.Author.Tests.{le-ltb, lt-ltb}
+use Rattle.sheet.specs.Refusal.{stepBlocks}
+use mathlib.Core.Path.{_≡_}
+use mathlib.Core.List.{[], _∷_}
+use lib.Dec.{ltb}
+use Rattle.steps.specs.Mining.{mineTestsIn}
+use Rattle.laws.specs.Failing.{none-left, fails, passes, fails-not, passes-not, firstFailing}
+use Rattle.laws.specs.Booleans.{tests}
+use mathlib.Core.Path.{refl}
+use borrow.Author.Needs.{needs}
+use Rattle.steps.proofs.mining.mine_refusal.Statement.{statement}
+use Rattle.steps.proofs.mining.mine_refusal.Tie as tie
+use Rattle.steps.proofs.mining.mine_refusal.Reads as reads
+use Rattle.steps.proofs.mining.mine_refusal.Lts as lts
+use Rattle.steps.proofs.mining.block_met.Reads as block-met-reads
+
+returns : tie.Need-returns
+unfolding mineTestsIn
+returns c = fails-not _ _ _ _ refl (c .if1 .taken)
+
+block-met-requires : tie.Need-block-met-requires
+block-met-requires c κs = search needs
+
+returns-2 : tie.Need-returns-2
+unfolding mineTestsIn
+returns-2 c = passes-not _ _ _ _ _ refl (c .before .before .if1 .left) (fails _ _ _ _ (c .before .block-met .ensures) (c .if2 .taken))
+
+returns-3 : tie.Need-returns-3
+unfolding mineTestsIn
+returns-3 c = passes-not _ _ _ _ _ refl (c .before .before .before .before .if1 .left) (passes _ _ _ _ _ (c .before .before .before .block-met .ensures) (c .before .before .if2 .left) (fails stepBlocks (ltb (c .before .before .before .before .before .args .view .mined) 10000) (ltb (c .before .before .before .before .before .args .view .mined) 10000) [] refl (rw (le-ltb _ _ (c .if3 .taken)))))
+
+returns-4 : tie.Need-returns-4
+unfolding mineTestsIn
+returns-4 c = passes-not _ _ _ _ _ refl (c .before .before .before .before .if1 .left) (passes _ _ _ _ _ (c .before .before .before .block-met .ensures) (c .before .before .if2 .left) (passes stepBlocks 0 (ltb (c .before .before .before .before .before .args .view .mined) 10000) (ltb (c .before .before .before .before .before .args .view .mined) 10000) [] refl (rw (lt-ltb _ _ (c .if3 .left))) none-left))
+
+pub mine-refusal-spec : {M : Type 1} → statement M
+mine-refusal-spec = tie.close (tie.spec returns block-met-requires returns-2 returns-3 returns-4)

@@ -1,0 +1,51 @@
+-- Waiting, outside the block, and at its deadline.
+use Rattle.steps.specs.Mining.{owedIn}
+use borrow.Author.Tests.{not-true, not-false}
+use borrow.Author.Needs.{needs}
+use Rattle.steps.proofs.owed.owed_at.Statement.{statement}
+use Rattle.steps.proofs.owed.owed_at.Tie as tie
+use Rattle.steps.proofs.owed.owed_at.Reads as reads
+use Rattle.steps.proofs.owed.owed_at.Lts as lts
+use Rattle.slots.proofs.deadline.deadline.Reads as deadline-reads
+use Rattle.slots.proofs.lock_height.wide.Reads as wide-reads
+use Rattle.slots.proofs.set.has.Reads as has-reads
+
+has-requires : tie.Need-has-requires
+has-requires c κs = search needs
+
+returns : tie.Need-returns
+unfolding owedIn
+returns c = rw (← (c .before .has .ensures), not-true (c .before .has .result) (c .if1 .taken))
+
+has-requires-2 : tie.Need-has-requires-2
+has-requires-2 c κs = search needs
+
+returns-2 : tie.Need-returns-2
+unfolding owedIn
+returns-2 c = rw (← (c .before .before .before .has .ensures), not-false (c .before .before .before .has .result) (c .before .before .if1 .left), ← (c .before .has2 .ensures), c .if2 .taken)
+
+wide-requires : tie.Need-wide-requires
+wide-requires c κs = search needs
+
+add-result : tie.Need-add-result
+add-result c = search needs
+
+deadline-requires : tie.Need-deadline-requires
+deadline-requires c κs = search needs
+
+returns-3 : tie.Need-returns-3
+unfolding owedIn
+returns-3 c = rw (← (c .before .before .before .before .before .has .ensures), not-false (c .before .before .before .before .before .has .result) (c .before .before .before .before .if1 .left), ← (c .before .before .before .has2 .ensures), c .before .before .if2 .left, ← (c .deadline .ensures .is), ← (c .before .wide .ensures .0))
+
+pub owed-at-spec : {M : Type 1} → statement M
+owed-at-spec =
+    tie.close
+    (tie.spec
+    has-requires
+    returns
+    has-requires-2
+    returns-2
+    wide-requires
+    add-result
+    deadline-requires
+    returns-3)

@@ -1,0 +1,23 @@
+-- The height at that place, or 0.
+use Rattle.laws.specs.Booleans.{tests}
+use Rattle.steps.specs.Parent.{blockAbove}
+use borrow.Author.Needs.{needs}
+use Rattle.steps.proofs.parent.block_above.Statement.{statement}
+use Rattle.steps.proofs.parent.block_above.Tie as tie
+use Rattle.steps.proofs.parent.block_above.Reads as reads
+use Rattle.steps.proofs.parent.block_above.Lts as lts
+use Rattle.sheet.proofs.field.parent.Reads as parent-reads
+
+parent-requires : tie.Need-parent-requires
+parent-requires c κs = search needs
+
+returns : tie.Need-returns
+unfolding blockAbove
+returns c = simp (tests, ← (c .before .parent .ensures .is), c .if1 .taken)
+
+returns-2 : tie.Need-returns-2
+unfolding blockAbove
+returns-2 c = simp (tests, ← (c .before .parent .ensures .is), c .if1 .left)
+
+pub block-above-spec : {M : Type 1} → statement M
+block-above-spec = tie.close (tie.spec parent-requires returns returns-2)

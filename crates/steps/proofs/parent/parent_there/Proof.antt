@@ -1,0 +1,37 @@
+-- None to ask for, or a member of the set.
+use Rattle.slots.specs.Ancestry.{hasParent}
+use Rattle.laws.specs.Bits.{bit-above}
+use mathlib.Core.Path.{sym}
+use borrow.Author.Needs.{needs}
+use Rattle.steps.proofs.parent.parent_there.Statement.{statement}
+use Rattle.steps.proofs.parent.parent_there.Tie as tie
+use Rattle.steps.proofs.parent.parent_there.Reads as reads
+use Rattle.steps.proofs.parent.parent_there.Lts as lts
+use Rattle.sheet.proofs.field.opening.Reads as opening-reads
+use Rattle.sheet.proofs.field.parent.Reads as parent-reads
+use Rattle.slots.proofs.set.has.Reads as has-reads
+
+opening-requires : tie.Need-opening-requires
+opening-requires c κs = search needs
+
+returns : tie.Need-returns
+unfolding hasParent
+returns c = rw (← (c .before .opening .ensures), c .if1 .taken)
+
+parent-requires : tie.Need-parent-requires
+parent-requires c κs = search needs
+
+has-requires : tie.Need-has-requires
+has-requires c κs = search needs
+
+returns-2 : tie.Need-returns-2
+unfolding hasParent
+returns-2 c = rw (← (c .before .before .before .before .opening .ensures), c .before .before .before .if1 .left, c .has .ensures, c .before .before .parent .ensures .is)
+
+returns-3 : tie.Need-returns-3
+unfolding hasParent
+returns-3 c = rw (← (c .before .before .before .opening .ensures), c .before .before .if1 .left, ← (c .before .parent .ensures .is)) (sym (bit-above (c .before .before .before .before .before .args .there) 32 (c .before .parent .result) (search needs) (c .if2 .left)))
+
+pub parent-there-spec : {M : Type 1} → statement M
+parent-there-spec =
+    tie.close (tie.spec opening-requires returns parent-requires has-requires returns-2 returns-3)

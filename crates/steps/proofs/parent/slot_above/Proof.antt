@@ -1,0 +1,23 @@
+-- The parent's number, or 0.
+use Rattle.laws.specs.Booleans.{tests}
+use Rattle.steps.specs.Parent.{slotAbove}
+use borrow.Author.Needs.{needs}
+use Rattle.steps.proofs.parent.slot_above.Statement.{statement}
+use Rattle.steps.proofs.parent.slot_above.Tie as tie
+use Rattle.steps.proofs.parent.slot_above.Reads as reads
+use Rattle.steps.proofs.parent.slot_above.Lts as lts
+use Rattle.sheet.proofs.field.parent.Reads as parent-reads
+
+parent-requires : tie.Need-parent-requires
+parent-requires c κs = search needs
+
+returns : tie.Need-returns
+unfolding slotAbove
+returns c = (simp (tests, ← (c .before .parent .ensures .is), c .if1 .taken), search needs)
+
+returns-2 : tie.Need-returns-2
+unfolding slotAbove
+returns-2 c = (simp (tests, ← (c .before .parent .ensures .is), c .if1 .left), search needs)
+
+pub slot-above-spec : {M : Type 1} → statement M
+slot-above-spec = tie.close (tie.spec parent-requires returns returns-2)

@@ -1,0 +1,49 @@
+-- Stealth, then the tests that both kinds share.
+use Rattle.steps.specs.Sending.{minerTestsIn}
+use Rattle.laws.specs.Failing.{firstFailing}
+use Rattle.laws.specs.Booleans.{tests}
+use borrow.Author.Needs.{needs}
+use Rattle.steps.proofs.sending.miner_refusal.Statement.{statement}
+use Rattle.steps.proofs.sending.miner_refusal.Tie as tie
+use Rattle.steps.proofs.sending.miner_refusal.Reads as reads
+use Rattle.steps.proofs.sending.miner_refusal.Lts as lts
+use Rattle.sheet.proofs.setup.per_day.Reads as per-day-reads
+use Rattle.sheet.proofs.setup.stealth.Reads as stealth-reads
+use Rattle.steps.proofs.View.placed.Reads as placed-reads
+use Rattle.steps.proofs.View.sender.Reads as sender-reads
+use Rattle.steps.proofs.sending.send_refusal.Reads as send-refusal-reads
+
+stealth-requires : tie.Need-stealth-requires
+stealth-requires c κs = search needs
+
+returns : tie.Need-returns
+unfolding minerTestsIn firstFailing
+returns c = simp (tests, ← (c .before .stealth .ensures), c .if1 .taken)
+
+sender-requires : tie.Need-sender-requires
+sender-requires c κs = search needs
+
+per-day-requires : tie.Need-per-day-requires
+per-day-requires c κs = search needs
+
+placed-requires : tie.Need-placed-requires
+placed-requires c κs = search needs
+
+send-refusal-requires : tie.Need-send-refusal-requires
+send-refusal-requires c κs = search needs
+
+returns-2 : tie.Need-returns-2
+unfolding minerTestsIn firstFailing
+returns-2 c = simp (tests, ← (c .before .before .before .before .before .stealth .ensures), c .before .before .before .before .if1 .left, c .send-refusal .ensures, c .before .placed .ensures, c .before .before .per-day .ensures, c .before .before .before .sender .ensures)
+
+pub miner-refusal-spec : {M : Type 1} → statement M
+miner-refusal-spec =
+    tie.close
+    (tie.spec
+    stealth-requires
+    returns
+    sender-requires
+    per-day-requires
+    placed-requires
+    send-refusal-requires
+    returns-2)

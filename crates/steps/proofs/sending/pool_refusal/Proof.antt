@@ -1,0 +1,50 @@
+-- The tests that both kinds share, then the deadline.
+use Rattle.steps.proofs.PoolTests.{pool-failed, pool-passed}
+use Rattle.laws.specs.Failing.{none-left, fails, passes}
+use borrow.Author.Needs.{needs}
+use Rattle.steps.proofs.sending.pool_refusal.Statement.{statement}
+use Rattle.steps.proofs.sending.pool_refusal.Tie as tie
+use Rattle.steps.proofs.sending.pool_refusal.Reads as reads
+use Rattle.steps.proofs.sending.pool_refusal.Lts as lts
+use Rattle.sheet.proofs.setup.per_day.Reads as per-day-reads
+use Rattle.steps.proofs.View.sender.Reads as sender-reads
+use Rattle.steps.proofs.View.sent.Reads as sent-reads
+use Rattle.steps.proofs.sending.in_time.Reads as in-time-reads
+use Rattle.steps.proofs.sending.send_refusal.Reads as send-refusal-reads
+
+per-day-requires : tie.Need-per-day-requires
+per-day-requires c κs = search needs
+
+sender-requires : tie.Need-sender-requires
+sender-requires c κs = search needs
+
+sent-requires : tie.Need-sent-requires
+sent-requires c κs = search needs
+
+send-refusal-requires : tie.Need-send-refusal-requires
+send-refusal-requires c κs = search needs
+
+returns : tie.Need-returns
+returns c = pool-failed _ _ _ _ _ _ _ _ _ _ _ _ _ (c .before .before .before .before .per-day .ensures) (c .before .before .sent .ensures) (c .before .before .before .sender .ensures) (c .before .send-refusal .ensures) (c .if1 .taken)
+
+in-time-requires : tie.Need-in-time-requires
+in-time-requires c κs = search needs
+
+returns-2 : tie.Need-returns-2
+returns-2 c = pool-passed _ _ _ _ _ _ _ _ _ _ _ _ _ (c .before .before .before .before .before .before .per-day .ensures) (c .before .before .before .before .sent .ensures) (c .before .before .before .before .before .sender .ensures) (c .before .before .before .send-refusal .ensures) _ (c .before .before .if1 .left) (fails _ _ _ _ (c .before .in-time .ensures) (c .if2 .taken))
+
+returns-3 : tie.Need-returns-3
+returns-3 c = pool-passed _ _ _ _ _ _ _ _ _ _ _ _ _ (c .before .before .before .before .before .before .per-day .ensures) (c .before .before .before .before .sent .ensures) (c .before .before .before .before .before .sender .ensures) (c .before .before .before .send-refusal .ensures) _ (c .before .before .if1 .left) (passes _ _ _ _ _ (c .before .in-time .ensures) (c .if2 .left) none-left)
+
+pub pool-refusal-spec : {M : Type 1} → statement M
+pool-refusal-spec =
+    tie.close
+    (tie.spec
+    per-day-requires
+    sender-requires
+    sent-requires
+    send-refusal-requires
+    returns
+    in-time-requires
+    returns-2
+    returns-3)

@@ -1,0 +1,65 @@
+-- The tests in their order.
+use Rattle.steps.specs.Sending.{sendTestsIn}
+use Rattle.slots.specs.Conflict.{noConflict}
+use Rattle.laws.specs.Failing.{none-left, fails, passes, fails-not, passes-not}
+use mathlib.Core.Path.{refl}
+use borrow.Author.Needs.{needs}
+use Rattle.steps.proofs.sending.send_refusal.Statement.{statement}
+use Rattle.steps.proofs.sending.send_refusal.Tie as tie
+use Rattle.steps.proofs.sending.send_refusal.Reads as reads
+use Rattle.steps.proofs.sending.send_refusal.Lts as lts
+use Rattle.slots.proofs.conflict.conflict_in.Reads as conflict-in-reads
+use Rattle.slots.proofs.signatures.signed.Reads as signed-reads
+use Rattle.steps.proofs.parent.parent_there.Reads as parent-there-reads
+use Rattle.steps.proofs.sending.unlocked.Reads as unlocked-reads
+
+returns : tie.Need-returns
+unfolding sendTestsIn noConflict
+returns c = fails _ _ _ _ refl (c .if1 .taken)
+
+conflict-in-requires : tie.Need-conflict-in-requires
+conflict-in-requires c κs = search needs
+
+returns-2 : tie.Need-returns-2
+unfolding sendTestsIn noConflict
+returns-2 c = passes _ _ _ _ _ refl (c .before .before .if1 .left) (fails-not _ _ _ _ (c .before .conflict-in .ensures) (c .if2 .taken))
+
+parent-there-requires : tie.Need-parent-there-requires
+parent-there-requires c κs = search needs
+
+returns-3 : tie.Need-returns-3
+unfolding sendTestsIn noConflict
+returns-3 c = passes _ _ _ _ _ refl (c .before .before .before .before .if1 .left) (passes-not _ _ _ _ _ (c .before .before .before .conflict-in .ensures) (c .before .before .if2 .left) (fails _ _ _ _ (c .before .parent-there .ensures) (c .if3 .taken)))
+
+signed-requires : tie.Need-signed-requires
+signed-requires c κs = search needs
+
+returns-4 : tie.Need-returns-4
+unfolding sendTestsIn noConflict
+returns-4 c = passes _ _ _ _ _ refl (c .before .before .before .before .before .before .if1 .left) (passes-not _ _ _ _ _ (c .before .before .before .before .before .conflict-in .ensures) (c .before .before .before .before .if2 .left) (passes _ _ _ _ _ (c .before .before .before .parent-there .ensures) (c .before .before .if3 .left) (fails _ _ _ _ (c .before .signed .ensures) (c .if4 .taken))))
+
+unlocked-requires : tie.Need-unlocked-requires
+unlocked-requires c κs = search needs
+
+returns-5 : tie.Need-returns-5
+unfolding sendTestsIn noConflict
+returns-5 c = passes _ _ _ _ _ refl (c .before .before .before .before .before .before .before .before .if1 .left) (passes-not _ _ _ _ _ (c .before .before .before .before .before .before .before .conflict-in .ensures) (c .before .before .before .before .before .before .if2 .left) (passes _ _ _ _ _ (c .before .before .before .before .before .parent-there .ensures) (c .before .before .before .before .if3 .left) (passes _ _ _ _ _ (c .before .before .before .signed .ensures) (c .before .before .if4 .left) (fails _ _ _ _ (c .before .unlocked .ensures) (c .if5 .taken)))))
+
+returns-6 : tie.Need-returns-6
+unfolding sendTestsIn noConflict
+returns-6 c = passes _ _ _ _ _ refl (c .before .before .before .before .before .before .before .before .if1 .left) (passes-not _ _ _ _ _ (c .before .before .before .before .before .before .before .conflict-in .ensures) (c .before .before .before .before .before .before .if2 .left) (passes _ _ _ _ _ (c .before .before .before .before .before .parent-there .ensures) (c .before .before .before .before .if3 .left) (passes _ _ _ _ _ (c .before .before .before .signed .ensures) (c .before .before .if4 .left) (passes _ _ _ _ _ (c .before .unlocked .ensures) (c .if5 .left) none-left))))
+
+pub send-refusal-spec : {M : Type 1} → statement M
+send-refusal-spec =
+    tie.close
+    (tie.spec
+    returns
+    conflict-in-requires
+    returns-2
+    parent-there-requires
+    returns-3
+    signed-requires
+    returns-4
+    unlocked-requires
+    returns-5
+    returns-6)

@@ -1,0 +1,26 @@
+-- New, and not empty.
+use Rattle.steps.specs.Sharing.{shareMetIn}
+use borrow.Author.Needs.{needs}
+use Rattle.steps.proofs.sharing.share_met.Statement.{statement}
+use Rattle.steps.proofs.sharing.share_met.Tie as tie
+use Rattle.steps.proofs.sharing.share_met.Reads as reads
+use Rattle.steps.proofs.sharing.share_met.Lts as lts
+use Rattle.slots.proofs.Slot.marked_for.Reads as marked-for-reads
+use Rattle.slots.proofs.signatures.share_mask.Reads as share-mask-reads
+
+marked-for-requires : tie.Need-marked-for-requires
+marked-for-requires c κs = search needs
+
+returns : tie.Need-returns
+unfolding shareMetIn
+returns c = rw (← (c .before .marked-for .ensures), c .if1 .taken)
+
+share-mask-requires : tie.Need-share-mask-requires
+share-mask-requires c κs = search needs
+
+returns-2 : tie.Need-returns-2
+unfolding shareMetIn
+returns-2 c = rw (← (c .before .before .marked-for .ensures), c .before .if1 .left, c .share-mask .ensures)
+
+pub share-met-spec : {M : Type 1} → statement M
+share-met-spec = tie.close (tie.spec marked-for-requires returns share-mask-requires returns-2)

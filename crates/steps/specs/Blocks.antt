@@ -1,0 +1,38 @@
+-- A mined block and a bump over sets: what they make of a slot, where `leaving` has those with a rival in the block or among those that
+-- enter.
+-- Assumes nothing.
+use Prim.Native.Nat.{ℕ}
+use mathlib.Core.Bool.{Bool, not, _&&_}
+use mathlib.Core.List.{List}
+use Rattle.laws.specs.Booleans.{pick}
+use Rattle.laws.specs.Mask.{bit}
+use Rattle.slots.specs.declared.Slot.{Slot}
+use Rattle.slots.specs.Slot.{standing, entryTo, withPool, withBlock, withConfirmed, withShared}
+use Rattle.slots.specs.Ancestry.{inAncestry}
+use Rattle.slots.specs.Signatures.{exposedMask}
+use Rattle.steps.specs.declared.View.{View}
+use Rattle.steps.specs.declared.Change.{Change}
+
+-- "the block is confirmed and its entries shared as in 3": a block entry is confirmed in block b, and out of the block being filled
+unfoldable pub confirmEntry : List ℕ → ℕ → ℕ → Slot → Slot
+confirmEntry s b t x =
+    pick (standing (x .block))
+    (withBlock 0 (withConfirmed (x .block) b (withShared (entryTo (x .block)) (exposedMask s t) x)))
+    x
+
+-- confirmed in block b if it was in the block, out of the pool if its line meets the set
+unfoldable pub minedSlot : List ℕ → ℕ → ℕ → ℕ → Slot → Slot
+minedSlot s b leaving t x = pick (inAncestry s (bit leaving) t) (withPool 0 (confirmEntry s b t x)) (confirmEntry s b t x)
+
+-- into the block if it enters, out of it if its line meets the set
+unfoldable pub bumpedSlot : List ℕ → ℕ → ℕ → ℕ → Slot → Slot
+bumpedSlot s entering leaving t x =
+    pick (bit entering t) (withBlock (x .pool) x) (pick (inAncestry s (bit leaving) t) (withBlock 0 x) x)
+
+-- one of the two
+unfoldable pub changedSlot : List ℕ → Change → ℕ → Slot → Slot
+changedSlot s c t x = pick (c .mine) (minedSlot s (c .block) (c .leaving) t x) (bumpedSlot s (c .entering) (c .leaving) t x)
+
+-- k waits outside the block and is of a line
+unfoldable pub entersIn : View → ℕ → ℕ → Bool
+entersIn v line k = bit (v .pool) k && (not (bit (v .block) k) && bit line k)

@@ -1,0 +1,9 @@
+pub mod Decode
+pub mod Names
+pub mod View
+pub mod Parent
+pub mod Blocks
+pub mod Conduct
+pub mod Sending
+pub mod Sharing
+pub mod Mining

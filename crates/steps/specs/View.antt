@@ -1,0 +1,43 @@
+-- What the tests read off a view of a position.
+-- Assumes nothing.
+use Prim.Native.Nat.{ℕ}
+use mathlib.Core.List.{List}
+use lib.Bits.{bitAnd, bitOr}
+use lib.Dec.{eqb, ltb}
+use Rattle.laws.specs.Booleans.{pick}
+use Rattle.laws.specs.Sets.{joined}
+use Rattle.sheet.specs.Field.{secrets}
+use Rattle.slots.specs.declared.Slot.{Slot}
+use Rattle.slots.specs.Destination.{alice}
+use Rattle.slots.specs.Slot.{standing, sharedFor, sharedAny}
+use Rattle.slots.specs.Signatures.{senderMask}
+use Rattle.steps.specs.declared.View.{View}
+
+-- with transaction k, whose slot is x
+unfoldable pub viewWith : View → ℕ → Slot → View
+viewWith v k x =
+    record {
+      pool = joined (v .pool) (standing (x .pool)) k;
+      block = joined (v .block) (standing (x .block)) k;
+      confirmed = joined (v .confirmed) (ltb 0 (x .height)) k;
+      mined = v .mined;
+      shared = bitOr (v .shared) (sharedAny x);
+      alice = v .alice;
+      bob = v .bob;
+    }
+
+-- "in pool or confirmed"
+unfoldable pub sentSet : View → ℕ
+sentSet v = bitOr (v .pool) (v .confirmed)
+
+-- "confirmed or in the block"
+unfoldable pub placedSet : View → ℕ
+placedSet v = bitOr (v .block) (v .confirmed)
+
+-- "each party's keys held"
+unfoldable pub keysIn : View → ℕ → ℕ
+keysIn v party = pick (eqb party alice) (v .alice) (v .bob)
+
+-- what a sender has of a transaction whose slot is x
+unfoldable pub senderIn : List ℕ → View → Slot → ℕ → ℕ → ℕ
+senderIn s v x party destination = senderMask (keysIn v party) (bitAnd (secrets s) (v .shared)) (sharedFor x destination)

@@ -1,0 +1,80 @@
+// The steps as bytes, and what each kind of step reads and changes: over the sheet, a view of the position and single slots.
+ghost use Prim.Native.Nat.{_<_};
+ghost use mathlib.Core.Path.{_≡_};
+ghost use Rattle.steps.specs.View.{viewWith};
+
+pub mod blocks;
+pub mod bumped;
+pub mod conduct;
+pub mod decode;
+pub mod mined;
+pub mod mining;
+pub mod owed;
+pub mod parent;
+pub mod sending;
+pub mod sharing;
+
+use slots::Slot;
+use slots::Step;
+
+// Four bytes read as a step, or refused as one: 11.
+pub enum Decoded {
+    Read(Step),
+    Refused,
+}
+
+// What the tests read off a position, once for each step: the transactions in the pool, in the block being filled and
+// confirmed, as masks; the signatures shared of any; the blocks mined; the keys held.
+pub struct View {
+    pub pool: u32,
+    pub block: u32,
+    pub confirmed: u32,
+    pub mined: u16,
+    pub shared: u8,
+    pub alice: u8,
+    pub bob: u8,
+}
+
+// What conduct reads off a position, once for each step.
+pub struct Outlook {
+    // open conduct: nothing below is asked for
+    pub free: bool,
+    pub careful: bool,
+    pub phase: u8,
+    pub late: bool,
+    // refund_1 is in the pool or confirmed
+    pub refund: bool,
+    // success has no shared entry
+    pub unshared: bool,
+    // Alice holds secretBob
+    pub knows: bool,
+    // what Bob has for success
+    pub bobhas: u8,
+}
+
+// A change of the slots of all transactions: a mined block, with its number and those with a rival in it; or a bump, with
+// those that enter the block and those with a rival among them.
+pub struct Change {
+    pub mine: bool,
+    pub block: u16,
+    pub entering: u32,
+    pub leaving: u32,
+}
+
+impl View {
+    // A view with one transaction more.
+    pub fn add(self, k: usize, x: Slot) -> View
+        requires { ⌜ k < 32 ⌝ }
+        ensures { λ r. ⌜ r ≡ viewWith self k x ⌝ }
+    {
+        View {
+            pool: slots::set::join(self.pool, 0 < x.pool, k),
+            block: slots::set::join(self.block, 0 < x.block, k),
+            confirmed: slots::set::join(self.confirmed, 0 < x.height, k),
+            mined: self.mined,
+            shared: self.shared | x.shared_any(),
+            alice: self.alice,
+            bob: self.bob,
+        }
+    }
+}

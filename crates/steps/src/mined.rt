@@ -1,0 +1,37 @@
+// What a mined block makes of a slot: kind 6.
+use slots::Slot;
+use slots::ancestry;
+use slots::signatures;
+ghost use Prim.Native.Nat.{_<_};
+ghost use mathlib.Core.Path.{_≡_};
+ghost use Rattle.sheet.specs.Field.{count, Sized};
+ghost use Rattle.steps.specs.Blocks.{confirmEntry, minedSlot};
+
+// A block entry is confirmed, and what it exposes is shared.
+fn confirm_entry(sheet: &[u8], block: u16, t: usize, x: Slot) -> Slot
+    requires { ⌜ Sized (now sheet) ⌝ }
+    requires { ⌜ t < count (now sheet) ⌝ }
+    ensures { λ r. ⌜ r ≡ confirmEntry (now (sheet .entry)) block t x ⌝ }
+{
+    let entry = x.block;
+    if entry == 0 {
+        return x;
+    }
+    let mask = signatures::exposed_mask(sheet, t);
+    let shared = x.with_shared(entry - 1, mask);
+    let confirmed = shared.with_confirmed(entry, block);
+    confirmed.with_block(0)
+}
+
+// What a mined block makes of one slot.
+pub fn mined_slot(sheet: &[u8], block: u16, leaving: u32, t: usize, x: Slot) -> Slot
+    requires { ⌜ Sized (now sheet) ⌝ }
+    requires { ⌜ t < count (now sheet) ⌝ }
+    ensures { λ r. ⌜ r ≡ minedSlot (now (sheet .entry)) block leaving t x ⌝ }
+{
+    let y = confirm_entry(sheet, block, t, x);
+    if ancestry::in_ancestry(sheet, leaving, t) {
+        return y.with_pool(0);
+    }
+    y
+}

@@ -1,0 +1,207 @@
+// The tests of kinds 3 and 4, over a view, the slot x of the transaction and `since`, its parent's block.
+use crate::View;
+use crate::parent;
+use sheet::refusal;
+use slots::Slot;
+use slots::conflict;
+use slots::deadline;
+use slots::lock_height;
+use slots::party;
+use slots::signatures;
+ghost use Prim.Native.Nat.{_<_, _≤_};
+ghost use mathlib.Core.Path.{_≡_};
+ghost use lib.Dec.{ltb, leb};
+ghost use lib.ListN.{length};
+ghost use Rattle.laws.specs.Failing.{firstFailing};
+ghost use Rattle.sheet.specs.Field.{count, signatures, Sized};
+ghost use Rattle.sheet.specs.LockHeight.{lockHeight};
+ghost use Rattle.slots.specs.Deadline.{deadline};
+ghost use Rattle.steps.specs.View.{sentSet, placedSet, keysIn, senderIn};
+ghost use Rattle.steps.specs.Sending.{sendTestsIn, poolTestsIn, minerTestsIn, paysIn};
+
+impl View {
+    // The transactions in the pool or confirmed.
+    pub fn sent(self) -> u32
+        ensures { λ r. ⌜ r ≡ sentSet self ⌝ }
+    {
+        self.pool | self.confirmed
+    }
+
+    // The transactions in the block or confirmed.
+    pub fn placed(self) -> u32
+        ensures { λ r. ⌜ r ≡ placedSet self ⌝ }
+    {
+        self.block | self.confirmed
+    }
+
+    // The keys that a party holds.
+    pub fn keys(self, party: u8) -> u8
+        ensures { λ r. ⌜ r ≡ keysIn self party ⌝ }
+    {
+        if party == 0 {
+            return self.alice;
+        }
+        self.bob
+    }
+
+    // What a sender has of a transaction whose slot is x.
+    pub fn sender(self, sheet: &[u8], x: Slot, party: u8, destination: u8) -> u8
+        requires { ⌜ Sized (now sheet) ⌝ }
+        ensures { λ r. ⌜ r ≡ senderIn (now (sheet .entry)) self x party destination ⌝ }
+    {
+        let secrets = sheet::field::secrets(sheet) & self.shared;
+        signatures::sender_mask(self.keys(party), secrets, x.shared_for(destination))
+    }
+}
+
+// Whether the lock of t is reached: it lies below the next block.
+fn unlocked(sheet: &[u8], per_day: u16, since: u16, mined: u16, t: usize) -> bool
+    requires { ⌜ Sized (now sheet) ⌝ }
+    requires { ⌜ t < count (now sheet) ⌝ }
+    ensures { λ r. ⌜ r ≡ leb (lockHeight (now (sheet .entry)) «per_day» (λ k. since) t) mined ⌝ }
+{
+    lock_height::lock_height(sheet, per_day, since, t) < lock_height::wide(mined) + 1
+}
+
+// Whether the deadline of t is ahead.
+fn in_time(sheet: &[u8], per_day: u16, since: u16, mined: u16, t: usize) -> bool
+    requires { ⌜ Sized (now sheet) ⌝ }
+    requires { ⌜ t < count (now sheet) ⌝ }
+    ensures { λ r. ⌜ r ≡ ltb mined (deadline (now (sheet .entry)) «per_day» (λ k. since) t) ⌝ }
+{
+    lock_height::wide(mined) < deadline::deadline(sheet, per_day, since, t)
+}
+
+// The first that fails of the tests that kinds 3 and 4 share.
+fn send_refusal(
+    sheet: &[u8],
+    per_day: u16,
+    allowed: bool,
+    there: u32,
+    have: u8,
+    since: u16,
+    mined: u16,
+    t: usize,
+) -> u32
+    requires { ⌜ Sized (now sheet) ⌝ }
+    requires { ⌜ signatures (now sheet) ≤ 8 ⌝ }
+    requires { ⌜ t < count (now sheet) ⌝ }
+    ensures { λ r. ⌜ r ≡ firstFailing (sendTestsIn allowed (now (sheet .entry)) «per_day» there have since mined t) ⌝ }
+{
+    if !allowed {
+        return refusal::STEP_CONDUCT;
+    }
+    if conflict::conflict_in(sheet, there, t) {
+        return refusal::STEP_CONFLICT;
+    }
+    if !parent::parent_there(sheet, there, t) {
+        return refusal::STEP_PARENT;
+    }
+    if !signatures::signed(sheet, have, t) {
+        return refusal::STEP_SIGNATURES;
+    }
+    if !unlocked(sheet, per_day, since, mined, t) {
+        return refusal::STEP_LOCK;
+    }
+    refusal::ACCEPTED
+}
+
+// The first test of kind 3 that fails, 0 where none does.
+pub fn pool_refusal(
+    sheet: &[u8],
+    setup: &[u8],
+    view: View,
+    allowed: bool,
+    x: Slot,
+    since: u16,
+    party: u8,
+    t: usize,
+    destination: u8,
+) -> u32
+    requires { ⌜ Sized (now sheet) ⌝ }
+    requires { ⌜ signatures (now sheet) ≤ 8 ⌝ }
+    requires { ⌜ length (now setup) ≡ 4 ⌝ }
+    requires { ⌜ t < count (now sheet) ⌝ }
+    ensures { λ r. ⌜ r ≡ firstFailing (poolTestsIn allowed (now (sheet .entry)) (now (setup .entry)) view x since party t destination) ⌝ }
+{
+    let per_day = sheet::setup::per_day(setup);
+    let have = view.sender(sheet, x, party, destination);
+    let first = send_refusal(
+        sheet,
+        per_day,
+        allowed,
+        view.sent(),
+        have,
+        since,
+        view.mined,
+        t,
+    );
+    if first != 0 {
+        return first;
+    }
+    if !in_time(sheet, per_day, since, view.mined, t) {
+        return refusal::STEP_DEADLINE;
+    }
+    refusal::ACCEPTED
+}
+
+// The first test of kind 4 that fails, 0 where none does.
+pub fn miner_refusal(
+    sheet: &[u8],
+    setup: &[u8],
+    view: View,
+    allowed: bool,
+    x: Slot,
+    since: u16,
+    party: u8,
+    t: usize,
+    destination: u8,
+) -> u32
+    requires { ⌜ Sized (now sheet) ⌝ }
+    requires { ⌜ signatures (now sheet) ≤ 8 ⌝ }
+    requires { ⌜ length (now setup) ≡ 4 ⌝ }
+    requires { ⌜ t < count (now sheet) ⌝ }
+    ensures { λ r. ⌜ r ≡ firstFailing (minerTestsIn allowed (now (sheet .entry)) (now (setup .entry)) view x since party t destination) ⌝ }
+{
+    if sheet::setup::stealth(setup) != 1 {
+        return refusal::STEP_STEALTH;
+    }
+    let have = view.sender(sheet, x, party, destination);
+    send_refusal(
+        sheet,
+        sheet::setup::per_day(setup),
+        allowed,
+        view.placed(),
+        have,
+        since,
+        view.mined,
+        t,
+    )
+}
+
+// Whether t pays the party and can be sent by it, by kind 3 or by kind 4.
+pub fn pays(
+    sheet: &[u8],
+    setup: &[u8],
+    view: View,
+    allowed: bool,
+    x: Slot,
+    since: u16,
+    party: u8,
+    t: usize,
+) -> bool
+    requires { ⌜ Sized (now sheet) ⌝ }
+    requires { ⌜ signatures (now sheet) ≤ 8 ⌝ }
+    requires { ⌜ length (now setup) ≡ 4 ⌝ }
+    requires { ⌜ t < count (now sheet) ⌝ }
+    requires { ⌜ party < 2 ⌝ }
+    ensures { λ r. ⌜ r ≡ paysIn allowed (now (sheet .entry)) (now (setup .entry)) view x since party t ⌝ }
+{
+    if !party::is_payee(sheet, t, party) {
+        return false;
+    }
+    if pool_refusal(sheet, setup, view, allowed, x, since, party, t, party) == 0 {
+        return true;
+    }
+    miner_refusal(sheet, setup, view, allowed, x, since, party, t, party) == 0
+}

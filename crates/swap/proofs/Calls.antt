@@ -1,0 +1,85 @@
+-- The checks before any step, one after another, and what they give where none fails.
+-- Assumes nothing.
+use Prim.Native.Nat.{ℕ, _%_, _≤_}
+use mathlib.Core.Path.{_≡_, refl, sym, _∙_}
+use mathlib.Core.Bool.{Bool, true, false, not}
+use mathlib.Core.List.{List, [], _∷_, _++_}
+use lib.Dec.{eqb, leb}
+use lib.ListN.{length}
+use borrow.Author.Tests.{eqb-true, eqb-false, leb-true}
+use Rattle.laws.specs.Booleans.{split, and-parts}
+use Rattle.laws.specs.Failing.{firstFailing, numbered, passed, passed-append, failed-append, fails, passes, none-left}
+use Rattle.sheet.specs.Refusal.{journalLength}
+use Rattle.sheet.specs.Check.{arrayTests, sheetTests, sheetRefusal}
+use Rattle.sheet.specs.Setup.{setupTests, setupRefusal}
+use Rattle.position.specs.Fit.{Fit}
+use Rattle.position.specs.Play.{journalRight, callTests}
+use Rattle.position.proofs.Fits.{fit}
+use Rattle.sheet.proofs.Theorems.{setup-checked}
+
+-- a list whose answer is 0 has a front whose answer is 0
+front-passes : (a b : List (ℕ × Bool)) → firstFailing (a ++ b) ≡ 0 → firstFailing a ≡ 0
+front-passes a b h =
+    split (eqb (firstFailing a) 0)
+    (λ e. eqb-true (firstFailing a) 0 e)
+    (λ e. sym (failed-append a b (eqb-false (firstFailing a) 0 e)) ∙ h)
+
+module _ (s u j : List ℕ) where
+  abbrev journalTests : List (ℕ × Bool)
+  journalTests = (journalLength, journalRight j) ∷ []
+
+  sheet-numbered : numbered (sheetTests s) ≡ true
+  unfolding sheetTests arrayTests
+  sheet-numbered = refl
+
+  setup-numbered : numbered (setupTests s u) ≡ true
+  unfolding setupTests
+  setup-numbered = refl
+
+  after-sheet : sheetRefusal s ≡ 0 → firstFailing (callTests s u j) ≡ firstFailing (setupTests s u ++ journalTests)
+  unfolding sheetRefusal callTests
+  after-sheet h = passed-append (sheetTests s) (setupTests s u ++ journalTests) sheet-numbered h
+
+  after-setup : sheetRefusal s ≡ 0 → setupRefusal s u ≡ 0 → firstFailing (callTests s u j) ≡ firstFailing journalTests
+  unfolding setupRefusal
+  after-setup h k = after-sheet h ∙ passed-append (setupTests s u) journalTests setup-numbered k
+
+  -- the returns of the code, where a and b are what it found of the sheet and of the setup
+  pub by-sheet : (a : ℕ) → a ≡ sheetRefusal s → (a ≡ 0 → ⊥) → a ≡ firstFailing (callTests s u j)
+  unfolding sheetRefusal callTests
+  by-sheet a e n = e ∙ sym (failed-append (sheetTests s) (setupTests s u ++ journalTests) (λ z. n (e ∙ z)))
+
+  pub by-setup : (a b : ℕ) → a ≡ sheetRefusal s → a ≡ 0 → b ≡ setupRefusal s u → (b ≡ 0 → ⊥) → b ≡ firstFailing (callTests s u j)
+  unfolding setupRefusal
+  by-setup a b e z f n = f ∙ sym (failed-append (setupTests s u) journalTests (λ y. n (f ∙ y))) ∙ sym (after-sheet (sym e ∙ z))
+
+  pub by-journal : (a b : ℕ) (r : Bool) → a ≡ sheetRefusal s → a ≡ 0 → b ≡ setupRefusal s u → b ≡ 0 → r ≡ journalRight j → not r ≡ true → 24 ≡ firstFailing (callTests s u j)
+  by-journal a b r e z f y g n = fails 24 (journalRight j) r [] g n ∙ sym (after-setup (sym e ∙ z) (sym f ∙ y))
+
+  pub by-none : (a b : ℕ) (r : Bool) → a ≡ sheetRefusal s → a ≡ 0 → b ≡ setupRefusal s u → b ≡ 0 → r ≡ journalRight j → not r ≡ false → 0 ≡ firstFailing (callTests s u j)
+  by-none a b r e z f y g n = passes 24 0 (journalRight j) r [] g n none-left ∙ sym (after-setup (sym e ∙ z) (sym f ∙ y))
+
+  module _ (h : firstFailing (callTests s u j) ≡ 0) where
+    pub sheet-passes : sheetRefusal s ≡ 0
+    unfolding sheetRefusal callTests
+    sheet-passes = front-passes (sheetTests s) (setupTests s u ++ journalTests) h
+
+    pub setup-passes : setupRefusal s u ≡ 0
+    unfolding setupRefusal
+    setup-passes = front-passes (setupTests s u) journalTests (sym (after-sheet sheet-passes) ∙ h)
+
+    journal-passes : journalRight j ≡ true
+    journal-passes = passed journalTests refl (sym (after-setup sheet-passes setup-passes) ∙ h) 24
+
+    -- the journal has whole steps, and not too many
+    pub journal-whole : (length j % 4 ≡ 0) × (length j ≤ 65536)
+    unfolding journalRight
+    journal-whole =
+        let w = and-parts (eqb (length j % 4) 0) (leb (length j) 65536) journal-passes in
+        (eqb-true (length j % 4) 0 (w .0), leb-true (length j) 65536 (w .1))
+
+    pub call-fit : Fit s u
+    call-fit = fit s u sheet-passes setup-passes
+
+    pub setup-size : length u ≡ 4
+    setup-size = setup-checked s u setup-passes .size

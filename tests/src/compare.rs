@@ -1,0 +1,347 @@
+//! The built library held to the model: cases through all four calls, and positions with the steps that could come next.
+
+use crate::engine;
+use crate::model::journal::Course;
+use crate::model::setup::{Conduct, Setup};
+use crate::model::sheet::{self, Sheet};
+use crate::model::{calls, claims, open, report, step};
+use crate::random::{self, Case, Manner, Random};
+use std::collections::BTreeSet;
+use std::fmt;
+
+/// The bytes on either side of a lent buffer.
+const GUARD: usize = 17;
+/// Accepted steps up to which every open step is tried; after more of them, one is.
+const SHORT: usize = 200;
+/// The most steps that are tried of those that get 11.
+const TRIES: usize = 6;
+/// The most blocks of one turn.
+const LEAP: usize = 2_100;
+
+/// Sheet, setup and journal, as bytes.
+struct Inputs<'a> {
+    sheet: &'a [u8],
+    setup: &'a [u8],
+    journal: &'a [u8],
+}
+
+/// The bytes in hexadecimal digits.
+impl fmt::Debug for Inputs<'_> {
+    fn fmt(&self, to: &mut fmt::Formatter) -> fmt::Result {
+        let hex = |bytes: &[u8]| bytes.iter().map(|b| format!("{b:02x}")).collect::<String>();
+        let (sheet, setup, journal) = (hex(self.sheet), hex(self.setup), hex(self.journal));
+        write!(to, "sheet {sheet} setup {setup} journal {journal}")
+    }
+}
+
+/// The four calls.
+#[derive(Clone, Copy, Debug)]
+enum Call {
+    Check,
+    Run,
+    List,
+    Report,
+}
+
+impl<'a> Inputs<'a> {
+    fn of((sheet, setup, journal): &'a Case) -> Inputs<'a> {
+        Inputs {
+            sheet,
+            setup,
+            journal,
+        }
+    }
+
+    /// The library's answer; check and run use no buffer.
+    fn engine(&self, call: Call, output: &mut [u8]) -> u32 {
+        match call {
+            Call::Check => engine::check(self.sheet),
+            Call::Run => engine::run(self.sheet, self.setup, self.journal),
+            Call::List => engine::list(self.sheet, self.setup, self.journal, output),
+            Call::Report => engine::report(self.sheet, self.setup, self.journal, output),
+        }
+    }
+
+    /// The model's answer.
+    fn model(&self, call: Call, output: &mut [u8]) -> u32 {
+        match call {
+            Call::Check => calls::check_number(self.sheet),
+            Call::Run => calls::run_number(self.sheet, self.setup, self.journal),
+            Call::List => calls::list_number(self.sheet, self.setup, self.journal, output),
+            Call::Report => calls::report_number(self.sheet, self.setup, self.journal, output),
+        }
+    }
+
+    /// The bytes that list or report has to write; 16 where it is refused.
+    fn needed(&self, call: Call) -> usize {
+        let bytes = match call {
+            Call::List => {
+                calls::open_steps(self.sheet, self.setup, self.journal).map(|steps| 4 * steps.len())
+            }
+            _ => calls::report_bytes(self.sheet, self.setup, self.journal).map(|rows| rows.len()),
+        };
+        bytes.unwrap_or(16)
+    }
+}
+
+/// Lengths of a buffer: exact, one short, one more, long, empty.
+fn lengths(exact: usize) -> [usize; 5] {
+    [exact, exact.saturating_sub(1), exact + 1, exact + 40, 0]
+}
+
+/// A valid sheet and setup: their bytes, and what these stand for.
+pub struct Game {
+    bytes: (Vec<u8>, Vec<u8>),
+    pub sheet: Sheet,
+    pub setup: Setup,
+}
+
+impl Game {
+    pub fn new(bytes: (Vec<u8>, Vec<u8>)) -> Game {
+        let (sheet, setup) = random::read(&bytes.0, &bytes.1);
+        Game {
+            bytes,
+            sheet,
+            setup,
+        }
+    }
+
+    /// The SASwap sheet with a setup.
+    pub fn saswap(blocks_per_day: u16, conduct: u8, stealth: u8) -> Game {
+        let [low, high] = blocks_per_day.to_le_bytes();
+        let setup = vec![low, high, conduct, stealth];
+        Game::new((sheet::saswap(blocks_per_day), setup))
+    }
+
+    /// The case of these steps.
+    pub fn case(&self, steps: &[[u8; 4]]) -> Case {
+        let (sheet, setup) = self.bytes.clone();
+        (sheet, setup, steps.concat())
+    }
+
+    fn inputs<'a>(&'a self, journal: &'a [u8]) -> Inputs<'a> {
+        Inputs {
+            sheet: &self.bytes.0,
+            setup: &self.bytes.1,
+            journal,
+        }
+    }
+}
+
+/// What was compared, all of it equal.
+#[derive(Clone, Debug, Default)]
+pub struct Tally {
+    /// Journals put to the calls, and walks.
+    pub journals: usize,
+    /// Positions whose open steps and report were compared.
+    pub positions: usize,
+    /// Steps whose acceptance or refusal was compared, each in its place.
+    pub steps: usize,
+    /// The accepted ones of those that were tried next in a position, by kind.
+    pub accepted: [usize; 7],
+    /// The answers of check, run, list and report by refusal.
+    pub answers: [[usize; 26]; 4],
+}
+
+/// Counts that are all zero are left out.
+impl fmt::Display for Tally {
+    fn fmt(&self, to: &mut fmt::Formatter) -> fmt::Result {
+        let (journals, positions, steps) = (self.journals, self.positions, self.steps);
+        write!(
+            to,
+            "{journals} journals, {positions} positions, {steps} steps compared"
+        )?;
+        let [check, run, list, report] = &self.answers;
+        let rows: [(&str, &[usize]); 5] = [
+            ("open steps tried, by kind 1 to 7", &self.accepted),
+            ("check, by refusal 0 to 25", check),
+            ("run, by refusal 0 to 25", run),
+            ("list, by refusal 0 to 25", list),
+            ("report, by refusal 0 to 25", report),
+        ];
+        for (name, counts) in rows {
+            if counts.iter().any(|&count| count > 0) {
+                write!(to, "\n{name}: {counts:?}")?;
+            }
+        }
+        Ok(())
+    }
+}
+
+impl Tally {
+    /// One call with a buffer of so many bytes, filled at random, against an answer of the model's.
+    fn compare(
+        &mut self,
+        random: &mut Random,
+        call: Call,
+        length: usize,
+        inputs: &Inputs,
+        model: impl Fn(&mut [u8]) -> u32,
+    ) -> u32 {
+        let mut buffer = random.bytes(GUARD + length + GUARD);
+        let mut modelled = buffer.clone();
+        let answer = inputs.engine(call, &mut buffer[GUARD..GUARD + length]);
+        let expected = model(&mut modelled[GUARD..GUARD + length]);
+        assert_eq!(answer, expected, "{call:?}, {length} bytes, of {inputs:?}");
+        assert_eq!(buffer, modelled, "{call:?}, {length} bytes, of {inputs:?}");
+        self.answers[call as usize][(answer >> 16) as usize] += 1;
+        answer
+    }
+
+    /// One call, against the model's.
+    fn call(&mut self, random: &mut Random, call: Call, length: usize, inputs: &Inputs) -> u32 {
+        self.compare(random, call, length, inputs, |out| inputs.model(call, out))
+    }
+
+    /// One case through check and run.
+    pub fn run(&mut self, random: &mut Random, case: &Case) {
+        let inputs = Inputs::of(case);
+        self.call(random, Call::Check, 0, &inputs);
+        let run = self.call(random, Call::Run, 0, &inputs);
+        let refused_step = (11..=23).contains(&(run >> 16));
+        self.steps += (run & 0xffff) as usize + usize::from(refused_step);
+        self.journals += 1;
+    }
+
+    /// One case through all four calls, with buffers of each length.
+    pub fn case(&mut self, random: &mut Random, case: &Case) {
+        self.run(random, case);
+        let inputs = Inputs::of(case);
+        for call in [Call::List, Call::Report] {
+            for length in lengths(inputs.needed(call)) {
+                self.call(random, call, length, &inputs);
+            }
+        }
+    }
+
+    /// One position: list and report, each with an exact buffer and with another, then steps that could come next: all
+    /// open ones and so many of those that get each refusal. After a long journal one of each is tried.
+    pub fn position(&mut self, random: &mut Random, game: &Game, course: &Course, tries: usize) {
+        let journal = course.accepted.concat();
+        let inputs = game.inputs(&journal);
+        let open = open::steps(&game.sheet, &game.setup, &course.position);
+        let rows = report::bytes(&game.sheet, &game.setup, &course.position);
+        assert!(open.len() <= most_open(&game.sheet), "{inputs:?}");
+        let expected = |call, output: &mut [u8]| match call {
+            Call::List => calls::list_answer(output, &open),
+            _ => calls::report_answer(output, &rows),
+        };
+        for (call, needed) in [(Call::List, 4 * open.len()), (Call::Report, rows.len())] {
+            for length in [needed, random.pick(&lengths(needed))] {
+                self.compare(random, call, length, &inputs, |out| expected(call, out));
+            }
+        }
+        assert_claims(game, course, &rows);
+        self.positions += 1;
+        self.next_steps(random, game, course, tries);
+    }
+
+    /// Steps that could come next, each in a run of its own.
+    fn next_steps(&mut self, random: &mut Random, game: &Game, course: &Course, tries: usize) {
+        let (sheet, setup, position) = (&game.sheet, &game.setup, &course.position);
+        let long = course.accepted.len() > SHORT;
+        let mut tried = Vec::new();
+        for (number, steps) in random::by_refusal(sheet, setup, position) {
+            if number == 0 && !long {
+                tried.extend(strange(random, sheet, &steps));
+            }
+            let most = match number {
+                _ if long => 1,
+                0 => steps.len(),
+                11 => tries.min(TRIES),
+                _ => tries,
+            };
+            tried.extend(some(random, steps, most));
+        }
+        for step in tried {
+            self.next_step(random, game, course, &step);
+        }
+    }
+
+    /// After a position every step with its fields in range, and every step that differs from one of these in one byte.
+    pub fn bytes_of_steps(&mut self, random: &mut Random, game: &Game, course: &Course) {
+        let mut in_range = random::by_refusal(&game.sheet, &game.setup, &course.position);
+        in_range.remove(&11);
+        let places = || (0..4).flat_map(|place| (0..=255).map(move |value| (place, value)));
+        let around = |step: [u8; 4]| {
+            places().map(move |(place, value)| {
+                let mut changed = step;
+                changed[place] = value;
+                changed
+            })
+        };
+        let steps = in_range.into_values().flatten().flat_map(around);
+        for step in steps.collect::<BTreeSet<_>>() {
+            self.next_step(random, game, course, &step);
+        }
+    }
+
+    /// One more step.
+    fn next_step(&mut self, random: &mut Random, game: &Game, course: &Course, step: &[u8; 4]) {
+        let number = step::refusal(&game.sheet, &game.setup, &course.position, step);
+        let journal = [&course.accepted[..], &[*step]].concat().concat();
+        let accepted = usize::from(number == 0);
+        let count = course.accepted.len() + accepted;
+        self.compare(random, Call::Run, 0, &game.inputs(&journal), |_| {
+            calls::number(number, count)
+        });
+        self.steps += 1;
+        self.accepted[usize::from(step[0].clamp(1, 7)) - 1] += accepted;
+    }
+
+    /// A walk of so many turns over open steps, with each position that it comes to.
+    pub fn walk(&mut self, random: &mut Random, game: &Game, manner: Manner, turns: usize) {
+        let manner = Manner { wrong: 0, ..manner };
+        let mut course = Course::fresh(&game.sheet);
+        self.position(random, game, &course, 2);
+        for _ in 0..turns {
+            let before = course.accepted.len();
+            random::more(random, &game.sheet, &game.setup, &mut course, &manner, LEAP);
+            if course.accepted.len() > before {
+                self.position(random, game, &course, 2);
+            }
+        }
+        self.journals += 1;
+    }
+}
+
+/// The most open steps of a sheet: 8 of each transaction, and a gift of each signature but one.
+fn most_open(sheet: &Sheet) -> usize {
+    8 * usize::from(sheet.count()) + usize::from(sheet.signatures) - 1
+}
+
+/// Demand 3 in one position: the ledger agrees with it and with its report; under careful conduct a secret is kept and
+/// nobody is paid from two coins.
+fn assert_claims(game: &Game, course: &Course, report: &[u8]) {
+    let (sheet, setup, position) = (&game.sheet, &game.setup, &course.position);
+    let accepted = &course.accepted;
+    let agrees = claims::ledger_agrees(sheet, setup, course, report);
+    assert!(agrees, "ledger after {accepted:?}");
+    if setup.conduct == Conduct::Careful {
+        let out = claims::both_secrets_out(sheet, position);
+        assert!(!out, "both secrets out after {accepted:?}");
+        let twice = claims::paid_twice(sheet, position);
+        assert!(!twice, "one party paid twice after {accepted:?}");
+    }
+}
+
+/// So many of the steps at random, or all where they are no more.
+fn some(random: &mut Random, mut steps: Vec<[u8; 4]>, most: usize) -> Vec<[u8; 4]> {
+    match steps.len() <= most {
+        true => steps,
+        false => (0..most)
+            .map(|_| steps.swap_remove(random.below(steps.len())))
+            .collect(),
+    }
+}
+
+/// Mostly wrong steps: open ones with a byte changed, one not far from the ranges, and any four bytes.
+fn strange(random: &mut Random, sheet: &Sheet, open: &[[u8; 4]]) -> Vec<[u8; 4]> {
+    let mut steps = some(random, open.to_vec(), TRIES);
+    for step in &mut steps {
+        random::damage_bytes(random, step, 1);
+    }
+    steps.push(random::near_step(random, sheet));
+    steps.push(std::array::from_fn(|_| random.byte()));
+    steps
+}

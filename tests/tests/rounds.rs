@@ -1,0 +1,24 @@
+//! The built library against the model in many rounds of walks and cases, with fixed seeds. The example `compare` goes on
+//! with any seed.
+
+use swap_tests::rounds;
+
+/// Half of the rounds; each half has every refusal and every kind of step.
+fn half(first: usize) {
+    let tally = rounds::rounds(1, first..first + 512);
+    println!("{tally}");
+    assert!(tally.steps >= 500_000);
+    assert!(tally.accepted.iter().all(|&count| count > 0));
+    let refused = |number: usize| tally.answers.iter().map(|by| by[number]).sum::<usize>();
+    assert!((1..=25).all(|number| refused(number) > 0));
+}
+
+#[test]
+fn first_half() {
+    half(0);
+}
+
+#[test]
+fn second_half() {
+    half(512);
+}
