@@ -58,6 +58,10 @@ enum swap_refusal {
 /* Bytes that are enough for every list: a transaction has at most 8 open steps, a signature 1, and 1 mines a block. */
 #define SWAP_LIST_SIZE (4 * (8 * 32 + 8 + 1))
 
+/* The bytes of a report: a row for each transaction, and 32 rows at most. */
+#define SWAP_REPORT_ROW 14
+#define SWAP_REPORT_SIZE (SWAP_REPORT_ROW * 32)
+
 /*
  * Checks a contract sheet. Refusals 1 to 8; the count is 0.
  */
@@ -85,6 +89,24 @@ uint32_t swap_list(const uint8_t *sheet, size_t sheet_length,
                    const uint8_t *setup, size_t setup_length,
                    const uint8_t *journal, size_t journal_length,
                    uint8_t *output, size_t output_length);
+
+/*
+ * Reports the position after a journal: 14 bytes (SWAP_REPORT_ROW) for each transaction, in the sheet's order. Refusals
+ * 1 to 24 are the journal's; the count is 0.
+ *
+ *   byte 0          status: 1 in the pool, 2 in the block being filled, 4 confirmed, 8 dead, summed
+ *   byte 1          payee: 0 Alice, 1 Bob, 2 contract, 255 unconfirmed
+ *   bytes 2 to 5    block in which it is confirmed, or 0
+ *   bytes 6 to 9    lock height
+ *   bytes 10 to 13  deadline
+ *
+ * A height of 2,147,483,647 is "never". The output takes up 14n bytes, 448 (SWAP_REPORT_SIZE) at most. Refusal 25 says
+ * that the buffer is shorter than that. Bytes after the output keep their values, and under a refusal all bytes do.
+ */
+uint32_t swap_report(const uint8_t *sheet, size_t sheet_length,
+                     const uint8_t *setup, size_t setup_length,
+                     const uint8_t *journal, size_t journal_length,
+                     uint8_t *output, size_t output_length);
 
 #ifdef __cplusplus
 }

@@ -10,11 +10,10 @@ use lib.Dec.{eqb, leb, lit<}
 use lib.ListN.{length, getD, take}
 use borrow.Author.Tests.{eq-eqb, ne-eqb, eqb-true, leb-true}
 use Rattle.laws.specs.Booleans.{pick, split}
-use Rattle.laws.specs.Gather.{gather, length-gather, gather-at}
-use Rattle.laws.specs.Little.{bytesOf}
+use Rattle.laws.specs.Gather.{gather, gather-at}
 use Rattle.laws.specs.Mask.{bit}
-use Rattle.laws.specs.Over.{over, take-over}
-use Rattle.sheet.specs.Refusal.{accepted, bufferShort}
+use Rattle.laws.specs.Over.{take-over}
+use Rattle.sheet.specs.Refusal.{accepted}
 use Rattle.sheet.specs.Field.{count}
 use Rattle.slots.specs.Invalidated.{invalidated}
 use Rattle.position.specs.declared.Position.{Position}
@@ -23,7 +22,9 @@ use Rattle.position.specs.Position.{inPool, inBlock, isConfirmed}
 use Rattle.position.specs.Play.{run}
 use Rattle.readings.specs.Reported.{rowWidth, reportedStatus, reportedPayee, reportedConfirmed}
 use Rattle.position.specs.Report.{status, payee, row, reportBytes}
-use Rattle.position.specs.Answers.{fitted, passOn, reportAnswer}
+use Rattle.position.specs.Answers.{passOn, reportAnswer}
+use Rattle.position.proofs.ReportLengths.{row-length, report-length}
+use Rattle.position.proofs.Passing.{passed-on, not-passed-on, written, not-written}
 
 low : (b : Bool) (n : ℕ) → pick b n 0 ≤ n
 low true n = omega arith
@@ -38,59 +39,35 @@ confirmed-bit a b false true = ne-eqb ((pick a 1 0 + pick b 2 0 + 0 + 8) / 4 % 2
 confirmed-bit a b false false = ne-eqb ((pick a 1 0 + pick b 2 0 + 0 + 0) / 4 % 2) 1 (λ e. omega (arith, low a 1, low b 2))
 
 module _ (s u : List ℕ) (p : Position) where
-  row-length : (t : ℕ) → length (row s u p t) ≡ rowWidth
-  unfolding row bytesOf
-  row-length t = refl
-
-  pub report-length : length (reportBytes s u p) ≡ rowWidth * count s
-  unfolding reportBytes
-  report-length = length-gather (row s u p) rowWidth row-length (count s)
-
   status-read : (t : ℕ) → t < count s → reportedStatus (reportBytes s u p) t ≡ status s p t
   unfolding reportedStatus reportBytes row
   status-read t l =
       ap (λ i. getD (gather (count s) (row s u p)) i 0) (sym (add-zero (rowWidth * t)))
-      ∙ gather-at (row s u p) rowWidth row-length (count s) t 0 0 l (lit< tt)
+      ∙ gather-at (row s u p) rowWidth (row-length s u p) (count s) t 0 0 l (lit< tt)
 
   pub payee-read : (t : ℕ) → t < count s → reportedPayee (reportBytes s u p) t ≡ payee p t
   unfolding reportedPayee reportBytes row
-  payee-read t l = gather-at (row s u p) rowWidth row-length (count s) t 1 0 l (lit< tt)
+  payee-read t l = gather-at (row s u p) rowWidth (row-length s u p) (count s) t 1 0 l (lit< tt)
 
   pub confirmed-read : (t : ℕ) → t < count s → reportedConfirmed (reportBytes s u p) t ≡ isConfirmed p t
   unfolding reportedConfirmed status
   confirmed-read t l =
       rw (status-read t l) (confirmed-bit (inPool p t) (inBlock p t) (isConfirmed p t) (invalidated s (isConfirmed p) t))
 
--- a call that writes: refused with the run, or fitted into the buffer
+-- a call that writes and answers 0: its run was not refused, and its bytes are in the buffer
 module _ (r : Ran) (bytes out : List ℕ) (n : ℕ) where
-  passed-on : eqb (r .refusal) accepted ≡ true → passOn r bytes n out ≡ fitted bytes n out
-  unfolding passOn
-  passed-on h = rw (h, passOn)
-
-  not-passed-on : eqb (r .refusal) accepted ≡ false → passOn r bytes n out .refusal ≡ r .refusal
-  unfolding passOn
-  not-passed-on h = rw (h, passOn)
-
-  written : leb (length bytes) (length out) ≡ true → fitted bytes n out .buffer ≡ over bytes out
-  unfolding fitted
-  written h = rw (h, fitted)
-
-  not-written : leb (length bytes) (length out) ≡ false → fitted bytes n out .refusal ≡ bufferShort
-  unfolding fitted
-  not-written h = rw (h, fitted)
-
   pub answer-run : passOn r bytes n out .refusal ≡ accepted → r .refusal ≡ accepted
   answer-run e =
       split (eqb (r .refusal) accepted)
       (λ y. eqb-true (r .refusal) accepted y)
-      (λ y. sym (not-passed-on y) ∙ e)
+      (λ y. rw (not-passed-on r bytes out n y) at e)
 
   pub answer-buffer : passOn r bytes n out .refusal ≡ accepted → take (length bytes) (passOn r bytes n out .buffer) ≡ bytes
   answer-buffer e =
-      let q = passed-on (eq-eqb (r .refusal) accepted (answer-run e)) in
+      let q = passed-on r bytes out n (eq-eqb (r .refusal) accepted (answer-run e)) in
       split (leb (length bytes) (length out))
-      (λ y. rw (q, written y) (take-over bytes out (leb-true (length bytes) (length out) y)))
-      (λ y. let z = sym (not-written y) ∙ rw q at e in absurd (omega arith))
+      (λ y. rw (q, written bytes out n y) (take-over bytes out (leb-true (length bytes) (length out) y)))
+      (λ y. let z = rw (q, not-written bytes out n y) at e in absurd (omega (arith, z)))
 
 -- a report that answers 0: its run was not refused, and the buffer afterwards starts with its bytes
 module _ (s u j out : List ℕ) (e : reportAnswer s u j out .refusal ≡ accepted) where

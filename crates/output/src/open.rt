@@ -35,8 +35,8 @@ fn has(mask: u32, i: usize) -> bool
     (mask >> i) & 1 == 1
 }
 
-// One step's bytes, if it is open.
-fn write_step(on: bool, kind: u8, actor: u8, t: u8, d: u8, out: &mut [u8]) -> usize
+// One step's bytes, where it is on.
+pub fn write_step(on: bool, kind: u8, actor: u8, t: u8, d: u8, out: &mut [u8]) -> usize
     requires { ⌜ length (emitted on kind actor t d) ≤ length (now out) ⌝ }
     ensures { λ r. ⌜ r ≡ length (emitted on kind actor t d) ⌝ }
     ensures { λ _. ⌜ now (out .exit) ≡ over (emitted on kind actor t d) (now (out .entry)) ⌝ }

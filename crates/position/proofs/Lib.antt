@@ -10,7 +10,5 @@ pub mod Fields
 pub mod Outlooks
 pub mod ShareTests
 pub mod SharedNone
-pub mod ReportRows
-pub mod OpenBytes
-pub mod OpenSteps
-pub mod OpenReach
+pub mod ReportLengths
+pub mod Passing

@@ -14,4 +14,3 @@ pub mod Holder
 pub mod Answers
 pub mod Printed
 pub mod View
-pub mod OpenSets

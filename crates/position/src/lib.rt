@@ -8,9 +8,7 @@ mod bumped;
 mod conduct;
 pub mod effect;
 pub mod height;
-pub mod holder;
 mod mined;
-pub mod open;
 mod owed;
 mod refusal;
 pub mod step;
@@ -39,13 +37,6 @@ pub struct Ran {
     pub refusal: u32,
     pub accepted: u32,
     pub position: Position,
-}
-
-// An actor's open steps: at place 3 * k + d the set of kind k + 1 and destination d, bit t for transaction byte t; in `last` bit
-// 3 * k + d for transaction byte 255.
-pub struct OpenSets {
-    pub below: [u32; 21],
-    pub last: u32,
 }
 
 impl Position {

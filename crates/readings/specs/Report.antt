@@ -2,10 +2,9 @@
 -- Assumes nothing.
 use Prim.Native.Nat.{ℕ, _+_}
 use mathlib.Core.Bool.{Bool, not, _&&_}
-use mathlib.Core.List.{List, _∷_, _++_}
+use mathlib.Core.List.{List}
 use lib.Dec.{ltb}
 use Rattle.laws.specs.Booleans.{pick}
-use Rattle.laws.specs.Little.{bytesOf}
 use Rattle.laws.specs.Mask.{bit}
 use Rattle.sheet.specs.LockHeight.{lockHeight}
 use Rattle.slots.specs.declared.Slot.{Slot}
@@ -38,7 +37,3 @@ rowIn s d v struck x since t =
       status = statusIn s v struck t;
       payee = payeeIn x;
     }
-
--- "status .., payee .., then three 4-byte values: block or 0, lock height, deadline"
-unfoldable pub rowBytes : Row → List ℕ
-rowBytes r = r .status ∷ r .payee ∷ (bytesOf 4 (r .block) ++ (bytesOf 4 (r .lock) ++ bytesOf 4 (r .deadline)))

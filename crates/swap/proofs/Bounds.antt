@@ -27,7 +27,7 @@ use Rattle.swap.proofs.Calls.{journal-whole}
 use Rattle.swap.proofs.Runs.{run-next, run-stops, run-ends, run-allowed, run-refused}
 
 -- a journal has four bytes for each step
-steps-bytes : (j : List ℕ) → 4 * length (journalSteps j) ≤ length j
+pub steps-bytes : (j : List ℕ) → 4 * length (journalSteps j) ≤ length j
 unfolding journalSteps
 steps-bytes [] = lit≤ tt
 steps-bytes (k ∷ []) = lit≤ tt

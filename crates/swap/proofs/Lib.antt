@@ -2,3 +2,4 @@ pub mod Calls
 pub mod Runs
 pub mod Bounds
 pub mod Lists
+pub mod Reports

@@ -14,14 +14,14 @@ use Rattle.laws.specs.Over.{over}
 use Rattle.slots.specs.Destination.{alice, bob, miner}
 use Rattle.output.specs.Emitted.{actorBytes, openCount}
 use Rattle.output.proofs.Lengths.{length-actor, count-bound}
-use Rattle.position.specs.declared.OpenSets.{OpenSets}
+use Rattle.queries.specs.declared.OpenSets.{OpenSets}
 use Rattle.position.specs.declared.Position.{Position}
 use Rattle.position.specs.declared.Ran.{Ran}
 use Rattle.position.specs.Play.{callTests, run}
 use Rattle.position.specs.Open.{openSteps, listBytes}
-use Rattle.position.specs.OpenSets.{belowSets, lastSet, openSets}
+use Rattle.queries.specs.OpenSets.{belowSets, lastSet, openSets}
 use Rattle.position.specs.Answers.{Written, fitted, passOn, listAnswer}
-use Rattle.position.proofs.OpenBytes.{list-bytes, list-length, sets-open}
+use Rattle.queries.proofs.OpenBytes.{list-bytes, list-length, sets-open}
 use Rattle.swap.specs.SetsBytes.{laterBytes, setsBytes, setsCount}
 use Rattle.swap.proofs.Runs.{run-refused}
 use Rattle.swap.proofs.Bounds.{run-bounds}

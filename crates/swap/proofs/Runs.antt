@@ -31,7 +31,7 @@ four-bytes j i h =
     ∙ ap (λ r. byte j i ∷ byte j (i + 1) ∷ byte j (i + 2) ∷ r) (one-byte j (i + 3) (i + 4) (omega arith) (omega arith))
 
 -- a journal from place i on: the step there, and the journal from the next on
-next-step : (j : List ℕ) (i : ℕ) → i + 4 ≤ length j → journalSteps (drop i j) ≡ stepAt j i ∷ journalSteps (drop (i + 4) j)
+pub next-step : (j : List ℕ) (i : ℕ) → i + 4 ≤ length j → journalSteps (drop i j) ≡ stepAt j i ∷ journalSteps (drop (i + 4) j)
 unfolding journalSteps stepAt
 next-step j i h = rw (four-bytes j i h)
 

@@ -9,6 +9,7 @@ ghost use mathlib.Core.Path.{_≡_};
 ghost use lib.ListN.{length};
 ghost use Rattle.laws.specs.Failing.{firstFailing};
 ghost use Rattle.sheet.specs.Field.{byte};
+ghost use Rattle.position.specs.Fit.{Fit};
 ghost use Rattle.position.specs.Position.{start};
 ghost use Rattle.position.specs.Play.{journalSteps, step, runFrom, journalRight, callTests, run};
 ghost use Rattle.swap.specs.Journal.{stepAt};
@@ -24,7 +25,7 @@ fn byte_or_zero(bytes: &[u8], i: usize) -> u8
 }
 
 // The empty journal's position: the masks held at the start, and nothing else.
-fn start(sheet: &[u8]) -> Position
+pub fn start(sheet: &[u8]) -> Position
     ensures { λ r. ⌜ r ≡ start (now (sheet .entry)) ⌝ }
 {
     let empty = Slot {
@@ -74,9 +75,10 @@ fn call_refusal(sheet: &[u8], setup: &[u8], journal: &[u8]) -> u32
     refusal::ACCEPTED
 }
 
-// The step that starts at byte i of the journal.
-fn step_at(position: Position, sheet: &[u8], setup: &[u8], journal: &[u8], i: usize) -> Stepped
-    requires { ⌜ firstFailing (callTests (now sheet) (now setup) (now journal)) ≡ 0 ⌝ }
+// The step that starts at byte i of any bytes.
+pub fn step_at(position: Position, sheet: &[u8], setup: &[u8], journal: &[u8], i: usize) -> Stepped
+    requires { ⌜ length (now setup) ≡ 4 ⌝ }
+    requires { ⌜ Fit (now sheet) (now setup) ⌝ }
     requires { ⌜ i + 4 ≤ length (now journal) ⌝ }
     ensures { λ r. ⌜ r ≡ step (now (sheet .entry)) (now (setup .entry)) position (stepAt (now (journal .entry)) i) ⌝ }
 {

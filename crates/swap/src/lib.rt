@@ -4,8 +4,9 @@ ghost use Rattle.sheet.specs.Check.{sheetRefusal};
 ghost use Rattle.position.specs.Play.{run};
 ghost use Rattle.position.specs.Answers.{packed, runPart, listAnswer};
 
-mod journal;
+pub mod journal;
 mod listing;
+pub mod report;
 
 // The answer of a list: the refusal, and the steps written.
 pub struct Listed {

@@ -1,8 +1,8 @@
 // The open steps of a position, written actor by actor.
 use crate::Listed;
 use output::open;
-use position::OpenSets;
 use position::Position;
+use queries::OpenSets;
 use sheet::refusal;
 ghost use Prim.Native.Nat.{_≤_};
 ghost use mathlib.Core.Path.{_≡_};
@@ -91,8 +91,8 @@ pub fn write_list(position: Position, sheet: &[u8], setup: &[u8], out: &mut [u8]
     let view = position.view(sheet);
     let o = position.outlook(sheet, setup, view);
     let owed = position.any_owed(sheet, setup, view);
-    let alice = position.open_sets(sheet, setup, view, o, owed, 0);
-    let bob = position.open_sets(sheet, setup, view, o, owed, 1);
-    let miner = position.open_sets(sheet, setup, view, o, owed, 2);
+    let alice = queries::open::open_sets(position, sheet, setup, view, o, owed, 0);
+    let bob = queries::open::open_sets(position, sheet, setup, view, o, owed, 1);
+    let miner = queries::open::open_sets(position, sheet, setup, view, o, owed, 2);
     write_fitting(alice, bob, miner, out)
 }

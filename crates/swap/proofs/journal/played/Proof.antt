@@ -4,7 +4,7 @@ use native.Mathlib.Omega.{arith}
 use mathlib.Core.Path.{_≡_}
 use Rattle.position.specs.Position.{start}
 use Rattle.swap.proofs.Runs.{leftFrom, left-on, left-stopped, left-ended}
-use Rattle.swap.proofs.Calls.{journal-whole}
+use Rattle.swap.proofs.Calls.{journal-whole, call-fit, setup-size}
 use borrow.Author.Needs.{needs}
 use Rattle.swap.proofs.journal.played.Statement.{statement}
 use Rattle.swap.proofs.journal.played.Tie as tie
@@ -25,7 +25,7 @@ mul-step-at : tie.Need-mul-step-at Inv-loop μ-loop
 mul-step-at c = search needs
 
 step-at-requires : tie.Need-step-at-requires Inv-loop μ-loop
-step-at-requires c κs = (c .before .before .before .before .before .before .pre, omega (arith, c .loop-test .taken))
+step-at-requires c κs = let h = c .before .before .before .before .before .before .pre in (setup-size _ _ _ h, (call-fit _ _ _ h, omega (arith, c .loop-test .taken)))
 
 cast-t11 : tie.Need-cast-t11 Inv-loop μ-loop
 cast-t11 c = record { fits = omega (arith, c .before .before .before .loop-test .taken, journal-whole _ _ _ (c .before .before .before .before .before .before .before .before .before .pre) .1) }

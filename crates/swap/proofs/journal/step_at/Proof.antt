@@ -1,6 +1,5 @@
 -- The four bytes from place i on.
 use Rattle.swap.specs.Journal.{stepAt}
-use Rattle.swap.proofs.Calls.{call-fit, setup-size}
 use borrow.Author.Needs.{needs}
 use Rattle.swap.proofs.journal.step_at.Statement.{statement}
 use Rattle.swap.proofs.journal.step_at.Tie as tie
@@ -28,9 +27,9 @@ shared-slice-read-step-4 c = search needs
 
 step-requires : tie.Need-step-requires
 step-requires c κs =
-    let h = c .before .before .before .before .before .before .before .pre .0 in
-    let f = call-fit _ _ _ h in
-    (f .checked .sized, (f .checked .signatures-few, (setup-size _ _ _ h, f)))
+    let p = c .before .before .before .before .before .before .before .pre in
+    let f = p .1 .0 in
+    (f .checked .sized, (f .checked .signatures-few, (p .0, f)))
 
 returns : tie.Need-returns
 unfolding stepAt

@@ -1,0 +1,124 @@
+-- The refusals, and the promise of what was played.
+use native.Mathlib.Omega.{arith}
+use denote.Ref.{now}
+use mathlib.Core.Path.{sym, _∙_}
+use Rattle.sheet.proofs.Theorems.{setup-checked}
+use Rattle.position.proofs.Fits.{fit}
+use Rattle.history.proofs.Playing.{accepted-fits}
+use Rattle.history.proofs.Promised.{sheet-refused, setup-refused, bytes-room, accepted-short, report-short, part-length, played-promise}
+use borrow.Author.Needs.{needs}
+use Rattle.history.proofs.history.Statement.{statement}
+use Rattle.history.proofs.history.Tie as tie
+
+sheet-refusal-requires : tie.Need-sheet-refusal-requires
+sheet-refusal-requires c κs = search needs
+
+unplayed-requires : tie.Need-unplayed-requires
+unplayed-requires c κs = search needs
+
+returns : tie.Need-returns
+returns c = sheet-refused _ _ _ _ _ _ _ (c .before .before .sheet-refusal .ensures) (c .before .if1 .taken) (c .unplayed .ensures)
+
+setup-refusal-requires : tie.Need-setup-refusal-requires
+setup-refusal-requires c κs = search needs
+
+unplayed-requires-2 : tie.Need-unplayed-requires-2
+unplayed-requires-2 c κs = search needs
+
+returns-2 : tie.Need-returns-2
+returns-2 c =
+    let h = sym (c .before .before .before .before .sheet-refusal .ensures) ∙ c .before .before .before .if1 .left in
+    setup-refused _ _ _ _ _ h _ _ (c .before .before .setup-refusal .ensures) (c .before .if2 .taken) (c .unplayed2 .ensures)
+
+play-steps-requires : tie.Need-play-steps-requires
+play-steps-requires c κs =
+    let h = sym (c .before .before .before .sheet-refusal .ensures) ∙ c .before .before .if1 .left in
+    let k = sym (c .before .setup-refusal .ensures) ∙ c .if2 .left in
+    (setup-checked _ _ k .size, fit _ _ h k)
+
+mul-used : tie.Need-mul-used
+mul-used c = omega (arith, accepted-fits _ _ _ _ _ (c .before .before .play-steps .ensures .1))
+
+unplayed-requires-3 : tie.Need-unplayed-requires-3
+unplayed-requires-3 c κs = search needs
+
+returns-3 : tie.Need-returns-3
+returns-3 c =
+    let h = sym (c .before .before .before .before .before .before .before .before .sheet-refusal .ensures) ∙ c .before .before .before .before .before .before .before .if1 .left in
+    let k = sym (c .before .before .before .before .before .before .setup-refusal .ensures) ∙ c .before .before .before .before .before .if2 .left in
+    accepted-short _ _ _ _ _ h k _ (c .before .before .before .before .play-steps .ensures .1) _ (c .before .if3 .taken) (c .unplayed3 .ensures)
+
+count-requires : tie.Need-count-requires
+count-requires c κs =
+    let h = sym (c .before .before .before .before .before .before .before .sheet-refusal .ensures) ∙ c .before .before .before .before .before .before .if1 .left in
+    let k = sym (c .before .before .before .before .before .setup-refusal .ensures) ∙ c .before .before .before .before .if2 .left in
+    let z = fit _ _ h k .checked .sized in
+    omega (arith, z .head, z .size)
+
+mul-if4 : tie.Need-mul-if4
+mul-if4 c = search needs
+
+unplayed-requires-4 : tie.Need-unplayed-requires-4
+unplayed-requires-4 c κs = search needs
+
+returns-4 : tie.Need-returns-4
+returns-4 c =
+    let h = sym (c .before .before .before .before .before .before .before .before .before .before .sheet-refusal .ensures) ∙ c .before .before .before .before .before .before .before .before .before .if1 .left in
+    let k = sym (c .before .before .before .before .before .before .before .before .setup-refusal .ensures) ∙ c .before .before .before .before .before .before .before .if2 .left in
+    report-short _ _ _ _ _ h k _ (c .before .before .before .before .before .before .play-steps .ensures .1) (c .before .before .before .if3 .left) _ (omega (arith, c .before .before .count .ensures .is, c .before .if4 .taken)) (c .unplayed4 .ensures)
+
+write-accepted-requires : tie.Need-write-accepted-requires
+write-accepted-requires c κs =
+    let h = sym (c .before .before .before .before .before .before .before .before .before .before .sheet-refusal .ensures) ∙ c .before .before .before .before .before .before .before .before .before .if1 .left in
+    let k = sym (c .before .before .before .before .before .before .before .before .setup-refusal .ensures) ∙ c .before .before .before .before .before .before .before .if2 .left in
+    (setup-checked _ _ k .size, (fit _ _ h k, bytes-room _ _ _ (now (c .before .before .before .before .before .before .before .before .before .before .before .before .before .before .before .before .args .accepted)) _ (c .before .before .before .before .before .before .play-steps .ensures .1) (c .before .before .before .if3 .left)))
+
+slice-reshare-prefix-report : tie.Need-slice-reshare-prefix-report
+slice-reshare-prefix-report c = search needs
+
+slice-aggregate-report : tie.Need-slice-aggregate-report
+slice-aggregate-report c =
+    part-length _ _ _ _ _ (c .before .before .before .before .before .before .before .before .before .before .play-steps .ensures .1) (c .before .before .before .before .before .before .before .if3 .left) _ (c .before .before .before .write-accepted .ensures)
+
+report-requires : tie.Need-report-requires
+report-requires c κs = search needs
+
+same-length : tie.Need-same-length
+same-length c = search needs
+
+same-length-2 : tie.Need-same-length-2
+same-length-2 c = search needs
+
+returns-5 : tie.Need-returns-5
+returns-5 c =
+    let h = sym (c .before .before .before .before .before .before .before .before .before .before .before .before .before .before .before .before .before .before .sheet-refusal .ensures) ∙ c .before .before .before .before .before .before .before .before .before .before .before .before .before .before .before .before .before .if1 .left in
+    let k = sym (c .before .before .before .before .before .before .before .before .before .before .before .before .before .before .before .before .setup-refusal .ensures) ∙ c .before .before .before .before .before .before .before .before .before .before .before .before .before .before .before .if2 .left in
+    let p = c .before .before .before .before .before .before .before .before .before .before .before .before .before .before .play-steps .ensures in
+    let w = c .before .before .report .ensures in
+    played-promise _ _ _ _ _ h k _ (p .1) (c .before .before .before .before .before .before .before .before .before .before .before .if3 .left) (omega (arith, c .before .before .before .before .before .before .before .before .before .before .count .ensures .is, c .before .before .before .before .before .before .before .before .before .if4 .left)) _ _ _ _ (p .0) (c .before .before .before .before .before .before .before .write-accepted .ensures) (w .0) (w .1)
+
+pub history-spec : {M : Type 1} → statement M
+history-spec =
+    tie.close
+    (tie.spec
+    sheet-refusal-requires
+    unplayed-requires
+    returns
+    setup-refusal-requires
+    unplayed-requires-2
+    returns-2
+    play-steps-requires
+    mul-used
+    unplayed-requires-3
+    returns-3
+    count-requires
+    mul-if4
+    unplayed-requires-4
+    returns-4
+    write-accepted-requires
+    slice-reshare-prefix-report
+    slice-aggregate-report
+    report-requires
+    same-length
+    same-length-2
+    returns-5)

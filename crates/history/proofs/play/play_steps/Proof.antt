@@ -1,0 +1,54 @@
+-- What is left to do from each group on comes to the whole.
+use Prim.Native.Nat.{_-_}
+use native.Mathlib.Omega.{arith}
+use Rattle.history.proofs.Playing.{Playing, playing-start, playing-more, playing-done}
+use borrow.Author.Needs.{needs}
+use Rattle.history.proofs.play.play_steps.Statement.{statement}
+use Rattle.history.proofs.play.play_steps.Tie as tie
+
+abbrev Inv-loop : tie.InvT-loop
+Inv-loop sheet setup steps n played₀ k₀ played k = Playing sheet setup steps played k
+
+abbrev μ-loop : tie.MeasureT-loop
+μ-loop sheet setup steps n played₀ k₀ played k = n - k
+
+start-requires : tie.Need-start-requires Inv-loop μ-loop
+start-requires c κs = search needs
+
+loop-holds : tie.Need-loop-holds Inv-loop μ-loop
+loop-holds c = playing-start _ _ _ _ (c .start .ensures)
+
+mul-play-one : tie.Need-mul-play-one Inv-loop μ-loop
+mul-play-one c = search needs
+
+play-one-requires : tie.Need-play-one-requires Inv-loop μ-loop
+play-one-requires c κs =
+    let p = c .before .before .before .before .before .before .pre in
+    (p .0, (p .1, (omega (arith, c .loop-test .taken), omega (arith, c .before .loop .inv .low))))
+
+add-k : tie.Need-add-k Inv-loop μ-loop
+add-k c = search needs
+
+loop-less : tie.Need-loop-less Inv-loop μ-loop
+loop-less c = search needs
+
+loop-again : tie.Need-loop-again Inv-loop μ-loop
+loop-again c = playing-more _ _ _ _ _ _ (c .before .before .loop .inv) (omega (arith, c .before .loop-test .taken)) (c .play-one .ensures)
+
+returns : tie.Need-returns Inv-loop μ-loop
+returns c = playing-done _ _ _ _ _ (c .before .loop .inv) (omega (arith, c .loop-test .left))
+
+pub play-steps-spec : {M : Type 1} → statement M
+play-steps-spec =
+    tie.close
+    (tie.spec
+    Inv-loop
+    μ-loop
+    start-requires
+    loop-holds
+    mul-play-one
+    play-one-requires
+    add-k
+    loop-less
+    loop-again
+    returns)

@@ -1,0 +1,87 @@
+-- What is written and what is left to write come to the whole.
+use Prim.Native.Nat.{_-_}
+use native.Mathlib.Omega.{arith}
+use Rattle.history.proofs.Writing.{Writing, writing-start, writing-room, writing-end, writing-more, writing-done}
+use borrow.Author.Needs.{needs}
+use Rattle.history.proofs.write.write_accepted.Statement.{statement}
+use Rattle.history.proofs.write.write_accepted.Tie as tie
+
+abbrev Inv-loop : tie.InvT-loop
+Inv-loop sheet setup steps out₀ n here₀ at₀ k₀ out here at k = Writing sheet setup steps out₀ out here at k
+
+abbrev μ-loop : tie.MeasureT-loop
+μ-loop sheet setup steps out₀ n here₀ at₀ k₀ out here at k = n - k
+
+start-requires : tie.Need-start-requires Inv-loop μ-loop
+start-requires c κs = search needs
+
+loop-holds : tie.Need-loop-holds Inv-loop μ-loop
+loop-holds c = writing-start _ _ _ _ _ (c .start .ensures) (c .before .before .before .before .before .pre .1 .1)
+
+mul-step-at : tie.Need-mul-step-at Inv-loop μ-loop
+mul-step-at c = search needs
+
+step-at-requires : tie.Need-step-at-requires Inv-loop μ-loop
+step-at-requires c κs = let p = c .before .before .before .before .before .before .before .pre in (p .0, (p .1 .0, omega (arith, c .loop-test .taken)))
+
+mul-write-taken : tie.Need-mul-write-taken Inv-loop μ-loop
+mul-write-taken c = search needs
+
+sub-write-taken : tie.Need-sub-write-taken Inv-loop μ-loop
+sub-write-taken c = omega (arith, c .before .before .before .loop .inv .wrote)
+
+part-write-taken-start : tie.Need-part-write-taken-start Inv-loop μ-loop
+part-write-taken-start c = omega (arith, c .before .before .before .loop .inv .wrote)
+
+part-write-taken-end : tie.Need-part-write-taken-end Inv-loop μ-loop
+part-write-taken-end c = search needs
+
+write-taken-requires : tie.Need-write-taken-requires Inv-loop μ-loop
+write-taken-requires c κs =
+    let t = c .before .before .before .loop-test .taken in
+    (omega (arith, t), writing-room _ _ _ _ _ _ _ _ _ (c .before .before .before .before .loop .inv) (omega (arith, t)) (c .before .before .step-at .ensures))
+
+add-at : tie.Need-add-at Inv-loop μ-loop
+add-at c =
+    let t = c .before .before .before .before .before .before .loop-test .taken in
+    omega (arith, writing-end _ _ _ _ _ _ _ _ _ (c .before .before .before .before .before .before .before .loop .inv) (omega (arith, t)) (c .before .before .before .before .before .step-at .ensures) _ (c .before .before .write-taken .ensures .0))
+
+add-k : tie.Need-add-k Inv-loop μ-loop
+add-k c = search needs
+
+loop-less : tie.Need-loop-less Inv-loop μ-loop
+loop-less c = search needs
+
+loop-again : tie.Need-loop-again Inv-loop μ-loop
+loop-again c =
+    let t = c .before .before .before .before .before .before .loop-test .taken in
+    let w = c .before .before .write-taken .ensures in
+    writing-more _ _ _ _ _ _ _ _ _ (c .before .before .before .before .before .before .before .loop .inv) (omega (arith, t)) (c .before .before .before .before .before .step-at .ensures) _ _ (w .0) (w .1)
+
+same-length : tie.Need-same-length Inv-loop μ-loop
+same-length c = c .before .loop .inv .wrote .long
+
+returns : tie.Need-returns Inv-loop μ-loop
+returns c = writing-done _ _ _ _ _ _ _ _ (c .before .loop .inv) (omega (arith, c .loop-test .left))
+
+pub write-accepted-spec : {M : Type 1} → statement M
+write-accepted-spec =
+    tie.close
+    (tie.spec
+    Inv-loop
+    μ-loop
+    start-requires
+    loop-holds
+    mul-step-at
+    step-at-requires
+    mul-write-taken
+    sub-write-taken
+    part-write-taken-start
+    part-write-taken-end
+    write-taken-requires
+    add-at
+    add-k
+    loop-less
+    loop-again
+    same-length
+    returns)

@@ -1,0 +1,25 @@
+-- The lengths of a report and of its rows.
+-- Assumes nothing.
+use Prim.Native.Nat.{ℕ, _*_, _≤_}
+use mathlib.Core.Path.{_≡_, refl}
+use mathlib.Core.List.{List}
+use lib.ListN.{length}
+use Rattle.laws.specs.Gather.{gather, length-gather}
+use Rattle.laws.specs.Little.{bytesOf}
+use Rattle.sheet.specs.Field.{count}
+use Rattle.readings.specs.Reported.{rowWidth}
+use Rattle.position.specs.declared.Position.{Position}
+use Rattle.position.specs.Report.{row, reportBytes}
+
+module _ (s u : List ℕ) (p : Position) where
+  pub row-length : (t : ℕ) → length (row s u p t) ≡ rowWidth
+  unfolding row bytesOf
+  row-length t = refl
+
+  pub report-length : length (reportBytes s u p) ≡ rowWidth * count s
+  unfolding reportBytes
+  report-length = length-gather (row s u p) rowWidth row-length (count s)
+
+  -- n rows have room where the report has
+  pub rows-room : (n m : ℕ) → n ≡ count s → rowWidth * count s ≤ m → length (gather n (row s u p)) ≤ m
+  rows-room n m e h = rw (length-gather (row s u p) rowWidth row-length n, e) h

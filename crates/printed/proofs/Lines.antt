@@ -1,0 +1,79 @@
+-- The lines that are printed, case by case.
+-- Assumes nothing.
+use Prim.Native.Nat.{ℕ, suc, _+_, _*_, _≤_}
+use native.Mathlib.Omega.{arith}
+use mathlib.Core.Path.{_≡_, refl, sym, ap, _∙_}
+use mathlib.Core.Bool.{true, false}
+use mathlib.Core.List.{List, [], _∷_}
+use lib.Dec.{eqb, lit≤}
+use lib.ListN.{length, getD}
+use borrow.Author.Tests.{eq-eqb, ne-eqb}
+use Rattle.laws.specs.Gather.{length-gather}
+use Rattle.laws.specs.Little.{numberAt}
+use Rattle.sheet.specs.Refusal.{accepted}
+use Rattle.sheet.specs.Field.{count}
+use Rattle.readings.specs.Reported.{reportedLine}
+use Rattle.position.specs.declared.Ran.{Ran}
+use Rattle.position.specs.Play.{run}
+use Rattle.position.specs.Report.{reportBytes}
+use Rattle.position.specs.Printed.{printedLines, printed}
+use Rattle.swap.proofs.Reports.{report-ready}
+
+-- the places after i
+next-1 : (i : ℕ) → i + 1 ≡ suc i
+next-1 i = omega arith
+
+next-2 : (i : ℕ) → i + 2 ≡ suc (suc i)
+next-2 i = omega arith
+
+next-3 : (i : ℕ) → i + 3 ≡ suc (suc (suc i))
+next-3 i = omega arith
+
+-- four bytes, the lowest first
+pub number-parts : (l : List ℕ) (i a b c d : ℕ) → a ≡ getD l i 0 → b ≡ getD l (i + 1) 0 → c ≡ getD l (i + 2) 0 → d ≡ getD l (i + 3) 0
+    → a + 256 * (b + 256 * (c + 256 * d)) ≡ numberAt 4 l i
+unfolding numberAt
+number-parts l i a b c d ea eb ec ed =
+    let eb′ = rw (next-1 i) at eb in
+    let ec′ = rw (next-2 i) at ec in
+    let ed′ = rw (next-3 i) at ed in
+    omega (arith, ea, eb′, ec′, ed′)
+
+module _ (s u j : List ℕ) where
+  pub printed-accepted : eqb (run s u j .refusal) accepted ≡ true
+      → printed s u j ≡ (run s u j .accepted ∷ accepted ∷ run s u j .position .mined ∷ []) ∷ printedLines s (reportBytes s u (run s u j .position))
+  unfolding printed
+  printed-accepted h = rw (h, printed)
+
+  pub printed-refused : eqb (run s u j .refusal) accepted ≡ false → printed s u j ≡ (run s u j .accepted ∷ run s u j .refusal ∷ 0 ∷ []) ∷ []
+  unfolding printed
+  printed-refused h = rw (h, printed)
+
+  -- an accepted journal has a line after the first for each transaction
+  lines-accepted : run s u j .refusal ≡ accepted → length (printed s u j) ≡ suc (count s)
+  unfolding printedLines
+  lines-accepted z =
+      rw (printed-accepted (eq-eqb (run s u j .refusal) accepted z))
+      (ap suc (length-gather (λ t. reportedLine (reportBytes s u (run s u j .position)) t ∷ []) 1 (λ t. refl) (count s) ∙ omega arith))
+
+  -- a refused one has the first only
+  lines-refused : (run s u j .refusal ≡ accepted → ⊥) → length (printed s u j) ≡ 1
+  lines-refused h = rw (printed-refused (ne-eqb (run s u j .refusal) accepted h))
+
+  -- where r is what the code found
+  module _ (r : Ran) (e : r ≡ run s u j) where
+    -- the sheet has a count
+    pub counted : r .refusal ≡ 0 → 5 ≤ length s
+    counted z = let h = report-ready s u j r e z .0 in omega (arith, h .head, h .size)
+
+    pub first-accepted : (n : ℕ) → r .refusal ≡ 0 → n ≡ count s
+        → ((r .accepted ∷ r .refusal ∷ r .position .mined ∷ []) ≡ getD (printed s u j) 0 []) × ((suc n ≡ length (printed s u j)) × (n ≤ 32))
+    first-accepted n z k =
+        let y = rw e at z in
+        (rw (z, e, printed-accepted (eq-eqb (run s u j .refusal) 0 y)), (ap suc k ∙ sym (lines-accepted y), omega (arith, k, report-ready s u j r e z .0 .few)))
+
+    pub first-refused : (r .refusal ≡ 0 → ⊥)
+        → ((r .accepted ∷ r .refusal ∷ 0 ∷ []) ≡ getD (printed s u j) 0 []) × ((1 ≡ length (printed s u j)) × (0 ≤ 32))
+    first-refused h =
+        let y : run s u j .refusal ≡ 0 → ⊥ = λ z. h (rw e z) in
+        (rw (e, printed-refused (ne-eqb (run s u j .refusal) 0 y)), (sym (lines-refused y), lit≤ tt))

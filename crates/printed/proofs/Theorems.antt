@@ -1,0 +1,29 @@
+-- What swapreport prints after its first line: what `transaction_line` reads from a report is the rules' line.
+-- Assumes nothing.
+use Prim.Native.Nat.{ℕ, suc, _+_, _*_, _<_}
+use native.Mathlib.Omega.{arith}
+use mathlib.Core.Path.{_≡_, refl, ap, _∙_}
+use mathlib.Core.List.{List, [], _∷_}
+use lib.Dec.{lit<}
+use lib.ListN.{getD, take}
+use borrow.Author.Tests.{eq-eqb}
+use Rattle.laws.specs.Gather.{gather, gather-at}
+use Rattle.sheet.specs.Refusal.{accepted}
+use Rattle.sheet.specs.Field.{count}
+use Rattle.readings.specs.Reported.{rowWidth, reportedLine}
+use Rattle.position.specs.Play.{run}
+use Rattle.position.specs.Report.{reportBytes}
+use Rattle.position.specs.Answers.{reportAnswer}
+use Rattle.position.specs.Printed.{printedLines, printed}
+use Rattle.moves.proofs.Reports.{report-run, report-buffer}
+use Rattle.printed.proofs.Lines.{printed-accepted}
+
+module _ (s u j : List ℕ) where
+  -- the line of t is the one that is read from the rows of a report that answers 0
+  pub line-reported : (out : List ℕ) (t : ℕ) → reportAnswer s u j out .refusal ≡ accepted → t < count s
+      → getD (printed s u j) (suc t) [] ≡ reportedLine (take (rowWidth * count s) (reportAnswer s u j out .buffer)) t
+  unfolding printedLines
+  line-reported out t e l =
+      let lines : ℕ → List (List ℕ) = λ k. reportedLine (reportBytes s u (run s u j .position)) k ∷ [] in
+      rw (printed-accepted s u j (eq-eqb (run s u j .refusal) accepted (report-run s u j out e)), report-buffer s u j out e)
+      (ap (λ i. getD (gather (count s) lines) i []) (omega arith) ∙ gather-at lines 1 (λ k. refl) (count s) t 0 [] l (lit< tt))

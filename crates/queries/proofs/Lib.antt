@@ -1,0 +1,4 @@
+pub mod ReportRows
+pub mod OpenSteps
+pub mod OpenReach
+pub mod OpenBytes

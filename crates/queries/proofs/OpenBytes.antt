@@ -1,0 +1,164 @@
+-- The bytes of an actor's open steps, written from their sets, are those of the list.
+-- Assumes nothing.
+use Prim.Native.Nat.{ℕ, zero, suc, _+_, _*_, _/_, _%_, _<_}
+use native.Mathlib.Omega.{arith}
+use mathlib.Core.Path.{_≡_, refl, sym, ap, ap₂, _∙_}
+use mathlib.Core.Bool.{Bool, true, false}
+use mathlib.Core.List.{List, [], _∷_, _++_, flatMap, append-assoc, append-nil}
+use lib.Dec.{eqb}
+use lib.ListN.{length, getD, replicate, length-append}
+use Rattle.laws.specs.Booleans.{split}
+use Rattle.laws.specs.Each.{rewritten}
+use Rattle.laws.specs.Gather.{gather}
+use Rattle.laws.specs.Mask.{bit}
+use Rattle.laws.specs.Sets.{setBelow, set-bit}
+use Rattle.sheet.specs.Refusal.{accepted}
+use Rattle.slots.specs.declared.Step.{Step}
+use Rattle.slots.specs.declared.Step.the-variants.{Share, Give, SendToPool, HandToMiner, Include, Mine, Bump}
+use Rattle.slots.specs.Destination.{alice, bob, miner, destinations}
+use Rattle.steps.specs.declared.Decoded.{Decoded}
+use Rattle.steps.specs.declared.Decoded.the-variants.{Read, Refused}
+use Rattle.steps.specs.Decode.{noTransaction, decode, stepBytes}
+use Rattle.output.specs.Emitted.{emitted, emittedAt, opensBelow, opensLast, belowBytes, lastBytes, kindBytes, actorBytes, openCount}
+use Rattle.output.proofs.Lengths.{length-actor}
+use Rattle.queries.specs.declared.OpenSets.{OpenSets}
+use Rattle.position.specs.declared.Position.{Position}
+use Rattle.position.specs.Position.{slotCount}
+use Rattle.position.specs.StepRefusal.{stepRefusal}
+use Rattle.position.specs.Open.{actors, kinds, ifAccepted, openAt, openOf, actorSteps, openSteps, listBytes}
+use Rattle.queries.specs.OpenSets.{isOpenRead, isOpenStep, Opens, openSet, places, belowSets, lastSet, openSets}
+use Rattle.position.proofs.Decoding.{decodes}
+
+-- ---- lists of lists
+
+-- two rows of lists that agree below n
+pub gather-same : {A : Type 0} (n : ℕ) (f g : ℕ → List A) → ((k : ℕ) → k < n → f k ≡ g k) → gather n f ≡ gather n g
+unfolding gather
+gather-same zero f g h = refl
+gather-same (suc n) f g h = ap₂ _++_ (gather-same n f g (λ k l. h k (omega arith))) (h n (omega arith))
+
+module _ {A B : Type 0} (f : A → List B) where
+  pub flat-append : (a b : List A) → flatMap f (a ++ b) ≡ flatMap f a ++ flatMap f b
+  unfolding flatMap
+  flat-append [] b = refl
+  flat-append (x ∷ a) b = ap (λ r. f x ++ r) (flat-append a b) ∙ sym (append-assoc (f x) (flatMap f a) (flatMap f b))
+
+  pub flat-gather : (n : ℕ) (g : ℕ → List A) → flatMap f (gather n g) ≡ gather n (λ k. flatMap f (g k))
+  unfolding gather flatMap
+  flat-gather zero g = refl
+  flat-gather (suc n) g = flat-append (gather n g) (g n) ∙ ap (λ r. r ++ flatMap f (g n)) (flat-gather n g)
+
+  -- elements that become four each
+  pub flat-fours : ((x : A) → length (f x) ≡ 4) → (l : List A) → length (flatMap f l) ≡ length l * 4
+  unfolding flatMap
+  flat-fours four [] = refl
+  flat-fours four (x ∷ l) = length-append (f x) (flatMap f l) ∙ rw (four x, flat-fours four l) (omega arith)
+
+step-four : (x : Step) → length (stepBytes x) ≡ 4
+unfolding stepBytes
+step-four (Share a t to) = refl
+step-four (Give a t to) = refl
+step-four (SendToPool a t to) = refl
+step-four (HandToMiner a t to) = refl
+step-four (Include a t to) = refl
+step-four (Mine a t to) = refl
+step-four (Bump a t to) = refl
+
+module _ (s u : List ℕ) (p : Position) where
+  -- "4 bytes a step"
+  pub list-length : length (listBytes s u p) ≡ length (openSteps s u p) * 4
+  unfolding listBytes
+  list-length = flat-fours stepBytes step-four (openSteps s u p)
+
+  -- ---- one step
+  read-bytes : (kind actor t d : ℕ) (y : Decoded) → decode s u kind actor t d ≡ y
+      → flatMap stepBytes (ifAccepted s u p y) ≡ emitted (isOpenRead s u p y) kind actor t d
+  unfolding ifAccepted isOpenRead emitted flatMap
+  read-bytes kind actor t d (Read x) e =
+      split (eqb (stepRefusal s u p x) accepted)
+      (λ y. rw (y, decodes s u kind actor t d x e .bytes))
+      (λ y. rw y)
+  read-bytes kind actor t d Refused e = refl
+
+  one-bytes : (kind actor t d : ℕ) → flatMap stepBytes (ifAccepted s u p (decode s u kind actor t d)) ≡ emitted (isOpenStep s u p kind actor t d) kind actor t d
+  unfolding isOpenStep
+  one-bytes kind actor t d = read-bytes kind actor t d (decode s u kind actor t d) refl
+
+  -- ---- those of a kind and a transaction byte
+  at-bytes : (kind actor t : ℕ) (on : ℕ → Bool) → ((d : ℕ) → d < destinations → on d ≡ isOpenStep s u p kind actor t d)
+      → flatMap stepBytes (openAt s u p actor kind t) ≡ emittedAt on kind actor t
+  unfolding openAt emittedAt
+  at-bytes kind actor t on h =
+      flat-gather stepBytes destinations (λ d. ifAccepted s u p (decode s u kind actor t d))
+      ∙ gather-same destinations
+      (λ d. flatMap stepBytes (ifAccepted s u p (decode s u kind actor t d)))
+      (λ d. emitted (on d) kind actor t d)
+      (λ d l. one-bytes kind actor t d ∙ ap (λ b. emitted b kind actor t d) (sym (h d l)))
+
+  -- ---- those of an actor, from sets of them
+  module _ (actor : ℕ) (below : List ℕ) (last : ℕ) (sets : Opens s u p actor below last) where
+    below-bytes : (k t : ℕ) → k < kinds → t < slotCount → flatMap stepBytes (openAt s u p actor (k + 1) t) ≡ belowBytes below actor k t
+    unfolding belowBytes opensBelow
+    below-bytes k t l m = at-bytes (k + 1) actor t (opensBelow below k t) (λ d h. sets .lower k d t l h m)
+
+    last-bytes : (k : ℕ) → k < kinds → flatMap stepBytes (openAt s u p actor (k + 1) noTransaction) ≡ lastBytes last actor k
+    unfolding lastBytes opensLast
+    last-bytes k l = at-bytes (k + 1) actor noTransaction (opensLast last k) (λ d h. sets .top k d l h)
+
+    kind-bytes : (k : ℕ) → k < kinds → flatMap stepBytes (openOf s u p actor (k + 1)) ≡ kindBytes below last actor k
+    unfolding openOf kindBytes
+    kind-bytes k l =
+        flat-append stepBytes (gather slotCount (openAt s u p actor (k + 1))) (openAt s u p actor (k + 1) noTransaction)
+        ∙ ap₂ _++_
+        (flat-gather stepBytes slotCount (openAt s u p actor (k + 1))
+        ∙ gather-same slotCount (λ t. flatMap stepBytes (openAt s u p actor (k + 1) t)) (belowBytes below actor k) (λ t m. below-bytes k t l m))
+        (last-bytes k l)
+
+    pub actor-bytes : flatMap stepBytes (actorSteps s u p actor) ≡ actorBytes below last actor
+    unfolding actorSteps actorBytes
+    actor-bytes =
+        flat-gather stepBytes kinds (λ k. openOf s u p actor (k + 1))
+        ∙ gather-same kinds (λ k. flatMap stepBytes (openOf s u p actor (k + 1))) (kindBytes below last actor) kind-bytes
+
+  -- ---- the whole list: Alice's, Bob's, the miner's
+  pub list-bytes : (b₀ b₁ b₂ : List ℕ) (l₀ l₁ l₂ : ℕ) → Opens s u p alice b₀ l₀ → Opens s u p bob b₁ l₁ → Opens s u p miner b₂ l₂
+      → listBytes s u p ≡ actorBytes b₀ l₀ alice ++ (actorBytes b₁ l₁ bob ++ actorBytes b₂ l₂ miner)
+  unfolding listBytes openSteps actors flatMap
+  list-bytes b₀ b₁ b₂ l₀ l₁ l₂ o₀ o₁ o₂ =
+      flat-append stepBytes (actorSteps s u p alice) (actorSteps s u p bob ++ (actorSteps s u p miner ++ []))
+      ∙ ap₂ _++_ (actor-bytes alice b₀ l₀ o₀)
+      (flat-append stepBytes (actorSteps s u p bob) (actorSteps s u p miner ++ [])
+      ∙ ap₂ _++_ (actor-bytes bob b₁ l₁ o₁)
+      (ap (flatMap stepBytes) (append-nil (actorSteps s u p miner)) ∙ actor-bytes miner b₂ l₂ o₂))
+
+  -- how many steps the list has
+  pub list-count : (b₀ b₁ b₂ : List ℕ) (l₀ l₁ l₂ : ℕ) → Opens s u p alice b₀ l₀ → Opens s u p bob b₁ l₁ → Opens s u p miner b₂ l₂
+      → length (openSteps s u p) ≡ openCount b₀ l₀ + (openCount b₁ l₁ + openCount b₂ l₂)
+  list-count b₀ b₁ b₂ l₀ l₁ l₂ o₀ o₁ o₂ =
+      let whole = sym list-length ∙ ap length (list-bytes b₀ b₁ b₂ l₀ l₁ l₂ o₀ o₁ o₂) in
+      let first = length-append (actorBytes b₀ l₀ alice) (actorBytes b₁ l₁ bob ++ actorBytes b₂ l₂ miner) in
+      let rest = length-append (actorBytes b₁ l₁ bob) (actorBytes b₂ l₂ miner) in
+      omega (arith, whole, first, rest, length-actor b₀ l₀ alice, length-actor b₁ l₁ bob, length-actor b₂ l₂ miner)
+
+-- ---- the sets by place
+module _ (s u : List ℕ) (p : Position) (actor : ℕ) where
+  -- kind k + 1 and destination d at place 3 * k + d
+  pub sets-open : Opens s u p actor (belowSets s u p actor) (lastSet s u p actor)
+  unfolding belowSets openSet lastSet
+  sets-open =
+      record {
+        lower = λ k d t l h m.
+            let q : (3 * k + d) / 3 ≡ k = omega arith in
+            let r : (3 * k + d) % 3 ≡ d = omega arith in
+            rw (rewritten places (λ i x. openSet s u p actor (i / 3 + 1) (i % 3)) (replicate places 0) (3 * k + d) 0 (omega arith) (omega arith), q, r)
+            (set-bit slotCount (λ i. isOpenStep s u p (k + 1) actor i d) (omega arith) t m);
+        top = λ k d l h.
+            let q : (3 * k + d) / 3 ≡ k = omega arith in
+            let r : (3 * k + d) % 3 ≡ d = omega arith in
+            set-bit places (λ i. isOpenStep s u p (i / 3 + 1) actor noTransaction (i % 3)) (omega arith) (3 * k + d) (omega arith) ∙ rw (q, r);
+      }
+
+  -- what the code answers
+  pub answer-open : (r : OpenSets) → r ≡ openSets s u p actor → Opens s u p actor (r .below) (r .last)
+  unfolding openSets
+  answer-open r e = rw e sets-open

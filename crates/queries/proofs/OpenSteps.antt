@@ -1,0 +1,182 @@
+-- The refusal of a step over what is the same for all steps of its actor is that of the rules.
+-- Assumes nothing.
+use Prim.Native.Nat.{ℕ, _≤_, _<_}
+use native.Mathlib.Omega.{arith}
+use mathlib.Core.Path.{_≡_, refl, sym, ap, _∙_}
+use mathlib.Core.Bool.{Bool, true, false, not, _&&_, and-false}
+use mathlib.Core.List.{List, [], _∷_}
+use lib.Dec.{eqb}
+use lib.ListN.{length, getD}
+use borrow.Author.Tests.{eqb-false, lt-ltb, le-ltb, not-true, not-false}
+use Rattle.laws.specs.Booleans.{split, and-parts}
+use Rattle.laws.specs.Failing.{firstFailing}
+use Rattle.sheet.specs.Field.{count, parent}
+use Rattle.slots.specs.declared.Slot.{Slot}
+use Rattle.slots.specs.declared.Destination.{Destination}
+use Rattle.slots.specs.declared.Step.{Step}
+use Rattle.slots.specs.declared.Step.the-variants.{Share, Give, SendToPool, HandToMiner, Include, Mine, Bump}
+use Rattle.slots.specs.Destination.{destinationNumber, isParty}
+use Rattle.steps.specs.declared.Decoded.{Decoded}
+use Rattle.steps.specs.declared.Decoded.the-variants.{Read, Refused}
+use Rattle.steps.specs.declared.View.{View}
+use Rattle.steps.specs.declared.Outlook.{Outlook}
+use Rattle.readings.specs.declared.Sight.{Sight}
+use Rattle.steps.specs.Decode.{noTransaction, fieldsRight, decode, stepBytes}
+use Rattle.steps.specs.Parent.{slotAbove, blockAbove}
+use Rattle.steps.specs.View.{keysIn}
+use Rattle.steps.specs.Conduct.{conductTests, sendHeldIn}
+use Rattle.steps.specs.Sharing.{shareMetIn, giveMetIn}
+use Rattle.steps.specs.Mining.{bumpTestsIn}
+use Rattle.readings.specs.Sight.{shareNewIn, refusalIn, isOpenIn}
+use Rattle.steps.proofs.RightFields.{share-listed, pool-listed, miner-listed, include-listed, bump-listed}
+use Rattle.position.specs.declared.Position.{Position}
+use Rattle.position.specs.Position.{slot, blockOf, keys, holds, marked}
+use Rattle.position.specs.View.{viewBelow, sinceIn}
+use Rattle.position.specs.Tests.{shareMet, shareTests, giveMet, giveTests, bumpTests}
+use Rattle.position.specs.Conduct.{isCareful, canPay, sendAllowed, payingFirst, conductAllows}
+use Rattle.position.specs.Outlook.{outlook}
+use Rattle.position.specs.FirstShares.{firstSharesMade}
+use Rattle.position.specs.Owed.{anyOwed}
+use Rattle.position.specs.Fit.{Fit}
+use Rattle.position.specs.StepRefusal.{tests, stepRefusal}
+use Rattle.queries.specs.OpenSets.{isOpenRead, isOpenStep, keptBack, sightOf}
+use Rattle.position.proofs.Decoding.{decodes}
+use Rattle.position.proofs.Outlooks.{careful-outlook, share-outlook, give-outlook, held-outlook}
+use Rattle.position.proofs.SendTests.{since-parent, pool-tests, miner-tests}
+use Rattle.position.proofs.MineTests.{owed-view, include-tests, mine-tests}
+
+module _ (s u : List ℕ) (p : Position) (fit : Fit s u) (actor t : ℕ) (x : Slot) (since : ℕ) where
+  give-seen : (to : Destination) → refusalIn s u (sightOf s u p actor) x since (Give actor t to) ≡ stepRefusal s u p (Give actor t to)
+  unfolding refusalIn stepRefusal tests conductAllows giveTests conductTests giveMetIn giveMet holds keysIn keys viewBelow sightOf
+  give-seen to = rw (give-outlook s u p actor t)
+
+  mine-seen : (to : Destination) → refusalIn s u (sightOf s u p actor) x since (Mine actor t to) ≡ stepRefusal s u p (Mine actor t to)
+  unfolding refusalIn stepRefusal tests sightOf
+  mine-seen to = ap firstFailing (mine-tests s u p (fit .checked))
+
+  -- conduct on sending, for a party
+  held-seen : isParty actor ≡ true → sendHeldIn s (outlook s u p) (keptBack s u p actor) actor t ≡ (sendAllowed s u p actor t && payingFirst s u p actor t)
+  unfolding keptBack
+  held-seen h = held-outlook s u p (keptBack s u p actor) actor t (rw h)
+
+  -- where x is the slot of t and `since` its parent's block, if t is of the sheet
+  module _ (place : t < count s → (x ≡ slot p t) × (since ≡ blockOf p (parent s t))) where
+    new-seen : (d : ℕ) → ((t ≡ 255 → ⊥) → t < count s) → shareNewIn s (sightOf s u p actor) x actor t d ≡ shareMet s p actor t d
+    unfolding shareNewIn shareMet sightOf shareMetIn marked viewBelow keysIn keys
+    new-seen d l = split (eqb t noTransaction) (λ y. rw y) (λ y. rw (y, place (l (eqb-false t noTransaction y)) .0))
+
+    share-seen : (to : Destination) → fieldsRight s u (Share actor t to) ≡ true
+        → refusalIn s u (sightOf s u p actor) x since (Share actor t to) ≡ stepRefusal s u p (Share actor t to)
+    unfolding refusalIn stepRefusal tests conductAllows shareTests conductTests sightOf
+    share-seen to h =
+        rw (share-outlook s u p actor t, new-seen (destinationNumber to) (share-listed s u actor t to (Share actor t to) refl h))
+
+    pool-seen : (to : Destination) → fieldsRight s u (SendToPool actor t to) ≡ true
+        → refusalIn s u (sightOf s u p actor) x since (SendToPool actor t to) ≡ stepRefusal s u p (SendToPool actor t to)
+    unfolding refusalIn stepRefusal tests conductAllows sightOf fieldsRight
+    pool-seen to h =
+        let l = pool-listed s u actor t to (SendToPool actor t to) refl h in
+        rw (place l .0, place l .1, held-seen (and-parts (isParty actor) _ h .0))
+        (ap firstFailing (pool-tests (sendAllowed s u p actor t && payingFirst s u p actor t) s u p (fit .checked) actor t (destinationNumber to) l))
+
+    miner-seen : (to : Destination) → fieldsRight s u (HandToMiner actor t to) ≡ true
+        → refusalIn s u (sightOf s u p actor) x since (HandToMiner actor t to) ≡ stepRefusal s u p (HandToMiner actor t to)
+    unfolding refusalIn stepRefusal tests conductAllows sightOf fieldsRight
+    miner-seen to h =
+        let l = miner-listed s u actor t to (HandToMiner actor t to) refl h in
+        rw (place l .0, place l .1, held-seen (and-parts (isParty actor) _ h .0))
+        (ap firstFailing (miner-tests (sendAllowed s u p actor t && payingFirst s u p actor t) s u p (fit .checked) actor t (destinationNumber to) l))
+
+    include-seen : (to : Destination) → fieldsRight s u (Include actor t to) ≡ true
+        → refusalIn s u (sightOf s u p actor) x since (Include actor t to) ≡ stepRefusal s u p (Include actor t to)
+    unfolding refusalIn stepRefusal tests sightOf
+    include-seen to h =
+        ap firstFailing (include-tests s u p (fit .checked) t (include-listed s u actor t to (Include actor t to) refl h))
+
+    bump-seen : (to : Destination) → fieldsRight s u (Bump actor t to) ≡ true
+        → refusalIn s u (sightOf s u p actor) x since (Bump actor t to) ≡ stepRefusal s u p (Bump actor t to)
+    unfolding refusalIn stepRefusal tests sightOf bumpTestsIn bumpTests
+    bump-seen to h =
+        let l = bump-listed s u actor t to (Bump actor t to) refl h in
+        rw (place l .1, owed-view s u p (fit .checked .sized .few) t l)
+
+-- of four bytes: a give, kind 2, needs no slot
+module _ (s u : List ℕ) (p : Position) (fit : Fit s u) (kind actor t d : ℕ) (x : Slot) (since : ℕ)
+    (place : (kind ≡ 2 → ⊥) → t < count s → (x ≡ slot p t) × (since ≡ blockOf p (parent s t))) where
+  step-seen : (y : Step) → stepBytes y ≡ kind ∷ actor ∷ t ∷ d ∷ [] → fieldsRight s u y ≡ true
+      → refusalIn s u (sightOf s u p actor) x since y ≡ stepRefusal s u p y
+  unfolding stepBytes
+  step-seen (Share a b to) e h =
+      let k : 1 ≡ kind = ap (λ l. getD l 0 0) e in
+      let m : a ≡ actor = ap (λ l. getD l 1 0) e in
+      let n : b ≡ t = ap (λ l. getD l 2 0) e in
+      rw (m, n) (share-seen s u p fit actor t x since (place (λ z. omega (arith, k, z))) to (rw (m, n) at h))
+  step-seen (Give a b to) e h =
+      let m : a ≡ actor = ap (λ l. getD l 1 0) e in
+      let n : b ≡ t = ap (λ l. getD l 2 0) e in
+      rw (m, n) (give-seen s u p fit actor t x since to)
+  step-seen (SendToPool a b to) e h =
+      let k : 3 ≡ kind = ap (λ l. getD l 0 0) e in
+      let m : a ≡ actor = ap (λ l. getD l 1 0) e in
+      let n : b ≡ t = ap (λ l. getD l 2 0) e in
+      rw (m, n) (pool-seen s u p fit actor t x since (place (λ z. omega (arith, k, z))) to (rw (m, n) at h))
+  step-seen (HandToMiner a b to) e h =
+      let k : 4 ≡ kind = ap (λ l. getD l 0 0) e in
+      let m : a ≡ actor = ap (λ l. getD l 1 0) e in
+      let n : b ≡ t = ap (λ l. getD l 2 0) e in
+      rw (m, n) (miner-seen s u p fit actor t x since (place (λ z. omega (arith, k, z))) to (rw (m, n) at h))
+  step-seen (Include a b to) e h =
+      let k : 5 ≡ kind = ap (λ l. getD l 0 0) e in
+      let m : a ≡ actor = ap (λ l. getD l 1 0) e in
+      let n : b ≡ t = ap (λ l. getD l 2 0) e in
+      rw (m, n) (include-seen s u p fit actor t x since (place (λ z. omega (arith, k, z))) to (rw (m, n) at h))
+  step-seen (Mine a b to) e h =
+      let m : a ≡ actor = ap (λ l. getD l 1 0) e in
+      let n : b ≡ t = ap (λ l. getD l 2 0) e in
+      rw (m, n) (mine-seen s u p fit actor t x since to)
+  step-seen (Bump a b to) e h =
+      let k : 7 ≡ kind = ap (λ l. getD l 0 0) e in
+      let m : a ≡ actor = ap (λ l. getD l 1 0) e in
+      let n : b ≡ t = ap (λ l. getD l 2 0) e in
+      rw (m, n) (bump-seen s u p fit actor t x since (place (λ z. omega (arith, k, z))) to (rw (m, n) at h))
+
+  read-seen : (y : Decoded) → decode s u kind actor t d ≡ y → isOpenIn s u (sightOf s u p actor) x since y ≡ isOpenRead s u p y
+  unfolding isOpenIn isOpenRead
+  read-seen (Read y) e = let w = decodes s u kind actor t d y e in rw (step-seen y (w .bytes) (w .fields))
+  read-seen Refused e = refl
+
+  pub open-seen : isOpenIn s u (sightOf s u p actor) x since (decode s u kind actor t d) ≡ isOpenStep s u p kind actor t d
+  unfolding isOpenStep
+  open-seen = read-seen (decode s u kind actor t d) refl
+
+-- a turn of a loop over the transactions, with their slots and their parents' at hand
+pub open-turn : (s u : List ℕ) (p : Position) (kind actor t d up since : ℕ) (g : Sight) (r : Bool) → Fit s u → length (p .slots) ≡ 32
+    → g ≡ sightOf s u p actor → up ≡ slotAbove s t → since ≡ blockAbove s t (slot p up .height)
+    → r ≡ isOpenIn s u g (slot p t) since (decode s u kind actor t d) → r ≡ isOpenStep s u p kind actor t d
+unfolding sinceIn
+open-turn s u p kind actor t d up since g r fit n e a b h =
+    let w : since ≡ blockOf p (parent s t) = (b ∙ rw a) ∙ since-parent s p n t in
+    (h ∙ rw e) ∙ open-seen s u p fit kind actor t d (slot p t) since (λ z l. (refl, w))
+
+-- ---- what is the same for all steps of the actor, from its parts
+module _ (s u : List ℕ) (p : Position) (o : Outlook) (actor : ℕ) where
+  pub kept-no-party : 2 ≤ actor → false ≡ keptBack s u p actor
+  unfolding keptBack isParty
+  kept-no-party l = rw (le-ltb actor 2 l)
+
+  module _ (read : o ≡ outlook s u p) where
+    careful-read : o .careful ≡ isCareful u
+    careful-read = rw read (careful-outlook s u p)
+
+    pub kept-not-careful : not (o .careful) ≡ true → false ≡ keptBack s u p actor
+    unfolding keptBack
+    kept-not-careful h = rw (sym careful-read ∙ not-true (o .careful) h) (sym (and-false (isParty actor)))
+
+    pub kept-if-paid : (b : Bool) → actor < 2 → not (o .careful) ≡ false → b ≡ canPay s u p actor → b ≡ keptBack s u p actor
+    unfolding keptBack isParty
+    kept-if-paid b l f e = rw (lt-ltb actor 2 l, sym careful-read ∙ not-false (o .careful) f) e
+
+    pub sight-made : (v : View) (back any made : Bool) → v ≡ viewBelow (count s) p → back ≡ keptBack s u p actor → any ≡ anyOwed s u p
+        → made ≡ firstSharesMade p actor → record { view = v; outlook = o; back = back; owed = any; made = made } ≡ sightOf s u p actor
+    unfolding sightOf
+    sight-made v back any made a b c d = rw (a, b, c, d, read)

@@ -1,0 +1,79 @@
+-- The rows of a report over a view and single slots are those of the position.
+-- Assumes nothing.
+use Prim.Native.Nat.{ℕ, _≤_, _<_}
+use native.Mathlib.Omega.{arith}
+use mathlib.Core.Path.{_≡_, refl, sym, ap, _∙_}
+use mathlib.Core.Bool.{Bool, true, not, _&&_}
+use mathlib.Core.List.{List}
+use lib.Dec.{eqb}
+use lib.ListN.{length}
+use Rattle.laws.specs.Mask.{bit}
+use Rattle.laws.specs.Sets.{setBelow, set-bit}
+use Rattle.output.specs.Row.{rowBytes}
+use Rattle.sheet.specs.Field.{count, parent}
+use Rattle.sheet.specs.Setup.{perDay}
+use Rattle.slots.specs.declared.Slot.{Slot}
+use Rattle.slots.specs.Conflict.{otherConflictIn, foundIn}
+use Rattle.slots.specs.Invalidated.{invalidated}
+use Rattle.slots.proofs.ConflictSets.{conflictIn-same}
+use Rattle.slots.proofs.AncestrySets.{inAncestry-same}
+use Rattle.slots.proofs.Since.{lockHeight-since, deadline-since}
+use Rattle.readings.specs.declared.Row.{Row}
+use Rattle.steps.specs.declared.View.{View}
+use Rattle.readings.specs.Report.{deadIn, statusIn, payeeIn, rowIn}
+use Rattle.position.specs.declared.Position.{Position}
+use Rattle.position.specs.Position.{slot, inPool, inBlock, blockOf, isConfirmed, confirmedTo, lockHeightIn, deadlineIn}
+use Rattle.position.specs.View.{viewBelow, sinceIn}
+use Rattle.position.specs.Report.{status, payee, row}
+use Rattle.position.proofs.SendTests.{since-parent}
+
+-- those whose other rival is a member, over the set e of the members
+other-same : (s : List ℕ) (e : ℕ) (member : ℕ → Bool) (t : ℕ) → ((k : ℕ) → k < count s → bit e k ≡ member k) → otherConflictIn s (bit e) t ≡ otherConflictIn s member t
+unfolding otherConflictIn
+other-same s e member t h =
+    conflictIn-same s (λ k. not (eqb k t) && bit e k) (λ k. not (eqb k t) && member k) t (λ k l. ap (λ x. not (eqb k t) && x) (h k l))
+
+-- dead over the set e of the confirmed and the set of those whose other rival is confirmed
+dead-right : (s : List ℕ) (e : ℕ) (member : ℕ → Bool) (t : ℕ) → count s ≤ 32 → t < count s → ((k : ℕ) → k < count s → bit e k ≡ member k)
+    → deadIn s e (setBelow (count s) (foundIn s (bit e) true)) t ≡ invalidated s member t
+unfolding deadIn invalidated foundIn
+dead-right s e member t few l h =
+    rw (
+      h t l,
+      inAncestry-same s (bit (setBelow (count s) (foundIn s (bit e) true))) (otherConflictIn s member) t
+          (λ k m. set-bit (count s) (foundIn s (bit e) true) few k (omega arith) ∙ other-same s e member k h),
+    )
+
+pub payee-right : (p : Position) (t : ℕ) → payeeIn (slot p t) ≡ payee p t
+unfolding payeeIn payee isConfirmed blockOf confirmedTo
+payee-right p t = refl
+
+-- of a position p: its view, the set of those whose other rival is confirmed, the slot of t and its parent's block
+module _ (s u : List ℕ) (p : Position) (t struck since : ℕ) (few : count s ≤ 32) (l : t < count s)
+    (is-struck : struck ≡ setBelow (count s) (foundIn s (bit (viewBelow (count s) p .confirmed)) true))
+    (is-since : since ≡ blockOf p (parent s t)) where
+  pub status-right : statusIn s (viewBelow (count s) p) struck t ≡ status s p t
+  unfolding statusIn status viewBelow
+  status-right =
+      rw (
+        is-struck,
+        dead-right s (setBelow (count s) (isConfirmed p)) (isConfirmed p) t few l (set-bit (count s) (isConfirmed p) few),
+        set-bit (count s) (inPool p) few t l,
+        set-bit (count s) (inBlock p) few t l,
+        set-bit (count s) (isConfirmed p) few t l,
+      )
+
+  pub row-right : rowIn s (perDay u) (viewBelow (count s) p) struck (slot p t) since t
+      ≡ record { block = blockOf p t; lock = lockHeightIn s u p t; deadline = deadlineIn s u p t; status = status s p t; payee = payee p t }
+  unfolding rowIn lockHeightIn deadlineIn blockOf
+  row-right =
+      rw (status-right, payee-right p t, lockHeight-since s (perDay u) (blockOf p) since t (sym is-since), deadline-since s (perDay u) (blockOf p) since t (sym is-since))
+
+-- what a loop over the transactions writes: the parts that it read are those of the position
+pub row-written : (s u : List ℕ) (p : Position) (t d struck since : ℕ) (v : View) (x : Slot) (r : Row) → count s ≤ 32
+    → length (p .slots) ≡ 32 → t < count s → d ≡ perDay u → v ≡ viewBelow (count s) p
+    → struck ≡ setBelow (count s) (foundIn s (bit (v .confirmed)) true) → x ≡ slot p t → since ≡ sinceIn s p t
+    → r ≡ rowIn s d v struck x since t → rowBytes (r .status) (r .payee) (r .block) (r .lock) (r .deadline) ≡ row s u p t
+unfolding rowBytes row
+row-written s u p t d struck since v x r few n l ed ev es ex ec er =
+    rw (er, ed, ev, ex, row-right s u p t struck since few l (rw ev at es) (ec ∙ since-parent s p n t))

@@ -1,0 +1,67 @@
+-- The sets at the places below i.
+use Rattle.queries.specs.OpenSets.{openSet, belowSets}
+use Rattle.laws.specs.Each.{rewriteFirst, rewrite-start, rewrite-again, rewrite-done}
+use lib.ListN.{length, replicate}
+use mathlib.Core.Path.{_≡_}
+use Prim.Native.Nat.{_+_, _/_, _%_, _≤_, _-_}
+use borrow.Author.Needs.{needs}
+use Rattle.queries.proofs.open.below_sets.Statement.{statement}
+use Rattle.queries.proofs.open.below_sets.Tie as tie
+
+abbrev Inv-loop : tie.InvT-loop
+Inv-loop position sheet setup sight actor below₀ i₀ below i = (i ≤ 21) × (below ≡ rewriteFirst i (λ j x. openSet sheet setup position actor (j / 3 + 1) (j % 3)) (replicate 21 0)) × (length below ≡ 21)
+
+abbrev μ-loop : tie.MeasureT-loop
+μ-loop position sheet setup sight actor below₀ i₀ below i = 21 - i
+
+loop-holds : tie.Need-loop-holds Inv-loop μ-loop
+loop-holds c = (search needs, rewrite-start _ _, search needs)
+
+add-kind : tie.Need-add-kind Inv-loop μ-loop
+add-kind c = search needs
+
+cast-kind : tie.Need-cast-kind Inv-loop μ-loop
+cast-kind c = search needs
+
+cast-open-set : tie.Need-cast-open-set Inv-loop μ-loop
+cast-open-set c = search needs
+
+open-set-requires : tie.Need-open-set-requires Inv-loop μ-loop
+open-set-requires c κs = (c .before .before .before .before .pre .0, (c .before .before .before .before .pre .1 .0, (c .before .before .before .before .pre .1 .1 .0, (c .before .before .before .before .pre .1 .1 .1 .0, (c .before .before .before .before .pre .1 .1 .1 .1)))))
+
+mul-below : tie.Need-mul-below Inv-loop μ-loop
+mul-below c = search needs
+
+array-write-below : tie.Need-array-write-below Inv-loop μ-loop
+array-write-below c = search needs
+
+add-i : tie.Need-add-i Inv-loop μ-loop
+add-i c = search needs
+
+loop-less : tie.Need-loop-less Inv-loop μ-loop
+loop-less c = search needs
+
+loop-again : tie.Need-loop-again Inv-loop μ-loop
+loop-again c = (search needs, rewrite-again _ _ _ _ 0 _ (c .before .before .loop .inv .1) (c .open-set .ensures), search needs)
+
+returns : tie.Need-returns Inv-loop μ-loop
+unfolding belowSets
+returns c = rewrite-done _ _ _ _ _ (c .before .loop .inv .0) (c .loop-test .left) (c .before .loop .inv .1)
+
+pub below-sets-spec : {M : Type 1} → statement M
+below-sets-spec =
+    tie.close
+    (tie.spec
+    Inv-loop
+    μ-loop
+    loop-holds
+    add-kind
+    cast-kind
+    cast-open-set
+    open-set-requires
+    mul-below
+    array-write-below
+    add-i
+    loop-less
+    loop-again
+    returns)

@@ -1,0 +1,27 @@
+-- None can stand, or the signatures, or the transactions of the sheet.
+use Rattle.queries.proofs.OpenReach.{set-none, set-sheet, set-given}
+use borrow.Author.Needs.{needs}
+use Rattle.queries.proofs.open.open_set.Statement.{statement}
+use Rattle.queries.proofs.open.open_set.Tie as tie
+
+may-stand-requires : tie.Need-may-stand-requires
+may-stand-requires c κs = search needs
+
+returns : tie.Need-returns
+returns c = set-none _ _ _ _ _ _ _ (c .before .may-stand .ensures) (c .if1 .taken)
+
+give-set-requires : tie.Need-give-set-requires
+give-set-requires c κs = search needs
+
+returns-2 : tie.Need-returns-2
+returns-2 c = set-given _ _ _ _ _ _ _ _ (c .before .before .before .before .before .before .pre .1 .1 .1 .0) (c .before .before .before .before .before .before .pre .1 .0) (c .before .before .before .before .before .before .pre .1 .1 .1 .1) (c .before .if2 .taken) (c .give-set .ensures)
+
+sheet-set-requires : tie.Need-sheet-set-requires
+sheet-set-requires c κs = search needs
+
+returns-3 : tie.Need-returns-3
+returns-3 c = set-sheet _ _ _ _ _ _ _ (c .before .before .before .before .before .before .pre .0 .few) (c .before .if2 .left) (c .sheet-set .ensures)
+
+pub open-set-spec : {M : Type 1} → statement M
+open-set-spec =
+    tie.close (tie.spec may-stand-requires returns give-set-requires returns-2 sheet-set-requires returns-3)

@@ -1,0 +1,19 @@
+-- The sets, from what is the same for all steps of the actor.
+use Rattle.queries.proofs.OpenReach.{sets-made}
+use Rattle.queries.proofs.open.open_sets.Statement.{statement}
+use Rattle.queries.proofs.open.open_sets.Tie as tie
+
+sight-requires : tie.Need-sight-requires
+sight-requires c κs = c .before .before .pre
+
+below-sets-requires : tie.Need-below-sets-requires
+below-sets-requires c κs = (c .before .before .before .pre .0, (c .before .before .before .pre .1 .0, (c .before .before .before .pre .1 .1 .0, (c .before .before .before .pre .1 .1 .1 .0, c .sight .ensures))))
+
+last-set-requires : tie.Need-last-set-requires
+last-set-requires c κs = (c .before .before .before .before .pre .0, (c .before .before .before .before .pre .1 .0, c .before .before .before .before .pre .1 .1 .0))
+
+returns : tie.Need-returns
+returns c = sets-made _ _ _ _ _ _ _ (c .before .before .before .before .before .pre .1 .1 .1 .0) (c .before .before .sight .ensures) (c .before .below-sets .ensures) (c .last-set .ensures)
+
+pub open-sets-spec : {M : Type 1} → statement M
+open-sets-spec = tie.close (tie.spec sight-requires below-sets-requires last-set-requires returns)

@@ -1,0 +1,136 @@
+-- The rows of the transactions before t.
+use Rattle.position.proofs.ReportLengths.{row-length, rows-room}
+use Rattle.queries.proofs.ReportRows.{row-written}
+use Rattle.position.specs.Report.{row, reportBytes}
+use Rattle.position.specs.Position.{slot}
+use Rattle.position.specs.View.{sinceIn}
+use Rattle.laws.specs.Each.{length-of-map}
+use Rattle.laws.specs.Wrote.{Turns, turns-start, turn-room, turn-end, turn-more, turns-done}
+use mathlib.Core.Path.{_≡_, refl, sym}
+use lib.ListN.{length}
+use Prim.Native.Nat.{_-_}
+use native.Mathlib.Omega.{arith}
+use borrow.Author.Needs.{needs}
+use Rattle.queries.proofs.report.write_report.Statement.{statement}
+use Rattle.queries.proofs.report.write_report.Tie as tie
+
+abbrev Inv-loop : tie.InvT-loop
+Inv-loop sheet setup out₀ position n per-day view struck at₀ t₀ out at t = Turns (row sheet setup position) n out₀ out at t
+
+abbrev μ-loop : tie.MeasureT-loop
+μ-loop sheet setup out₀ position n per-day view struck at₀ t₀ out at t = n - t
+
+count-requires : tie.Need-count-requires Inv-loop μ-loop
+count-requires c κs = search needs
+
+per-day-requires : tie.Need-per-day-requires Inv-loop μ-loop
+per-day-requires c κs = search needs
+
+view-requires : tie.Need-view-requires Inv-loop μ-loop
+view-requires c κs = search needs
+
+conflicts-of-requires : tie.Need-conflicts-of-requires Inv-loop μ-loop
+conflicts-of-requires c κs = search needs
+
+loop-holds : tie.Need-loop-holds Inv-loop μ-loop
+loop-holds c =
+    let k = c .before .before .before .before .before .before .before in
+    let n = c .before .before .before .count in
+    turns-start _ _ _ (rows-room (k .args .sheet .now) (k .args .setup .now) (k .args .t1) (n .result) _ (n .ensures .is) (k .pre .1 .1))
+
+mul-x : tie.Need-mul-x Inv-loop μ-loop
+mul-x c = search needs
+
+element-copy-out-x : tie.Need-element-copy-out-x Inv-loop μ-loop
+element-copy-out-x c = search needs
+
+slot-above-requires : tie.Need-slot-above-requires Inv-loop μ-loop
+slot-above-requires c κs = search needs
+
+mul-above : tie.Need-mul-above Inv-loop μ-loop
+mul-above c = search needs
+
+element-copy-out-above : tie.Need-element-copy-out-above Inv-loop μ-loop
+element-copy-out-above c = search needs
+
+block-above-requires : tie.Need-block-above-requires Inv-loop μ-loop
+block-above-requires c κs = search needs
+
+row-requires : tie.Need-row-requires Inv-loop μ-loop
+row-requires c κs = search needs
+
+sub-write-row : tie.Need-sub-write-row Inv-loop μ-loop
+sub-write-row c = omega (arith, c .before .before .before .before .before .before .loop .inv .wrote)
+
+part-write-row-start : tie.Need-part-write-row-start Inv-loop μ-loop
+part-write-row-start c = omega (arith, c .before .before .before .before .before .before .loop .inv .wrote)
+
+part-write-row-end : tie.Need-part-write-row-end Inv-loop μ-loop
+part-write-row-end c = search needs
+
+write-row-requires : tie.Need-write-row-requires Inv-loop μ-loop
+write-row-requires c κs =
+    let k = c .before .before .before .before .before .before .before .before .before .before .before .before .before .before .before in
+    let i = c .before .before .before .before .before .before .before .loop in
+    omega (arith, row-length (k .args .sheet .now) (k .args .setup .now) (k .args .t1) (i .t), turn-room _ _ _ _ _ _ (i .inv) (c .before .before .before .before .before .before .loop-test .taken))
+
+add-at : tie.Need-add-at Inv-loop μ-loop
+add-at c =
+    let k = c .before .before .before .before .before .before .before .before .before .before .before .before .before .before .before .before .before .before in
+    let i = c .before .before .before .before .before .before .before .before .before .before .loop in
+    omega (arith, turn-end _ _ _ _ _ _ 14 (i .inv) (c .before .before .before .before .before .before .before .before .before .loop-test .taken) (sym (row-length (k .args .sheet .now) (k .args .setup .now) (k .args .t1) (i .t))))
+
+add-t : tie.Need-add-t Inv-loop μ-loop
+add-t c = search needs
+
+loop-less : tie.Need-loop-less Inv-loop μ-loop
+loop-less c = search needs
+
+loop-again : tie.Need-loop-again Inv-loop μ-loop
+unfolding sinceIn slot
+loop-again c =
+    let k = c .before .before .before .before .before .before .before .before .before .before .before .before .before .before .before .before .before .before in
+    let i = c .before .before .before .before .before .before .before .before .before .before .loop in
+    let m = c .before .before .before .before .before .before .before .before .before .loop-test .taken in
+    let n = c .before .before .before .before .before .before .before .before .before .before .before .before .before .before .count in
+    let l : length (k .args .t1 .slots) ≡ 32 = search (length-of-map, k .good) in
+    let wrote =
+    row-written (k .args .sheet .now) (k .args .setup .now) (k .args .t1) (i .t) _ _ _ _ _ _ (k .pre .0 .few) l (omega (arith, m, n .ensures .is))
+    (c .before .before .before .before .before .before .before .before .before .before .before .before .before .per-day .ensures) (c .before .before .before .before .before .before .before .before .before .before .before .before .view .ensures) (c .before .before .before .before .before .before .before .before .before .before .before .conflicts-of .ensures) refl (rw (← (c .before .before .before .before .before .before .before .slot-above .ensures .0)) (c .before .before .before .before .before .block-above .ensures)) (c .before .before .before .before .row .ensures) in
+    turn-more _ _ _ _ _ _ _ 14 (i .inv) m (sym (row-length (k .args .sheet .now) (k .args .setup .now) (k .args .t1) (i .t))) (rw wrote at (c .before .before .write-row .ensures))
+
+same-length : tie.Need-same-length Inv-loop μ-loop
+same-length c = c .before .loop .inv .wrote .long
+
+returns : tie.Need-returns Inv-loop μ-loop
+unfolding reportBytes
+returns c = rw (← (c .before .before .before .before .before .count .ensures .is)) (turns-done _ _ _ _ _ _ (c .before .loop .inv) (c .loop-test .left) .is)
+
+pub write-report-spec : {M : Type 1} → statement M
+write-report-spec =
+    tie.close
+    (tie.spec
+    Inv-loop
+    μ-loop
+    count-requires
+    per-day-requires
+    view-requires
+    conflicts-of-requires
+    loop-holds
+    mul-x
+    element-copy-out-x
+    slot-above-requires
+    mul-above
+    element-copy-out-above
+    block-above-requires
+    row-requires
+    sub-write-row
+    part-write-row-start
+    part-write-row-end
+    write-row-requires
+    add-at
+    add-t
+    loop-less
+    loop-again
+    same-length
+    returns)

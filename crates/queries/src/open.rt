@@ -1,0 +1,178 @@
+// The open steps of an actor, as sets.
+use crate::OpenSets;
+use position::Position;
+use readings::Sight;
+use readings::open;
+use slots::set;
+use steps::Outlook;
+use steps::View;
+use steps::parent;
+ghost use Prim.Native.Nat.{_<_, _≤_};
+ghost use mathlib.Core.Path.{_≡_};
+ghost use lib.ListN.{length};
+ghost use Rattle.laws.specs.Sets.{setBelow};
+ghost use Rattle.sheet.specs.Field.{count, signatures, Sized};
+ghost use Rattle.position.specs.Owed.{anyOwed};
+ghost use Rattle.position.specs.Outlook.{outlook};
+ghost use Rattle.position.specs.View.{viewBelow};
+ghost use Rattle.position.specs.Fit.{Fit};
+ghost use Rattle.queries.specs.OpenSets.{isOpenStep, openSet, belowSets, openSets, keptBack, sightOf};
+
+// Whether the actor is a careful party that can send a transaction that pays it.
+fn kept_back(
+    position: Position,
+    sheet: &[u8],
+    setup: &[u8],
+    view: View,
+    o: Outlook,
+    actor: u8,
+) -> bool
+    requires { ⌜ Sized (now sheet) ⌝ }
+    requires { ⌜ signatures (now sheet) ≤ 8 ⌝ }
+    requires { ⌜ length (now setup) ≡ 4 ⌝ }
+    requires { ⌜ Fit (now sheet) (now setup) ⌝ }
+    requires { ⌜ view ≡ viewBelow (count (now sheet)) position ⌝ }
+    requires { ⌜ o ≡ outlook (now sheet) (now setup) position ⌝ }
+    ensures { λ r. ⌜ r ≡ keptBack (now (sheet .entry)) (now (setup .entry)) position actor ⌝ }
+{
+    if 2 <= actor {
+        return false;
+    }
+    if !o.careful {
+        return false;
+    }
+    position.can_pay(sheet, setup, view, o, actor)
+}
+
+// What is the same for all steps of the actor.
+fn sight(
+    position: Position,
+    sheet: &[u8],
+    setup: &[u8],
+    view: View,
+    o: Outlook,
+    owed: bool,
+    actor: u8,
+) -> Sight
+    requires { ⌜ Sized (now sheet) ⌝ }
+    requires { ⌜ signatures (now sheet) ≤ 8 ⌝ }
+    requires { ⌜ length (now setup) ≡ 4 ⌝ }
+    requires { ⌜ Fit (now sheet) (now setup) ⌝ }
+    requires { ⌜ view ≡ viewBelow (count (now sheet)) position ⌝ }
+    requires { ⌜ o ≡ outlook (now sheet) (now setup) position ⌝ }
+    requires { ⌜ owed ≡ anyOwed (now sheet) (now setup) position ⌝ }
+    ensures { λ r. ⌜ r ≡ sightOf (now (sheet .entry)) (now (setup .entry)) position actor ⌝ }
+{
+    let back = kept_back(position, sheet, setup, view, o, actor);
+    let made = position.first_shares_made(actor);
+    Sight {
+        view,
+        outlook: o,
+        back,
+        owed,
+        made,
+    }
+}
+
+// Of the numbers below n, those with which a step of this kind and this destination is open.
+fn sheet_set(
+    position: Position,
+    sheet: &[u8],
+    setup: &[u8],
+    sight: Sight,
+    actor: u8,
+    kind: u8,
+    to: u8,
+) -> u32
+    requires { ⌜ Sized (now sheet) ⌝ }
+    requires { ⌜ signatures (now sheet) ≤ 8 ⌝ }
+    requires { ⌜ length (now setup) ≡ 4 ⌝ }
+    requires { ⌜ Fit (now sheet) (now setup) ⌝ }
+    requires { ⌜ sight ≡ sightOf (now sheet) (now setup) position actor ⌝ }
+    ensures { λ r. ⌜ r ≡ setBelow (count (now (sheet .entry))) (λ t. isOpenStep (now (sheet .entry)) (now (setup .entry)) position kind actor t to) ⌝ }
+{
+    let n = sheet::field::count(sheet);
+    let mut found: u32 = 0;
+    let mut t: usize = 0;
+    while t < n {
+        let x = position.slots[t];
+        let up = parent::slot_above(sheet, t);
+        let above = position.slots[up];
+        let since = parent::block_above(sheet, t, above.height);
+        let on = open::open_at(sheet, setup, sight, x, since, kind, actor, t as u8, to);
+        found = set::join(found, on, t);
+        t += 1;
+    }
+    found
+}
+
+// The transaction bytes below 32 with which a step of this kind and this destination is open.
+fn open_set(
+    position: Position,
+    sheet: &[u8],
+    setup: &[u8],
+    sight: Sight,
+    actor: u8,
+    kind: u8,
+    destination: u8,
+) -> u32
+    requires { ⌜ Sized (now sheet) ⌝ }
+    requires { ⌜ signatures (now sheet) ≤ 8 ⌝ }
+    requires { ⌜ length (now setup) ≡ 4 ⌝ }
+    requires { ⌜ Fit (now sheet) (now setup) ⌝ }
+    requires { ⌜ sight ≡ sightOf (now sheet) (now setup) position actor ⌝ }
+    ensures { λ r. ⌜ r ≡ openSet (now (sheet .entry)) (now (setup .entry)) position actor kind destination ⌝ }
+{
+    if !open::may_stand(kind, actor, destination) {
+        return 0;
+    }
+    if kind == 2 {
+        return open::give_set(sheet, setup, sight, actor, destination);
+    }
+    sheet_set(position, sheet, setup, sight, actor, kind, destination)
+}
+
+// These sets, for each kind and destination.
+fn below_sets(position: Position, sheet: &[u8], setup: &[u8], sight: Sight, actor: u8) -> [u32; 21]
+    requires { ⌜ Sized (now sheet) ⌝ }
+    requires { ⌜ signatures (now sheet) ≤ 8 ⌝ }
+    requires { ⌜ length (now setup) ≡ 4 ⌝ }
+    requires { ⌜ Fit (now sheet) (now setup) ⌝ }
+    requires { ⌜ sight ≡ sightOf (now sheet) (now setup) position actor ⌝ }
+    ensures { λ r. ⌜ r ≡ belowSets (now (sheet .entry)) (now (setup .entry)) position actor ⌝ }
+{
+    let mut below: [u32; 21] = [0; 21];
+    let mut i: usize = 0;
+    while i < 21 {
+        let kind = (i / 3 + 1) as u8;
+        let found = open_set(position, sheet, setup, sight, actor, kind, (i % 3) as u8);
+        below[i] = found;
+        i += 1;
+    }
+    below
+}
+
+// The open steps of an actor.
+pub fn open_sets(
+    position: Position,
+    sheet: &[u8],
+    setup: &[u8],
+    view: View,
+    o: Outlook,
+    owed: bool,
+    actor: u8,
+) -> OpenSets
+    requires { ⌜ Sized (now sheet) ⌝ }
+    requires { ⌜ signatures (now sheet) ≤ 8 ⌝ }
+    requires { ⌜ length (now setup) ≡ 4 ⌝ }
+    requires { ⌜ Fit (now sheet) (now setup) ⌝ }
+    requires { ⌜ view ≡ viewBelow (count (now sheet)) position ⌝ }
+    requires { ⌜ o ≡ outlook (now sheet) (now setup) position ⌝ }
+    requires { ⌜ owed ≡ anyOwed (now sheet) (now setup) position ⌝ }
+    ensures { λ r. ⌜ r ≡ openSets (now (sheet .entry)) (now (setup .entry)) position actor ⌝ }
+{
+    let sight = sight(position, sheet, setup, view, o, owed, actor);
+    let below = below_sets(position, sheet, setup, sight, actor);
+    let last = open::last_set(sheet, setup, sight, actor);
+    OpenSets { below, last }
+}

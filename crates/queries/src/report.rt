@@ -1,0 +1,44 @@
+// The report of a position.
+use output::row;
+use position::Position;
+use readings::report;
+use slots::conflict;
+use steps::parent;
+ghost use Prim.Native.Nat.{_*_, _≤_};
+ghost use mathlib.Core.Path.{_≡_};
+ghost use lib.ListN.{length};
+ghost use Rattle.laws.specs.Over.{over};
+ghost use Rattle.sheet.specs.Field.{count, Sized};
+ghost use Rattle.position.specs.Report.{reportBytes};
+
+// The rows of the report, at the front of the buffer.
+pub fn write_report(position: Position, sheet: &[u8], setup: &[u8], out: &mut [u8])
+    requires { ⌜ Sized (now sheet) ⌝ }
+    requires { ⌜ length (now setup) ≡ 4 ⌝ }
+    requires { ⌜ 14 * count (now sheet) ≤ length (now out) ⌝ }
+    ensures { λ _. ⌜ now (out .exit) ≡ over (reportBytes (now (sheet .entry)) (now (setup .entry)) position) (now (out .entry)) ⌝ }
+{
+    let n = sheet::field::count(sheet);
+    let per_day = sheet::setup::per_day(setup);
+    let view = position.view(sheet);
+    let struck = conflict::conflicts_of(sheet, view.confirmed, true);
+    let mut at: usize = 0;
+    let mut t: usize = 0;
+    while t < n {
+        let x = position.slots[t];
+        let up = parent::slot_above(sheet, t);
+        let above = position.slots[up];
+        let since = parent::block_above(sheet, t, above.height);
+        let r = report::row(sheet, per_day, view, struck, x, since, t);
+        row::write_row(
+            &mut out[at..],
+            r.status,
+            r.payee,
+            r.block,
+            r.lock,
+            r.deadline,
+        );
+        at += 14;
+        t += 1;
+    }
+}
