@@ -1,0 +1,49 @@
+/* What the engine answers about a swap: its position after the journal, and what is read off it. */
+#ifndef POSITION_H
+#define POSITION_H
+
+#include "fields.h"
+#include "swap.h"
+
+/* Parties and destinations by number. 2 is the miner as a party, the contract as a destination. */
+enum { ALICE = 0, BOB = 1, MINER = 2, CONTRACT = 2 };
+
+/* A height that is not reached. */
+#define NEVER 2147483647u
+
+/* The kinds of step. */
+enum { SHARE = 1, GIVE = 2, SEND = 3, HAND_IN = 4, INCLUDE = 5, MINE = 6, BUMP = 7 };
+
+/* The bits of a status. */
+enum { IN_POOL = 1, IN_BLOCK = 2, CONFIRMED = 4, DEAD = 8 };
+
+/* The position after a journal that is accepted whole. */
+struct position {
+    const struct swap *swap;
+    uint32_t steps;
+    uint32_t mined;
+    uint32_t open_count;
+    uint8_t open[SWAP_LIST_SIZE];
+    uint8_t report[SWAP_REPORT_SIZE];
+};
+
+/* Puts a swap to the four calls: the first answer that is a refusal, else one that is none. */
+uint32_t ask(const struct swap *swap, struct position *position);
+
+/* The fields of the report. */
+uint8_t status_of(const struct position *position, uint8_t t);
+uint8_t payee_of(const struct position *position, uint8_t t);
+uint32_t block_of(const struct position *position, uint8_t t);
+uint32_t lock_height_of(const struct position *position, uint8_t t);
+uint32_t deadline_of(const struct position *position, uint8_t t);
+
+bool is_confirmed(const struct position *position, uint8_t t);
+
+/* The transaction whose payee holds the coin of this opening: the confirmed one, the opening or below it, that has no
+ * confirmed child. NONE where the opening is not confirmed. */
+uint8_t last_confirmed(const struct position *position, uint8_t opening);
+
+/* Whether the party has an open step that sends the transaction, to the pool or to the miner. */
+bool can_be_sent(const struct position *position, uint8_t party, uint8_t t);
+
+#endif

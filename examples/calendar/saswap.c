@@ -1,0 +1,112 @@
+#include "saswap.h"
+
+#include <string.h>
+
+#include "fields.h"
+
+/* A transaction: its name, then its bytes of the sheet's two arrays. */
+struct entry {
+    const char *name;
+    uint8_t first[4];  /* parent, payees, needs, veil */
+    uint8_t second[2]; /* lock type, days; an absolute lock has the offset beside them */
+};
+
+static const struct entry table[SASWAP_COUNT] = {
+    {"lock_A", {NONE, 0, 1, 0}, {UNLOCKED, 0}},
+    {"lock_B", {NONE, 0, 2, 0}, {UNLOCKED, 0}},
+    {"success", {0, 0, 11, 0}, {UNLOCKED, 0}},
+    {"refund_1", {0, 0, 7, 0}, {ABSOLUTE, 1}},
+    {"revoke", {0, 0, 3, 0}, {ABSOLUTE, 2}},
+    {"refund_2", {4, 0, 7, 0}, {SINCE_PARENT, 1}},
+    {"timeout", {4, 0, 3, 0}, {SINCE_PARENT, 2}},
+    {"spend_A", {0, 3, 3, 0}, {UNLOCKED, 0}},
+    {"spend_B", {1, 3, 12, 1}, {UNLOCKED, 0}},
+    {"spend_success", {2, 2, 2, 0}, {UNLOCKED, 0}},
+    {"spend_refund_1_bob", {3, 2, 3, 0}, {UNLOCKED, 0}},
+    {"spend_refund_1_alice", {3, 1, 1, 0}, {SINCE_PARENT, 1}},
+    {"spend_revoke", {4, 3, 3, 0}, {UNLOCKED, 0}},
+    {"spend_refund_2", {5, 1, 1, 0}, {UNLOCKED, 0}},
+    {"spend_timeout", {6, 2, 2, 0}, {UNLOCKED, 0}},
+};
+
+const char *saswap_transaction(uint8_t t)
+{
+    return table[t].name;
+}
+
+const char *saswap_signature(uint8_t number)
+{
+    static const char *const names[] = {"sigAlice", "sigBob", "secretAlice", "secretBob"};
+
+    return names[number];
+}
+
+/* "Offset is 3 less the blocks per day, never below zero." */
+static uint8_t offset(unsigned blocks_per_day)
+{
+    return blocks_per_day < 3 ? (uint8_t)(3 - blocks_per_day) : 0;
+}
+
+/* The SASwap sheet for a number of blocks per day. */
+static void saswap_sheet(unsigned blocks_per_day, uint8_t sheet[SASWAP_SIZE])
+{
+    /* transactions, signatures, secrets, held by Alice, held by Bob */
+    static const uint8_t head[5] = {SASWAP_COUNT, 4, 12, 5, 10};
+    uint8_t *first = sheet + sizeof head;
+    uint8_t *second = first + 4 * SASWAP_COUNT;
+
+    memcpy(sheet, head, sizeof head);
+    for (size_t t = 0; t < SASWAP_COUNT; t++) {
+        memcpy(first + 4 * t, table[t].first, 4);
+        memcpy(second + 2 * t, table[t].second, 2);
+        if (table[t].second[0] == ABSOLUTE) {
+            second[2 * t + 1] += offset(blocks_per_day);
+        }
+    }
+}
+
+bool is_saswap(const struct swap *swap)
+{
+    uint8_t sheet[SASWAP_SIZE];
+
+    saswap_sheet(blocks_per_day_of(swap), sheet);
+    return swap->sheet_length == SASWAP_SIZE && memcmp(swap->sheet, sheet, SASWAP_SIZE) == 0;
+}
+
+/* A step, so many times in a row. */
+struct repeated {
+    uint8_t step[4];
+    size_t times;
+};
+
+static const struct repeated embedded_course[] = {
+    {{1, 0, 255, 2}, 1},   /* Alice's first shares: revoke, timeout */
+    {{1, 1, 255, 2}, 1},   /* Bob's first shares: refund_1, revoke, refund_2, timeout */
+    {{3, 0, 0, 2}, 1},     /* Alice sends lock_A */
+    {{5, 2, 0, 2}, 1},     /* the miner includes it */
+    {{6, 2, 255, 2}, 1},   /* block 1 */
+    {{3, 1, 1, 2}, 1},     /* Bob sends lock_B */
+    {{5, 2, 1, 2}, 1},     /* the miner includes it */
+    {{6, 2, 255, 2}, 298}, /* blocks 2 to 299 */
+    {{3, 1, 4, 2}, 1},     /* Bob sends revoke */
+    {{5, 2, 4, 2}, 1},     /* the miner includes it */
+    {{6, 2, 255, 2}, 145}, /* blocks 300 to 444 */
+};
+
+void embedded_swap(struct swap *swap)
+{
+    const uint8_t setup[4] = {144, 0, 2, 0};
+    const size_t rows = sizeof embedded_course / sizeof embedded_course[0];
+
+    saswap_sheet(144, swap->sheet);
+    swap->sheet_length = SASWAP_SIZE;
+    memcpy(swap->setup, setup, sizeof setup);
+    swap->setup_length = sizeof setup;
+    swap->journal_length = 0;
+    for (size_t row = 0; row < rows; row++) {
+        for (size_t i = 0; i < embedded_course[row].times; i++) {
+            memcpy(swap->journal + swap->journal_length, embedded_course[row].step, 4);
+            swap->journal_length += 4;
+        }
+    }
+}

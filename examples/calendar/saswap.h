@@ -1,0 +1,22 @@
+/* The SASwap sheet of document 01, its names, and a swap over it. */
+#ifndef SASWAP_H
+#define SASWAP_H
+
+#include "files.h"
+
+#define SASWAP_COUNT 15
+#define SASWAP_SIZE (5 + 6 * SASWAP_COUNT)
+
+/* The names of its transactions and of its 4 signatures. */
+const char *saswap_transaction(uint8_t t);
+const char *saswap_signature(uint8_t number);
+
+/* Whether the sheet is the SASwap sheet for the setup's blocks per day; the setup has 4 bytes. */
+bool is_saswap(const struct swap *swap);
+
+/* The swap that is shown where no folder is named: 144 blocks per day, careful conduct, 444 blocks mined. Both coins
+ * were locked, then neither party went on, and Bob sent revoke. What is left to Alice is refund_2, in blocks 445 to
+ * 588: one day. */
+void embedded_swap(struct swap *swap);
+
+#endif

@@ -1,0 +1,26 @@
+/* Names and words for what the engine answers in numbers. */
+#ifndef WORDS_H
+#define WORDS_H
+
+#include "position.h"
+
+/* A short text that is given back by value; the longest is a status with all four words. */
+struct label {
+    char text[32];
+};
+
+/* A transaction: its name on the SASwap sheet, else its number. */
+struct label transaction_label(const struct swap *swap, uint8_t t);
+
+/* A party, and a destination of a step or of a confirmed transaction. */
+const char *party_name(uint8_t party);
+const char *destination_name(uint8_t destination);
+
+/* A refusal: its name in include/swap.h, and what it says. */
+const char *refusal_name(uint32_t refusal);
+const char *refusal_words(uint32_t refusal);
+
+/* Prints what a step does; its fields are in range. */
+void print_step(const struct swap *swap, const uint8_t step[4]);
+
+#endif

@@ -1,0 +1,197 @@
+//! The sample swaps of `examples/calendar/samples`. The example `calendar` writes them; the test `calendar` holds the
+//! stored files to them.
+
+use crate::model::sheet;
+use crate::random::MINE;
+use std::fs;
+use std::path::Path;
+
+/// The names of a swap's files.
+pub const FILES: [&str; 3] = ["sheet.bin", "setup.bin", "journal.bin"];
+
+/// The bytes of a swap's files, in that order; None for one that is missing.
+pub type Files = [Option<Vec<u8>>; 3];
+
+/// Writes a swap's files to its folder, which is made.
+pub fn write(folder: &Path, files: &Files) -> std::io::Result<()> {
+    fs::create_dir_all(folder)?;
+    for (name, bytes) in FILES.iter().zip(files) {
+        if let Some(bytes) = bytes {
+            fs::write(folder.join(name), bytes)?;
+        }
+    }
+    Ok(())
+}
+
+/// Reads a swap's files from its folder.
+pub fn read(folder: &Path) -> Files {
+    FILES.map(|name| fs::read(folder.join(name)).ok())
+}
+
+/// A swap's folder below `samples`, and its files.
+pub type Sample = (&'static str, Files);
+
+type Steps = Vec<[u8; 4]>;
+
+/// The sheet of P10.
+const P10: [u8; 17] = [2, 2, 0, 1, 2, 255, 0, 1, 0, 0, 2, 2, 0, 0, 0, 1, 1];
+/// Both first shares.
+const FIRST_SHARES: [[u8; 4]; 2] = [[1, 0, 255, 2], [1, 1, 255, 2]];
+
+/// A transaction to the pool, included and mined; or with more blocks mined after it.
+fn confirmed(party: u8, t: u8, destination: u8, blocks: usize) -> Steps {
+    let mut steps = vec![[3, party, t, destination], [5, 2, t, 2]];
+    steps.extend(vec![MINE; blocks]);
+    steps
+}
+
+/// lock_A confirmed in block 1.
+fn lock_a() -> Steps {
+    confirmed(0, 0, 2, 1)
+}
+
+/// Both first shares, lock_A confirmed in block 1, lock_B in block 2, and so many blocks mined.
+fn both_locked(blocks: usize) -> Steps {
+    let lock_b = confirmed(1, 1, 2, blocks - 1);
+    [FIRST_SHARES.to_vec(), lock_a(), lock_b].concat()
+}
+
+fn files(sheet: &[u8], setup: [u8; 4], steps: &[[u8; 4]]) -> Files {
+    [
+        Some(sheet.to_vec()),
+        Some(setup.to_vec()),
+        Some(steps.concat()),
+    ]
+}
+
+/// The SASwap sheet with its setup: blocks per day below 256, conduct and stealth.
+fn saswap(setup: [u8; 3], steps: &[[u8; 4]]) -> Files {
+    let [blocks_per_day, conduct, stealth] = setup;
+    let sheet = sheet::saswap(blocks_per_day.into());
+    files(&sheet, [blocks_per_day, 0, conduct, stealth], steps)
+}
+
+/// Nothing done yet.
+fn fresh() -> Files {
+    saswap([3, 2, 0], &[])
+}
+
+/// Both coins are locked, Alice has shared success, Bob has given secretBob, 100 blocks are mined.
+fn locked() -> Files {
+    let mut steps = both_locked(100);
+    steps.extend([[1, 0, 2, 2], [2, 1, 3, 0]]);
+    saswap([144, 2, 1], &steps)
+}
+
+/// Another sheet: P10's, after its first block.
+fn numbers() -> Files {
+    files(&P10, [1, 0, 0, 0], &lock_a())
+}
+
+/// A swap that succeeded: Bob has coin A by success, Alice coin B. Success is bumped into its last block.
+fn paid() -> Files {
+    let success = vec![[1, 0, 2, 2], [3, 1, 2, 2], [7, 2, 2, 2], MINE];
+    let spends = vec![[3, 1, 9, 1], [3, 0, 8, 0], [5, 2, 8, 2], [5, 2, 9, 2], MINE];
+    saswap([3, 2, 0], &[both_locked(2), success, spends].concat())
+}
+
+/// Success waits in the pool, with a bump owed.
+fn pool() -> Files {
+    let success = vec![[2, 0, 0, 1], [3, 1, 2, 2], MINE];
+    saswap([3, 0, 0], &[lock_a(), success].concat())
+}
+
+/// Alice took refund_1, Bob coin B with her secret.
+fn refunded() -> Files {
+    let refund_1 = confirmed(0, 3, 2, 1);
+    let spend_b = confirmed(1, 8, 1, 1);
+    saswap([3, 2, 1], &[both_locked(3), refund_1, spend_b].concat())
+}
+
+/// Bob revoked, and Alice has one day for refund_2. This is the swap that is embedded in the calendar.
+pub fn revoked() -> Files {
+    let revoke = confirmed(1, 4, 2, 145);
+    saswap([144, 2, 0], &[both_locked(299), revoke].concat())
+}
+
+/// Another sheet, where the confirmation of transaction 1 decides about deadlines: 2 to 6 spend it, with absolute locks
+/// of 5 and 6 days, with one day since it, with none, and with two days since it.
+const WAITING: [u8; 47] = [
+    7, 2, 0, 1, 2, // sizes and masks
+    255, 0, 1, 0, 0, 0, 1, 0, // the opening, and 1
+    1, 1, 1, 0, 1, 2, 2, 0, 1, 3, 1, 0, 1, 3, 3, 0, 1, 1, 1, 0, // what spends it
+    0, 0, 0, 0, 1, 5, 1, 6, 2, 1, 0, 0, 2, 2, // locks
+];
+
+/// The opening is confirmed, transaction 1 is not.
+fn waiting() -> Files {
+    files(&WAITING, [1, 0, 0, 0], &lock_a())
+}
+
+/// P10's sheet and a setup, and a journal that is not there.
+fn missing_journal() -> Files {
+    [Some(P10.to_vec()), Some(vec![1, 0, 0, 0]), None]
+}
+
+/// 32 openings that pay either, the longest valid sheet, and a byte more.
+fn long_sheet() -> Files {
+    let mut sheet = vec![32, 1, 0, 1, 1];
+    sheet.extend([255, 3, 1, 0].repeat(32));
+    sheet.extend([0; 2 * 32 + 1]);
+    files(&sheet, [1, 0, 0, 0], &[])
+}
+
+/// A valid setup and a byte more.
+fn long_setup() -> Files {
+    let [sheet, _, journal] = numbers();
+    [sheet, Some(vec![1, 0, 0, 0, 0]), journal]
+}
+
+/// Success at 3 blocks, 3 a day: its deadline is reached.
+fn late_step() -> Files {
+    let late = vec![[2, 0, 0, 1], MINE, MINE, [3, 1, 2, 2], MINE];
+    saswap([3, 0, 0], &[lock_a(), late].concat())
+}
+
+/// A journal of three bytes.
+fn short_journal() -> Files {
+    let [sheet, setup, _] = numbers();
+    [sheet, setup, Some(vec![3, 0, 0])]
+}
+
+/// All samples: swaps that are accepted, and a folder with refused and unreadable ones and one that is accepted.
+pub fn samples() -> Vec<Sample> {
+    vec![
+        ("swaps/fresh", fresh()),
+        ("swaps/locked", locked()),
+        ("swaps/numbers", numbers()),
+        ("swaps/paid", paid()),
+        ("swaps/pool", pool()),
+        ("swaps/refunded", refunded()),
+        ("swaps/revoked", revoked()),
+        ("swaps/waiting", waiting()),
+        ("refused/bad_conduct", files(&P10, [3, 0, 3, 0], &[])),
+        ("refused/bad_field", files(&P10, [1, 0, 0, 0], &[[0; 4]])),
+        ("refused/late_step", late_step()),
+        ("refused/long_setup", long_setup()),
+        ("refused/long_sheet", long_sheet()),
+        ("refused/missing_journal", missing_journal()),
+        ("refused/short_journal", short_journal()),
+        ("refused/short_sheet", files(&P10[..16], [1, 0, 0, 0], &[])),
+        ("refused/sound", numbers()),
+    ]
+}
+
+/// The samples of a folder by name; one sample alone where the folder is its own, with the folder as its name.
+pub fn in_folder(folder: &str) -> Vec<(String, Files)> {
+    let mut found = Vec::new();
+    for (name, files) in samples() {
+        if name == folder {
+            return vec![(format!("samples/{folder}"), files)];
+        }
+        if let Some(name) = name.strip_prefix(&format!("{folder}/")) {
+            found.push((name.to_string(), files));
+        }
+    }
+    found
+}
