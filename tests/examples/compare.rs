@@ -2,6 +2,7 @@
 //!
 //! Usage: compare ROUNDS SEED
 
+use swap_tests::calls::ENGINE;
 use swap_tests::rounds;
 
 fn main() {
@@ -13,5 +14,5 @@ fn main() {
         panic!("usage: compare ROUNDS SEED")
     };
     println!("{count} rounds with seed {seed}");
-    println!("{}", rounds::rounds(seed, 0..count as usize));
+    println!("{}", rounds::rounds(ENGINE, seed, 0..count as usize));
 }

@@ -1,6 +1,7 @@
-//! The built library held to the model: cases through all four calls, and positions with the steps that could come next.
+//! The built library, or another version of the calls, held to the model: cases through all four calls, and positions with
+//! the steps that could come next.
 
-use crate::engine;
+use crate::calls::{Call, Calls, Inputs, MODEL};
 use crate::model::journal::Course;
 use crate::model::setup::{Conduct, Setup};
 use crate::model::sheet::{self, Sheet};
@@ -18,70 +19,14 @@ const TRIES: usize = 6;
 /// The most blocks of one turn.
 const LEAP: usize = 2_100;
 
-/// Sheet, setup and journal, as bytes.
-struct Inputs<'a> {
-    sheet: &'a [u8],
-    setup: &'a [u8],
-    journal: &'a [u8],
-}
-
-/// The bytes in hexadecimal digits.
-impl fmt::Debug for Inputs<'_> {
-    fn fmt(&self, to: &mut fmt::Formatter) -> fmt::Result {
-        let hex = |bytes: &[u8]| bytes.iter().map(|b| format!("{b:02x}")).collect::<String>();
-        let (sheet, setup, journal) = (hex(self.sheet), hex(self.setup), hex(self.journal));
-        write!(to, "sheet {sheet} setup {setup} journal {journal}")
-    }
-}
-
-/// The four calls.
-#[derive(Clone, Copy, Debug)]
-enum Call {
-    Check,
-    Run,
-    List,
-    Report,
-}
-
-impl<'a> Inputs<'a> {
-    fn of((sheet, setup, journal): &'a Case) -> Inputs<'a> {
-        Inputs {
-            sheet,
-            setup,
-            journal,
-        }
-    }
-
-    /// The library's answer; check and run use no buffer.
-    fn engine(&self, call: Call, output: &mut [u8]) -> u32 {
-        match call {
-            Call::Check => engine::check(self.sheet),
-            Call::Run => engine::run(self.sheet, self.setup, self.journal),
-            Call::List => engine::list(self.sheet, self.setup, self.journal, output),
-            Call::Report => engine::report(self.sheet, self.setup, self.journal, output),
-        }
-    }
-
-    /// The model's answer.
-    fn model(&self, call: Call, output: &mut [u8]) -> u32 {
-        match call {
-            Call::Check => calls::check_number(self.sheet),
-            Call::Run => calls::run_number(self.sheet, self.setup, self.journal),
-            Call::List => calls::list_number(self.sheet, self.setup, self.journal, output),
-            Call::Report => calls::report_number(self.sheet, self.setup, self.journal, output),
-        }
-    }
-
-    /// The bytes that list or report has to write; 16 where it is refused.
-    fn needed(&self, call: Call) -> usize {
-        let bytes = match call {
-            Call::List => {
-                calls::open_steps(self.sheet, self.setup, self.journal).map(|steps| 4 * steps.len())
-            }
-            _ => calls::report_bytes(self.sheet, self.setup, self.journal).map(|rows| rows.len()),
-        };
-        bytes.unwrap_or(16)
-    }
+/// The bytes that list or report has to write; 16 where it is refused.
+fn needed(call: Call, inputs: &Inputs) -> usize {
+    let (sheet, setup, journal) = (inputs.sheet, inputs.setup, inputs.journal);
+    let bytes = match call {
+        Call::List => calls::open_steps(sheet, setup, journal).map(|steps| 4 * steps.len()),
+        _ => calls::report_bytes(sheet, setup, journal).map(|rows| rows.len()),
+    };
+    bytes.unwrap_or(16)
 }
 
 /// Lengths of a buffer: exact, one short, one more, long, empty.
@@ -129,8 +74,10 @@ impl Game {
 }
 
 /// What was compared, all of it equal.
-#[derive(Clone, Debug, Default)]
+#[derive(Clone, Debug)]
 pub struct Tally {
+    /// The version that is held to the model.
+    pub tested: Calls,
     /// Journals put to the calls, and walks.
     pub journals: usize,
     /// Positions whose open steps and report were compared.
@@ -169,6 +116,27 @@ impl fmt::Display for Tally {
 }
 
 impl Tally {
+    /// Nothing compared yet of this version.
+    pub fn of(tested: Calls) -> Tally {
+        Tally {
+            tested,
+            journals: 0,
+            positions: 0,
+            steps: 0,
+            accepted: [0; 7],
+            answers: [[0; 26]; 4],
+        }
+    }
+
+    /// Each call has answered each of its refusals, and no other.
+    pub fn assert_every_refusal(&self) {
+        for (answers, last) in self.answers.iter().zip([8, 24, 25, 25]) {
+            let (own, others) = answers.split_at(last + 1);
+            assert!(own.iter().all(|&count| count > 0), "{self}");
+            assert!(others.iter().all(|&count| count == 0), "{self}");
+        }
+    }
+
     /// One call with a buffer of so many bytes, filled at random, against an answer of the model's.
     fn compare(
         &mut self,
@@ -180,7 +148,8 @@ impl Tally {
     ) -> u32 {
         let mut buffer = random.bytes(GUARD + length + GUARD);
         let mut modelled = buffer.clone();
-        let answer = inputs.engine(call, &mut buffer[GUARD..GUARD + length]);
+        let lent = &mut buffer[GUARD..GUARD + length];
+        let answer = self.tested.answer(call, inputs, lent);
         let expected = model(&mut modelled[GUARD..GUARD + length]);
         assert_eq!(answer, expected, "{call:?}, {length} bytes, of {inputs:?}");
         assert_eq!(buffer, modelled, "{call:?}, {length} bytes, of {inputs:?}");
@@ -190,7 +159,9 @@ impl Tally {
 
     /// One call, against the model's.
     fn call(&mut self, random: &mut Random, call: Call, length: usize, inputs: &Inputs) -> u32 {
-        self.compare(random, call, length, inputs, |out| inputs.model(call, out))
+        self.compare(random, call, length, inputs, |out| {
+            MODEL.answer(call, inputs, out)
+        })
     }
 
     /// One case through check and run.
@@ -208,7 +179,7 @@ impl Tally {
         self.run(random, case);
         let inputs = Inputs::of(case);
         for call in [Call::List, Call::Report] {
-            for length in lengths(inputs.needed(call)) {
+            for length in lengths(needed(call, &inputs)) {
                 self.call(random, call, length, &inputs);
             }
         }

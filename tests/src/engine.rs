@@ -20,7 +20,6 @@ extern "C" {
         output: *mut u8,
         output_length: usize,
     ) -> u32;
-    #[cfg(feature = "report")]
     fn swap_report(
         sheet: *const u8,
         sheet_length: usize,
@@ -88,7 +87,6 @@ pub fn list(sheet: &[u8], setup: &[u8], journal: &[u8], output: &mut [u8]) -> u3
     lent(swap_list, sheet, setup, journal, output)
 }
 
-#[cfg(feature = "report")]
 /// The engine's report, in one number.
 pub fn report(sheet: &[u8], setup: &[u8], journal: &[u8], output: &mut [u8]) -> u32 {
     lent(swap_report, sheet, setup, journal, output)

@@ -1,5 +1,6 @@
 //! Every position that a game can come to up to a number of blocks, by the library and the model side by side.
 
+use crate::calls::ENGINE;
 use crate::compare::{Game, Tally};
 use crate::model::journal::Course;
 use crate::model::open;
@@ -8,7 +9,7 @@ use std::collections::HashSet;
 
 /// Walks all positions with at most so many blocks mined. A position counts once, however many journals lead to it.
 pub fn positions(game: &Game, most_blocks: u32) -> Tally {
-    let mut tally = Tally::default();
+    let mut tally = Tally::of(ENGINE);
     let mut random = Random::new(0);
     let fresh = Course::fresh(&game.sheet);
     let mut seen = HashSet::from([fresh.position.clone()]);

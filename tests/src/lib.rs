@@ -1,11 +1,12 @@
 //! Tests of the built library against a separate model of document 01.
 
-#[cfg(feature = "report")]
+pub mod calendar;
+pub mod calls;
 pub mod compare;
 pub mod engine;
-#[cfg(feature = "report")]
 pub mod every;
+pub mod fast;
 pub mod model;
 pub mod random;
-#[cfg(feature = "report")]
 pub mod rounds;
+pub mod samples;

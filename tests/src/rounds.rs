@@ -1,6 +1,7 @@
 //! The rounds of the long comparison. Each has a walk over the SASwap sheet, a walk over a random sheet, a case that is
 //! led to a refusal, and a case of any sort.
 
+use crate::calls::Calls;
 use crate::compare::{Game, Tally};
 use crate::model::journal;
 use crate::model::step::MOST_BLOCKS;
@@ -14,10 +15,11 @@ const TURNS: usize = 30;
 /// The steps of a case's journal, at most.
 const STEPS: usize = 80;
 
-/// The rounds of these numbers. 42 in a row have each of the blocks per day with each conduct and stealth, 256 in a row
-/// each number of transactions with each number of signatures, and 1,024 these with each shape.
-pub fn rounds(seed: u64, numbers: Range<usize>) -> Tally {
-    let mut tally = Tally::default();
+/// The rounds of these numbers, for one version of the calls. 42 in a row have each of the blocks per day with each
+/// conduct and stealth, 256 in a row each number of transactions with each number of signatures, and 1,024 these with
+/// each shape.
+pub fn rounds(tested: Calls, seed: u64, numbers: Range<usize>) -> Tally {
+    let mut tally = Tally::of(tested);
     let first = Random::new(seed).number();
     for number in numbers {
         let mut random = Random::new(first.wrapping_add(number as u64));
@@ -60,8 +62,17 @@ fn any_sheet(tally: &mut Tally, random: &mut Random, number: usize) {
     tally.walk(random, &Game::new((sheet, setup)), manner, TURNS);
 }
 
+/// So many cases of any sort, and as many that are led to each refusal in turn.
+pub fn cases(tally: &mut Tally, random: &mut Random, count: usize) {
+    for number in 0..count {
+        let case = random::case(random, STEPS);
+        tally.case(random, &case);
+        led_case(tally, random, number);
+    }
+}
+
 /// A case that is led to one of the refusals 1 to 24. 23 needs a long journal, so it comes seldom.
-pub fn led_case(tally: &mut Tally, random: &mut Random, number: usize) {
+fn led_case(tally: &mut Tally, random: &mut Random, number: usize) {
     match number % 24 + 1 {
         23 if number % 480 == 22 => last_block(tally, random, number / 480),
         refusal => {

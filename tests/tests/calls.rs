@@ -1,23 +1,12 @@
 //! The built library's four calls against the model's, on cases of every sort and every refusal.
 
+use swap_tests::calls::ENGINE;
 use swap_tests::compare::{Game, Tally};
 use swap_tests::engine;
 use swap_tests::model::journal::{self, MOST_BYTES};
 use swap_tests::model::sheet;
 use swap_tests::random::{self, Random, MINE};
 use swap_tests::rounds;
-
-/// Steps of a journal, at most.
-const STEPS: usize = 60;
-
-/// Cases of any sort, and as many that are led to each refusal in turn.
-fn cases(tally: &mut Tally, random: &mut Random) {
-    for number in 0..10_200 {
-        let case = random::case(random, STEPS);
-        tally.case(random, &case);
-        rounds::led_case(tally, random, number);
-    }
-}
 
 /// Journals whose length is at or near the most: accepted steps, then the same ones again, which are refused.
 fn lengths(tally: &mut Tally, random: &mut Random) {
@@ -33,16 +22,12 @@ fn lengths(tally: &mut Tally, random: &mut Random) {
 #[test]
 fn every_refusal() {
     let mut random = Random::new(21);
-    let mut tally = Tally::default();
-    cases(&mut tally, &mut random);
+    let mut tally = Tally::of(ENGINE);
+    rounds::cases(&mut tally, &mut random, 10_200);
     lengths(&mut tally, &mut random);
     println!("{tally}");
     assert!(tally.journals >= 20_000);
-    let [check, run, list, report] = tally.answers;
-    for (answers, last) in [(check, 8), (run, 24), (list, 25), (report, 25)] {
-        assert!(answers[..=last].iter().all(|&count| count > 0));
-        assert!(answers[last + 1..].iter().all(|&count| count == 0));
-    }
+    tally.assert_every_refusal();
 }
 
 /// 32 openings that pay either, each with one signature that both hold; Alice holds the other 7 alone.
@@ -54,7 +39,7 @@ fn largest_list() {
     let setup = vec![1, 0, 0, 1];
     let mut output = [0; 1_060];
     assert_eq!(engine::list(&sheet, &setup, &[], &mut output), 263);
-    let mut tally = Tally::default();
+    let mut tally = Tally::of(ENGINE);
     tally.case(&mut Random::new(22), &(sheet, setup, vec![]));
 }
 
@@ -76,7 +61,7 @@ fn setups() -> impl Iterator<Item = Vec<u8>> {
 #[test]
 fn every_setup() {
     let mut random = Random::new(24);
-    let mut tally = Tally::default();
+    let mut tally = Tally::of(ENGINE);
     for blocks_per_day in 1..=3 {
         for setup in setups() {
             let case = (sheet::saswap(blocks_per_day), setup, vec![]);
@@ -92,7 +77,7 @@ fn every_setup() {
 #[test]
 fn bytes_of_steps() {
     let mut random = Random::new(23);
-    let mut tally = Tally::default();
+    let mut tally = Tally::of(ENGINE);
     let locks = [
         [3, 0, 0, 2],
         [5, 2, 0, 2],

@@ -110,6 +110,9 @@ fn declared() -> Calls {
 #[test]
 fn the_header_declares_the_calls() {
     let names: Vec<String> = declared().into_keys().collect();
-    assert_eq!(names, ["swap_check", "swap_list", "swap_run"]);
+    assert_eq!(
+        names,
+        ["swap_check", "swap_list", "swap_report", "swap_run"]
+    );
     assert_eq!(declared(), exported());
 }

@@ -1,16 +1,16 @@
 //! The built library against the model in many rounds of walks and cases, with fixed seeds. The example `compare` goes on
 //! with any seed.
 
+use swap_tests::calls::ENGINE;
 use swap_tests::rounds;
 
 /// Half of the rounds; each half has every refusal and every kind of step.
 fn half(first: usize) {
-    let tally = rounds::rounds(1, first..first + 512);
+    let tally = rounds::rounds(ENGINE, 1, first..first + 512);
     println!("{tally}");
     assert!(tally.steps >= 500_000);
     assert!(tally.accepted.iter().all(|&count| count > 0));
-    let refused = |number: usize| tally.answers.iter().map(|by| by[number]).sum::<usize>();
-    assert!((1..=25).all(|number| refused(number) > 0));
+    tally.assert_every_refusal();
 }
 
 #[test]
