@@ -1,5 +1,5 @@
 //! The rounds of the long comparison. Each has a walk over the SASwap sheet, a walk over a random sheet, a case that is
-//! led to a refusal, and a case of any sort.
+//! led to a refusal, a case of any sort, and a case that ends in a row of blocks.
 
 use crate::calls::Calls;
 use crate::compare::{Game, Tally};
@@ -14,6 +14,8 @@ const BLOCKS_PER_DAY: [u16; 7] = [1, 2, 3, 4, 7, 144, 1000];
 const TURNS: usize = 30;
 /// The steps of a case's journal, at most.
 const STEPS: usize = 80;
+/// The blocks of a row at the end of a journal, at most.
+const ROW: usize = 80;
 
 /// The rounds of these numbers, for one version of the calls. 42 in a row have each of the blocks per day with each
 /// conduct and stealth, 256 in a row each number of transactions with each number of signatures, and 1,024 these with
@@ -28,6 +30,7 @@ pub fn rounds(tested: Calls, seed: u64, numbers: Range<usize>) -> Tally {
         led_case(&mut tally, &mut random, number);
         let case = random::case(&mut random, STEPS);
         tally.case(&mut random, &case);
+        row_case(&mut tally, &mut random);
     }
     tally
 }
@@ -80,6 +83,13 @@ fn led_case(tally: &mut Tally, random: &mut Random, number: usize) {
             tally.case(random, &case);
         }
     }
+}
+
+/// A case that is led to a bump owed, and whose journal goes on with a row of blocks, refused or not.
+fn row_case(tally: &mut Tally, random: &mut Random) {
+    let (sheet, setup, mut journal) = random::led_case(random, STEPS, 20);
+    journal.extend(MINE.repeat(random.below(ROW + 1)));
+    tally.case(random, &(sheet, setup, journal));
 }
 
 /// 0 opens, 1 and 2 spend it, 2 from block 10,001 on at 137 blocks per day. So a bump of 1 can be owed at the last block.

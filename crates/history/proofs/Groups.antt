@@ -6,7 +6,7 @@ use mathlib.Core.Path.{_≡_, refl}
 use mathlib.Core.List.{List, [], _∷_}
 use lib.ListN.{length, drop, length-drop}
 use Rattle.position.specs.Play.{FourBytes, journalSteps}
-use Rattle.swap.specs.Journal.{stepAt}
+use Rattle.position.specs.Journal.{stepAt}
 use Rattle.swap.proofs.Runs.{next-step}
 
 few-bytes : (l : List ℕ) → length l < 4 → journalSteps l ≡ []

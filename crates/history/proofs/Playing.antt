@@ -11,7 +11,7 @@ use lib.ListN.{length, length-append}
 use Rattle.laws.specs.Booleans.{pick, split}
 use Rattle.position.specs.declared.Position.{Position}
 use Rattle.position.specs.declared.Stepped.{Stepped}
-use Rattle.swap.specs.Journal.{stepAt}
+use Rattle.position.specs.Journal.{stepAt}
 use Rattle.swap.proofs.Bounds.{steps-bytes}
 use Rattle.position.specs.Position.{start}
 use Rattle.position.specs.Play.{FourBytes, journalSteps, step, play, acceptedOf}

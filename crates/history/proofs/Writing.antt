@@ -17,7 +17,7 @@ use Rattle.position.specs.declared.Position.{Position}
 use Rattle.position.specs.declared.Stepped.{Stepped}
 use Rattle.position.specs.Position.{start}
 use Rattle.position.specs.Play.{FourBytes, journalSteps, journalBytes, step, acceptedOf}
-use Rattle.swap.specs.Journal.{stepAt}
+use Rattle.position.specs.Journal.{stepAt}
 use Rattle.history.specs.Steps.{taken}
 use Rattle.history.proofs.Groups.{groupsFrom, groups-all, groups-none}
 use Rattle.history.proofs.Playing.{accepted-none, accepted-turn}

@@ -1,7 +1,7 @@
 // Demand 3 of the engine: any list of steps played, its accepted steps written and reported.
 use position::Position;
+use position::journal;
 use sheet::refusal;
-use swap::journal;
 use swap::report;
 ghost use mathlib.Core.Path.{_≡_};
 ghost use Rattle.position.specs.Position.{start};

@@ -1,6 +1,6 @@
 // A list of steps played from the empty journal's position, refused ones passed over.
 use position::Position;
-use swap::journal;
+use position::journal;
 ghost use Prim.Native.Nat.{_+_, _≤_};
 ghost use mathlib.Core.Path.{_≡_};
 ghost use lib.Dec.{eqb};
@@ -9,7 +9,7 @@ ghost use Rattle.laws.specs.Booleans.{pick};
 ghost use Rattle.position.specs.Fit.{Fit};
 ghost use Rattle.position.specs.Position.{start};
 ghost use Rattle.position.specs.Play.{journalSteps, play, acceptedOf};
-ghost use Rattle.swap.specs.Journal.{stepAt};
+ghost use Rattle.position.specs.Journal.{stepAt};
 ghost use Rattle.history.specs.Steps.{playedOne};
 
 // The position after the steps so far, and the number of those accepted.

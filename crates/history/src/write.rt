@@ -1,6 +1,6 @@
 // The accepted steps of a list, written.
 use output::open;
-use swap::journal;
+use position::journal;
 ghost use Prim.Native.Nat.{_+_, _≤_};
 ghost use mathlib.Core.Path.{_≡_};
 ghost use lib.ListN.{length};
@@ -8,7 +8,7 @@ ghost use Rattle.laws.specs.Over.{over};
 ghost use Rattle.position.specs.Fit.{Fit};
 ghost use Rattle.position.specs.Position.{start};
 ghost use Rattle.position.specs.Play.{journalSteps, journalBytes, acceptedOf};
-ghost use Rattle.swap.specs.Journal.{stepAt};
+ghost use Rattle.position.specs.Journal.{stepAt};
 ghost use Rattle.history.specs.Steps.{taken};
 
 // The four bytes from byte i on, if their step was accepted; the answer is their number.

@@ -48,6 +48,10 @@ pub any-more : (n : ℕ) (p : ℕ → Bool) → anyBelow n p ≡ false → p n �
 unfolding anyBelow
 any-more n p e h = rw (add-one, e, h)
 
+pub any-next : (n : ℕ) (p : ℕ → Bool) → anyBelow (n + 1) p ≡ (anyBelow n p || p n)
+unfolding anyBelow
+any-next n p = rw add-one
+
 pub any-found : (n k : ℕ) (p : ℕ → Bool) → k < n → p k ≡ true → anyBelow n p ≡ true
 unfolding anyBelow
 any-found zero k p l h = absurd (not-suc-le-zero l)
@@ -84,6 +88,11 @@ any-some (suc n) p e =
 
 pub any-none : (n : ℕ) (p : ℕ → Bool) → anyBelow n p ≡ false → (k : ℕ) → k < n → p k ≡ false
 any-none n p e k h = split (p k) (λ y. clash (any-found n k p h y) e) (λ f. f)
+
+pub any-all-false : (n : ℕ) (p : ℕ → Bool) → ((k : ℕ) → k < n → p k ≡ false) → anyBelow n p ≡ false
+unfolding anyBelow
+any-all-false zero p f = refl
+any-all-false (suc n) p f = rw (any-all-false n p (λ k h. f k (omega arith)), f n (omega arith))
 
 -- two tests that agree below n
 pub any-same : (n : ℕ) (p q : ℕ → Bool) → ((k : ℕ) → k < n → p k ≡ q k) → anyBelow n p ≡ anyBelow n q

@@ -4,6 +4,7 @@ pub mod StepCases
 pub mod Views
 pub mod Fits
 pub mod BlockSets
+pub mod EmptyBlocks
 pub mod SendTests
 pub mod MineTests
 pub mod Fields

@@ -8,6 +8,7 @@ pub mod Fit
 pub mod StepRefusal
 pub mod Effect
 pub mod Play
+pub mod Journal
 pub mod Open
 pub mod Report
 pub mod Holder

@@ -8,6 +8,7 @@ mod bumped;
 mod conduct;
 pub mod effect;
 pub mod height;
+pub mod journal;
 mod mined;
 mod owed;
 mod refusal;

@@ -4,15 +4,15 @@ use slots::conflict;
 use steps::Change;
 use steps::View;
 use steps::blocks;
-ghost use Prim.Native.Nat.{_<_};
+ghost use Prim.Native.Nat.{_+_, _<_};
 ghost use mathlib.Core.Path.{_≡_};
 ghost use Rattle.sheet.specs.Field.{count, Sized};
 ghost use Rattle.position.specs.View.{viewBelow};
-ghost use Rattle.position.specs.Effect.{afterMine};
+ghost use Rattle.position.specs.Effect.{withMined, afterMine};
 
 impl Position {
     // A mined block: its entries are confirmed, and who conflicts with them leaves the pool.
-    pub fn after_mine(mut self, sheet: &[u8], view: View) -> Position
+    fn after_entries(mut self, sheet: &[u8], view: View) -> Position
         requires { ⌜ Sized (now sheet) ⌝ }
         requires { ⌜ view ≡ viewBelow (count (now sheet)) self ⌝ }
         requires { ⌜ self .mined < 10000 ⌝ }
@@ -31,5 +31,28 @@ impl Position {
         self.slots = mined;
         self.mined = block;
         self
+    }
+
+    // One block more.
+    fn with_block_more(mut self) -> Position
+        requires { ⌜ self .mined < 10000 ⌝ }
+        ensures { λ r. ⌜ r ≡ withMined (self .mined + 1) self ⌝ }
+    {
+        let block = self.mined + 1;
+        self.mined = block;
+        self
+    }
+
+    // A mined block. An empty one changes only the blocks mined.
+    pub fn after_mine(self, sheet: &[u8], view: View) -> Position
+        requires { ⌜ Sized (now sheet) ⌝ }
+        requires { ⌜ view ≡ viewBelow (count (now sheet)) self ⌝ }
+        requires { ⌜ self .mined < 10000 ⌝ }
+        ensures { λ r. ⌜ r ≡ afterMine (now (sheet .entry)) self ⌝ }
+    {
+        if view.block == 0 {
+            return self.with_block_more();
+        }
+        self.after_entries(sheet, view)
     }
 }

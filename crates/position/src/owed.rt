@@ -23,8 +23,8 @@ impl Position {
         owed::owed_at(sheet, sheet::setup::per_day(setup), view, since, t)
     }
 
-    // Whether any is.
-    pub fn any_owed(self, sheet: &[u8], setup: &[u8], view: View) -> bool
+    // Whether any is, each transaction looked at.
+    fn any_owed_among(self, sheet: &[u8], setup: &[u8], view: View) -> bool
         requires { ⌜ Sized (now sheet) ⌝ }
         requires { ⌜ length (now setup) ≡ 4 ⌝ }
         requires { ⌜ view ≡ viewBelow (count (now sheet)) self ⌝ }
@@ -43,5 +43,18 @@ impl Position {
             t += 1;
         }
         false
+    }
+
+    // Whether any is. None is with an empty pool.
+    pub fn any_owed(self, sheet: &[u8], setup: &[u8], view: View) -> bool
+        requires { ⌜ Sized (now sheet) ⌝ }
+        requires { ⌜ length (now setup) ≡ 4 ⌝ }
+        requires { ⌜ view ≡ viewBelow (count (now sheet)) self ⌝ }
+        ensures { λ r. ⌜ r ≡ anyOwed (now (sheet .entry)) (now (setup .entry)) self ⌝ }
+    {
+        if view.pool == 0 {
+            return false;
+        }
+        self.any_owed_among(sheet, setup, view)
     }
 }

@@ -8,3 +8,4 @@ pub mod Ancestors
 pub mod Entered
 pub mod SharedBits
 pub mod LineSets
+pub mod ByParents

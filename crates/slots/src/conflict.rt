@@ -1,5 +1,6 @@
 // Conflicts (document 01: rivals), against a set of transactions.
 use crate::set;
+use crate::siblings;
 ghost use Prim.Native.Nat.{_<_};
 ghost use mathlib.Core.Path.{_≡_};
 ghost use mathlib.Core.Bool.{_&&_};
@@ -31,15 +32,14 @@ fn conflict_there(sheet: &[u8], there: u32, k: usize, t: usize) -> bool
     requires { ⌜ t < count (now sheet) ⌝ }
     ensures { λ r. ⌜ r ≡ (conflict (now (sheet .entry)) k t && bit there k) ⌝ }
 {
-    if is_conflict(sheet, k, t) {
-        set::has(there, k)
-    } else {
-        false
+    if !set::has(there, k) {
+        return false;
     }
+    is_conflict(sheet, k, t)
 }
 
-// Whether a rival of t is in the set.
-pub fn conflict_in(sheet: &[u8], there: u32, t: usize) -> bool
+// Whether a rival of t is in the set, each transaction looked at.
+fn conflict_among(sheet: &[u8], there: u32, t: usize) -> bool
     requires { ⌜ Sized (now sheet) ⌝ }
     requires { ⌜ t < count (now sheet) ⌝ }
     ensures { λ r. ⌜ r ≡ conflictIn (now (sheet .entry)) (bit there) t ⌝ }
@@ -53,6 +53,18 @@ pub fn conflict_in(sheet: &[u8], there: u32, t: usize) -> bool
         k += 1;
     }
     false
+}
+
+// Whether a rival of t is in the set. None is in the empty set.
+pub fn conflict_in(sheet: &[u8], there: u32, t: usize) -> bool
+    requires { ⌜ Sized (now sheet) ⌝ }
+    requires { ⌜ t < count (now sheet) ⌝ }
+    ensures { λ r. ⌜ r ≡ conflictIn (now (sheet .entry)) (bit there) t ⌝ }
+{
+    if there == 0 {
+        return false;
+    }
+    conflict_among(sheet, there, t)
 }
 
 // Whether a rival of t but t itself is in the set.
@@ -77,8 +89,8 @@ fn found_in(sheet: &[u8], there: u32, others: bool, t: usize) -> bool
     }
 }
 
-// The transactions that have a rival in the set, or with `others` a rival but themselves.
-pub fn conflicts_of(sheet: &[u8], there: u32, others: bool) -> u32
+// The transactions that have a rival in the set, or with `others` a rival but themselves, each of them looked at.
+fn conflicts_among(sheet: &[u8], there: u32, others: bool) -> u32
     requires { ⌜ Sized (now sheet) ⌝ }
     ensures { λ r. ⌜ r ≡ setBelow (count (now (sheet .entry))) (foundIn (now (sheet .entry)) (bit there) others) ⌝ }
 {
@@ -90,4 +102,15 @@ pub fn conflicts_of(sheet: &[u8], there: u32, others: bool) -> u32
         t += 1;
     }
     found
+}
+
+// The transactions that have a rival in the set, or with `others` a rival but themselves.
+pub fn conflicts_of(sheet: &[u8], there: u32, others: bool) -> u32
+    requires { ⌜ Sized (now sheet) ⌝ }
+    ensures { λ r. ⌜ r ≡ setBelow (count (now (sheet .entry))) (foundIn (now (sheet .entry)) (bit there) others) ⌝ }
+{
+    if others {
+        return conflicts_among(sheet, there, others);
+    }
+    siblings::conflicts_with(sheet, there)
 }

@@ -9,6 +9,7 @@ pub mod deadline;
 pub mod lock_height;
 pub mod party;
 pub mod set;
+mod siblings;
 pub mod signatures;
 
 // "destination (0 Alice, 1 Bob, 2 contract)"

@@ -1,3 +1,4 @@
 pub mod PoolTests
 pub mod Reached
 pub mod RightFields
+pub mod Unmoved

@@ -19,6 +19,9 @@ pub fn bumped_slot(sheet: &[u8], entering: u32, leaving: u32, t: usize, x: Slot)
     if set::has(entering, t) {
         return x.with_block(x.pool);
     }
+    if x.block == 0 {
+        return x;
+    }
     if ancestry::in_ancestry(sheet, leaving, t) {
         return x.with_block(0);
     }

@@ -30,6 +30,9 @@ pub fn mined_slot(sheet: &[u8], block: u16, leaving: u32, t: usize, x: Slot) -> 
     ensures { λ r. ⌜ r ≡ minedSlot (now (sheet .entry)) block leaving t x ⌝ }
 {
     let y = confirm_entry(sheet, block, t, x);
+    if y.pool == 0 {
+        return y;
+    }
     if ancestry::in_ancestry(sheet, leaving, t) {
         return y.with_pool(0);
     }

@@ -17,7 +17,7 @@ use Rattle.position.specs.declared.Stepped.{Stepped}
 use Rattle.position.specs.declared.Ran.{Ran}
 use Rattle.position.specs.Position.{start}
 use Rattle.position.specs.Play.{FourBytes, journalSteps, step, runFrom, callTests, run}
-use Rattle.swap.specs.Journal.{stepAt}
+use Rattle.position.specs.Journal.{stepAt}
 
 -- one byte in front, and four
 one-byte : (j : List ℕ) (i k : ℕ) → i < length j → k ≡ suc i → drop i j ≡ byte j i ∷ drop k j
@@ -62,6 +62,13 @@ module _ (s u j : List ℕ) where
   left-step : (k : ℕ) (p : Position) → 4 * k + 4 ≤ length j → leftFrom k p ≡ runFrom s u (stepAt j (4 * k) ∷ journalSteps (drop (4 * (k + 1)) j)) k p
   unfolding leftFrom
   left-step k p h = rw (next-step j (4 * k) h, further k)
+
+  -- an accepted step
+  pub left-next : (k : ℕ) (p q : Position) → 4 * k + 4 ≤ length j → step s u p (stepAt j (4 * k)) ≡ record { refusal = accepted; position = q } → leftFrom k p ≡ leftFrom (k + 1) q
+  unfolding leftFrom
+  left-next k p q h e =
+      let b = stepAt j (4 * k) in
+      left-step k p h ∙ run-next b (journalSteps (drop (4 * (k + 1)) j)) k p (rw e) ∙ rw e
 
   -- the whole
   abbrev pub whole : Ran

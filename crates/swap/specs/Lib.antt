@@ -1,2 +1,2 @@
-pub mod Journal
 pub mod SetsBytes
+pub mod EmptyBlocks

@@ -1,51 +1,13 @@
 // A journal run from the empty journal's position: what all calls that take one do first.
-use position::Position;
+use crate::empty_blocks;
 use position::Ran;
-use position::Stepped;
+use position::journal::start;
+use position::journal::step_at;
 use sheet::refusal;
-use slots::Slot;
-ghost use Prim.Native.Nat.{_+_, _≤_};
 ghost use mathlib.Core.Path.{_≡_};
-ghost use lib.ListN.{length};
 ghost use Rattle.laws.specs.Failing.{firstFailing};
-ghost use Rattle.sheet.specs.Field.{byte};
-ghost use Rattle.position.specs.Fit.{Fit};
 ghost use Rattle.position.specs.Position.{start};
-ghost use Rattle.position.specs.Play.{journalSteps, step, runFrom, journalRight, callTests, run};
-ghost use Rattle.swap.specs.Journal.{stepAt};
-
-// The byte at place i, 0 past the end.
-fn byte_or_zero(bytes: &[u8], i: usize) -> u8
-    ensures { λ r. ⌜ r ≡ byte (now (bytes .entry)) i ⌝ }
-{
-    if i < bytes.len() {
-        return bytes[i];
-    }
-    0
-}
-
-// The empty journal's position: the masks held at the start, and nothing else.
-pub fn start(sheet: &[u8]) -> Position
-    ensures { λ r. ⌜ r ≡ start (now (sheet .entry)) ⌝ }
-{
-    let empty = Slot {
-        pool: 0,
-        block: 0,
-        confirmed: 0,
-        madea: 0,
-        madeb: 0,
-        alice: 0,
-        bob: 0,
-        contract: 0,
-        height: 0,
-    };
-    Position {
-        slots: [empty; 32],
-        mined: 0,
-        alice: byte_or_zero(sheet, 3),
-        bob: byte_or_zero(sheet, 4),
-    }
-}
+ghost use Rattle.position.specs.Play.{journalSteps, runFrom, journalRight, callTests, run};
 
 // 24: whole steps, and no more bytes than a journal may have.
 fn journal_right(journal: &[u8]) -> bool
@@ -75,24 +37,7 @@ fn call_refusal(sheet: &[u8], setup: &[u8], journal: &[u8]) -> u32
     refusal::ACCEPTED
 }
 
-// The step that starts at byte i of any bytes.
-pub fn step_at(position: Position, sheet: &[u8], setup: &[u8], journal: &[u8], i: usize) -> Stepped
-    requires { ⌜ length (now setup) ≡ 4 ⌝ }
-    requires { ⌜ Fit (now sheet) (now setup) ⌝ }
-    requires { ⌜ i + 4 ≤ length (now journal) ⌝ }
-    ensures { λ r. ⌜ r ≡ step (now (sheet .entry)) (now (setup .entry)) position (stepAt (now (journal .entry)) i) ⌝ }
-{
-    position.step(
-        sheet,
-        setup,
-        journal[i],
-        journal[i + 1],
-        journal[i + 2],
-        journal[i + 3],
-    )
-}
-
-// The steps of a journal up to the first refused one.
+// The steps of a journal up to the first refused one. Each turn takes the empty blocks of a row but the last at once, then one step.
 fn played(sheet: &[u8], setup: &[u8], journal: &[u8]) -> Ran
     requires { ⌜ firstFailing (callTests (now sheet) (now setup) (now journal)) ≡ 0 ⌝ }
     ensures { λ r. ⌜ r ≡ runFrom (now (sheet .entry)) (now (setup .entry)) (journalSteps (now (journal .entry))) 0 (start (now (sheet .entry))) ⌝ }
@@ -101,6 +46,9 @@ fn played(sheet: &[u8], setup: &[u8], journal: &[u8]) -> Ran
     let mut position = start(sheet);
     let mut k: usize = 0;
     while k < n {
+        let row = empty_blocks::row_at(position, sheet, setup, journal, k, n);
+        position.mined = position.mined + (row as u16);
+        k += row;
         let stepped = step_at(position, sheet, setup, journal, 4 * k);
         if stepped.refusal != 0 {
             return Ran {

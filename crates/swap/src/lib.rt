@@ -4,6 +4,7 @@ ghost use Rattle.sheet.specs.Check.{sheetRefusal};
 ghost use Rattle.position.specs.Play.{run};
 ghost use Rattle.position.specs.Answers.{packed, runPart, listAnswer};
 
+mod empty_blocks;
 pub mod journal;
 mod listing;
 pub mod report;

@@ -1,32 +1,23 @@
--- The slots, and one block more.
-use Rattle.position.proofs.BlockSets.{mined-right}
-use Rattle.steps.specs.Blocks.{changedSlot}
-use Rattle.position.specs.Effect.{withSlots, changeSlots, withMined, afterMine}
-use Rattle.steps.specs.declared.View.{View}
-use Rattle.slots.specs.Conflict.{foundIn}
-use Rattle.sheet.specs.Field.{count}
-use Rattle.laws.specs.Sets.{setBelow}
-use Rattle.laws.specs.Mask.{bit}
-use mathlib.Core.Bool.{false}
-use mathlib.Core.Path.{ap, _∙_}
-use denote.Ref.{now}
+-- Empty or not.
+use Rattle.position.proofs.EmptyBlocks.{answer-empty}
+use mathlib.Core.List.{[]}
+use mathlib.Core.Path.{_∙_}
 use borrow.Author.Needs.{needs}
 use Rattle.position.proofs.Position.after_mine.Statement.{statement}
 use Rattle.position.proofs.Position.after_mine.Tie as tie
 
-conflicts-of-requires : tie.Need-conflicts-of-requires
-conflicts-of-requires c κs = search needs
-
-add-block : tie.Need-add-block
-add-block c = search needs
-
-changed-slots-requires : tie.Need-changed-slots-requires
-changed-slots-requires c κs = search needs
+with-block-more-requires : tie.Need-with-block-more-requires
+with-block-more-requires c κs = search needs
 
 returns : tie.Need-returns
-unfolding afterMine withMined changeSlots withSlots changedSlot
-returns c = rw (c .changed-slots .ensures, mined-right (now (c .before .before .before .before .before .args .sheet)) (c .before .before .before .before .before .args .self) (c .before .before .before .conflicts-of .result) (search needs) (c .before .before .before .conflicts-of .ensures ∙ ap (λ (v : View). setBelow (count (now (c .before .before .before .before .before .args .sheet))) (foundIn (now (c .before .before .before .before .before .args .sheet)) (bit (v .block)) false)) (c .before .before .before .before .before .pre .1 .0)))
+returns c = c .with-block-more .ensures ∙ answer-empty _ [] _ _ (c .before .before .before .before .pre .0 .few) (c .before .before .before .before .pre .1 .0) (c .before .if1 .taken)
+
+after-entries-requires : tie.Need-after-entries-requires
+after-entries-requires c κs = search needs
+
+returns-2 : tie.Need-returns-2
+returns-2 c = search needs
 
 pub after-mine-spec : {M : Type 1} → statement M
 after-mine-spec =
-    tie.close (tie.spec conflicts-of-requires add-block changed-slots-requires returns)
+    tie.close (tie.spec with-block-more-requires returns after-entries-requires returns-2)

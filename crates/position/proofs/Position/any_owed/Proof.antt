@@ -1,89 +1,17 @@
--- None below t is owed.
-use Rattle.position.proofs.MineTests.{any-owed-answer}
-use Rattle.laws.specs.Below.{anyBelow, any-start, any-more, any-found, any-done}
-use Rattle.steps.specs.Mining.{owedIn}
-use Rattle.steps.specs.Parent.{slotAbove, blockAbove}
-use Rattle.position.specs.View.{sinceIn}
-use Rattle.position.specs.Position.{slot}
-use mathlib.Core.Path.{_≡_}
-use mathlib.Core.Bool.{false}
-use Prim.Native.Nat.{_≤_, _-_}
-use Rattle.laws.specs.Each.{length-of-map}
-use mathlib.Core.Path.{sym}
+-- None with an empty pool.
+use Rattle.position.proofs.EmptyBlocks.{answer-none-owed}
 use borrow.Author.Needs.{needs}
 use Rattle.position.proofs.Position.any_owed.Statement.{statement}
 use Rattle.position.proofs.Position.any_owed.Tie as tie
-use Rattle.position.proofs.Position.any_owed.Reads as reads
-use Rattle.position.proofs.Position.any_owed.Lts as lts
-use Rattle.sheet.proofs.field.count.Reads as count-reads
-use Rattle.sheet.proofs.setup.per_day.Reads as per-day-reads
-use Rattle.steps.proofs.owed.owed_at.Reads as owed-at-reads
-use Rattle.steps.proofs.parent.block_above.Reads as block-above-reads
-use Rattle.steps.proofs.parent.slot_above.Reads as slot-above-reads
 
-abbrev Inv-loop : tie.InvT-loop
-Inv-loop sheet setup view self n per-day t₀ t = (t ≤ n) × (anyBelow t (λ k. owedIn sheet per-day view (sinceIn sheet self k) k) ≡ false)
+returns : tie.Need-returns
+returns c = answer-none-owed _ _ _ _ (c .before .before .before .before .pre .0 .few) (c .before .before .before .before .pre .1 .1) (c .if1 .taken)
 
-abbrev μ-loop : tie.MeasureT-loop
-μ-loop sheet setup view self n per-day t₀ t = n - t
+any-owed-among-requires : tie.Need-any-owed-among-requires
+any-owed-among-requires c κs = search needs
 
-count-requires : tie.Need-count-requires Inv-loop μ-loop
-count-requires c κs = search needs
-
-per-day-requires : tie.Need-per-day-requires Inv-loop μ-loop
-per-day-requires c κs = search needs
-
-loop-holds : tie.Need-loop-holds Inv-loop μ-loop
-loop-holds c = (search needs, any-start _)
-
-slot-above-requires : tie.Need-slot-above-requires Inv-loop μ-loop
-slot-above-requires c κs = search needs
-
-mul-above : tie.Need-mul-above Inv-loop μ-loop
-mul-above c = search needs
-
-element-copy-out-above : tie.Need-element-copy-out-above Inv-loop μ-loop
-element-copy-out-above c = search needs
-
-block-above-requires : tie.Need-block-above-requires Inv-loop μ-loop
-block-above-requires c κs = search needs
-
-owed-at-requires : tie.Need-owed-at-requires Inv-loop μ-loop
-owed-at-requires c κs = search needs
-
-returns : tie.Need-returns Inv-loop μ-loop
-unfolding sinceIn slot
-returns c = any-owed-answer _ _ _ (search needs) (search (length-of-map, c .before .before .before .before .before .before .before .before .before .before .before .good)) _ _ _ _ (c .before .before .before .before .before .before .before .before .before .before .before .pre .1 .1) (c .before .before .before .before .before .before .before .per-day .ensures) (c .before .before .before .before .before .before .before .before .count .ensures .is) (sym (any-found _ _ _ (c .before .before .before .before .before .loop-test .taken) (rw (← (c .before .before .before .before .slot-above .ensures .0), ← (c .before .before .block-above .ensures), ← (c .before .owed-at .ensures)) (c .if1 .taken))))
-
-add-t : tie.Need-add-t Inv-loop μ-loop
-add-t c = search needs
-
-loop-less : tie.Need-loop-less Inv-loop μ-loop
-loop-less c = search needs
-
-loop-again : tie.Need-loop-again Inv-loop μ-loop
-unfolding sinceIn slot
-loop-again c = (search needs, any-more _ _ (c .before .before .before .before .before .before .loop .inv .1) (rw (← (c .before .before .before .before .slot-above .ensures .0), ← (c .before .before .block-above .ensures), ← (c .before .owed-at .ensures)) (c .if1 .left)))
-
-returns-2 : tie.Need-returns-2 Inv-loop μ-loop
-returns-2 c = any-owed-answer _ _ _ (search needs) (search (length-of-map, c .before .before .before .before .before .before .good)) _ _ _ _ (c .before .before .before .before .before .before .pre .1 .1) (c .before .before .per-day .ensures) (c .before .before .before .count .ensures .is) (any-done _ _ _ _ (c .before .loop .inv .0) (c .loop-test .left) (c .before .loop .inv .1))
+returns-2 : tie.Need-returns-2
+returns-2 c = search needs
 
 pub any-owed-spec : {M : Type 1} → statement M
-any-owed-spec =
-    tie.close
-    (tie.spec
-    Inv-loop
-    μ-loop
-    count-requires
-    per-day-requires
-    loop-holds
-    slot-above-requires
-    mul-above
-    element-copy-out-above
-    block-above-requires
-    owed-at-requires
-    returns
-    add-t
-    loop-less
-    loop-again
-    returns-2)
+any-owed-spec = tie.close (tie.spec returns any-owed-among-requires returns-2)

@@ -1,5 +1,9 @@
 -- In, out, or as it was.
 use Rattle.steps.specs.Blocks.{bumpedSlot}
+use Rattle.steps.proofs.Unmoved.{block-out}
+use Rattle.laws.specs.Mask.{bit}
+use Rattle.slots.specs.Ancestry.{inAncestry}
+use denote.Ref.{now}
 use borrow.Author.Needs.{needs}
 use Rattle.steps.proofs.bumped.bumped_slot.Statement.{statement}
 use Rattle.steps.proofs.bumped.bumped_slot.Tie as tie
@@ -14,19 +18,23 @@ returns : tie.Need-returns
 unfolding bumpedSlot
 returns c = rw (← (c .before .before .has .ensures), c .before .if1 .taken) (c .with-block .ensures)
 
+returns-2 : tie.Need-returns-2
+unfolding bumpedSlot
+returns-2 c = rw (← (c .before .before .before .has .ensures), c .before .before .if1 .left) (block-out (inAncestry (now (c .before .before .before .before .before .args .sheet)) (bit (c .before .before .before .before .before .args .leaving)) (c .before .before .before .before .before .args .t)) (c .before .before .before .before .before .args .x) (c .if2 .taken))
+
 in-ancestry-requires : tie.Need-in-ancestry-requires
 in-ancestry-requires c κs = search needs
 
 with-block-requires-2 : tie.Need-with-block-requires-2
 with-block-requires-2 c κs = search needs
 
-returns-2 : tie.Need-returns-2
-unfolding bumpedSlot
-returns-2 c = rw (← (c .before .before .before .before .has .ensures), c .before .before .before .if1 .left, ← (c .before .before .in-ancestry .ensures), c .before .if2 .taken) (c .with-block2 .ensures)
-
 returns-3 : tie.Need-returns-3
 unfolding bumpedSlot
-returns-3 c = rw (← (c .before .before .before .has .ensures), c .before .before .if1 .left, ← (c .before .in-ancestry .ensures), c .if2 .left)
+returns-3 c = rw (← (c .before .before .before .before .before .before .has .ensures), c .before .before .before .before .before .if1 .left, ← (c .before .before .in-ancestry .ensures), c .before .if3 .taken) (c .with-block2 .ensures)
+
+returns-4 : tie.Need-returns-4
+unfolding bumpedSlot
+returns-4 c = rw (← (c .before .before .before .before .before .has .ensures), c .before .before .before .before .if1 .left, ← (c .before .in-ancestry .ensures), c .if3 .left)
 
 pub bumped-slot-spec : {M : Type 1} → statement M
 bumped-slot-spec =
@@ -35,7 +43,8 @@ bumped-slot-spec =
     has-requires
     with-block-requires
     returns
+    returns-2
     in-ancestry-requires
     with-block-requires-2
-    returns-2
-    returns-3)
+    returns-3
+    returns-4)

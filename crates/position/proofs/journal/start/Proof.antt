@@ -1,8 +1,8 @@
 -- The two masks, and 32 empty slots.
 use Rattle.position.specs.Position.{start}
 use borrow.Author.Needs.{needs}
-use Rattle.swap.proofs.journal.start.Statement.{statement}
-use Rattle.swap.proofs.journal.start.Tie as tie
+use Rattle.position.proofs.journal.start.Statement.{statement}
+use Rattle.position.proofs.journal.start.Tie as tie
 
 byte-or-zero-requires : tie.Need-byte-or-zero-requires
 byte-or-zero-requires c κs = search needs

@@ -1,8 +1,8 @@
 -- The four bytes from place i on.
-use Rattle.swap.specs.Journal.{stepAt}
+use Rattle.position.specs.Journal.{stepAt}
 use borrow.Author.Needs.{needs}
-use Rattle.swap.proofs.journal.step_at.Statement.{statement}
-use Rattle.swap.proofs.journal.step_at.Tie as tie
+use Rattle.position.proofs.journal.step_at.Statement.{statement}
+use Rattle.position.proofs.journal.step_at.Tie as tie
 
 shared-slice-read-step : tie.Need-shared-slice-read-step
 shared-slice-read-step c = search needs

@@ -1,0 +1,72 @@
+-- A mined block with nothing in it alters nothing but the number of blocks.
+-- Assumes nothing.
+use Prim.Native.Nat.{ℕ, zero, suc, _+_, _≤_, _<_}
+use native.Mathlib.Omega.{arith}
+use mathlib.Core.Path.{_≡_, refl, sym, _∙_}
+use mathlib.Core.Bool.{false}
+use mathlib.Core.List.{List, [], _∷_}
+use lib.ListN.{getD}
+use Rattle.laws.specs.Booleans.{clash, fails-by}
+use Rattle.laws.specs.Below.{any-all-false}
+use Rattle.laws.specs.Bits.{no-bit}
+use Rattle.laws.specs.Each.{rewriteFirst}
+use Rattle.laws.specs.Sets.{set-bit}
+use Rattle.sheet.specs.Field.{count}
+use Rattle.slots.specs.Slot.{emptySlot, standing}
+use Rattle.slots.specs.Ancestry.{meetsConflict}
+use Rattle.slots.proofs.Ancestors.{meets-find}
+use Rattle.steps.specs.declared.View.{View}
+use Rattle.steps.specs.Blocks.{confirmEntry}
+use Rattle.position.specs.declared.Position.{Position}
+use Rattle.position.specs.Position.{slot, inPool, inBlock}
+use Rattle.position.specs.Owed.{waiting, owed, anyOwed}
+use Rattle.position.specs.View.{viewBelow}
+use Rattle.position.specs.Effect.{withSlots, changeSlots, leavesPool, mineSlot, withMined, afterMine}
+
+-- a rule that keeps what stands at each place below n
+rewrite-kept : {A : Type 0} (n : ℕ) (f : ℕ → A → A) (l : List A) (d : A) → ((i : ℕ) → i < n → f i (getD l i d) ≡ getD l i d) → rewriteFirst n f l ≡ l
+unfolding rewriteFirst
+rewrite-kept zero f l d h = refl
+rewrite-kept (suc n) f [] d h = refl
+rewrite-kept (suc n) f (x ∷ l) d h =
+    rw (h 0 (omega arith), rewrite-kept n (λ i. f (suc i)) l d (λ i m. h (suc i) (omega arith)))
+
+module _ (s : List ℕ) (p : Position) (none : (k : ℕ) → k < count s → inBlock p k ≡ false) where
+  none-leaves : (t : ℕ) → leavesPool s (inBlock p) t ≡ false
+  unfolding leavesPool
+  none-leaves t =
+      fails-by (meetsConflict s (inBlock p) t) (λ y. let w = meets-find s (inBlock p) t y in clash (w .5) (none (w .1) (w .3)))
+
+  no-entry : (t : ℕ) → t < count s → standing (slot p t .block) ≡ false
+  unfolding inBlock
+  no-entry t l = none t l
+
+  kept : (t : ℕ) → t < count s → mineSlot s p t (slot p t) ≡ slot p t
+  unfolding mineSlot confirmEntry
+  kept t l = rw (none-leaves t, no-entry t l)
+
+  mine-none : afterMine s p ≡ withMined (p .mined + 1) p
+  unfolding afterMine withMined changeSlots withSlots slot
+  mine-none = rw (rewrite-kept (count s) (mineSlot s p) (p .slots) emptySlot kept)
+
+-- no transaction is in the block
+pub none-in-block : (s : List ℕ) (p : Position) → count s ≤ 32 → viewBelow (count s) p .block ≡ 0 → (k : ℕ) → k < count s → inBlock p k ≡ false
+unfolding viewBelow
+none-in-block s p few e k l = sym (set-bit (count s) (inBlock p) few k l) ∙ rw e (no-bit k)
+
+pub mine-empty : (s : List ℕ) (p : Position) → count s ≤ 32 → viewBelow (count s) p .block ≡ 0 → afterMine s p ≡ withMined (p .mined + 1) p
+mine-empty s p few e = mine-none s p (none-in-block s p few e)
+
+-- where v is the view that the code found
+module _ (s u : List ℕ) (p : Position) (v : View) (few : count s ≤ 32) (e : v ≡ viewBelow (count s) p) where
+  pub answer-empty : v .block ≡ 0 → withMined (p .mined + 1) p ≡ afterMine s p
+  answer-empty h = sym (mine-empty s p few (rw e at h))
+
+  -- nothing waits in an empty pool
+  none-in-pool : v .pool ≡ 0 → (k : ℕ) → k < count s → inPool p k ≡ false
+  unfolding viewBelow
+  none-in-pool h k l = sym (set-bit (count s) (inPool p) few k l) ∙ rw (rw e at h) (no-bit k)
+
+  pub answer-none-owed : v .pool ≡ 0 → false ≡ anyOwed s u p
+  unfolding anyOwed owed waiting
+  answer-none-owed h = sym (any-all-false (count s) (owed s u p) (λ k l. rw (none-in-pool h k l)))

@@ -1,0 +1,62 @@
+// The position that a journal starts from, and a step of its bytes.
+use crate::Position;
+use crate::Stepped;
+use slots::Slot;
+ghost use Prim.Native.Nat.{_+_, _≤_};
+ghost use mathlib.Core.Path.{_≡_};
+ghost use lib.ListN.{length};
+ghost use Rattle.sheet.specs.Field.{byte};
+ghost use Rattle.position.specs.Fit.{Fit};
+ghost use Rattle.position.specs.Journal.{stepAt};
+ghost use Rattle.position.specs.Play.{step};
+ghost use Rattle.position.specs.Position.{start};
+
+// The byte at place i, 0 past the end.
+fn byte_or_zero(bytes: &[u8], i: usize) -> u8
+    ensures { λ r. ⌜ r ≡ byte (now (bytes .entry)) i ⌝ }
+{
+    if i < bytes.len() {
+        return bytes[i];
+    }
+    0
+}
+
+// The empty journal's position: the masks held at the start, and nothing else.
+pub fn start(sheet: &[u8]) -> Position
+    ensures { λ r. ⌜ r ≡ start (now (sheet .entry)) ⌝ }
+{
+    let empty = Slot {
+        pool: 0,
+        block: 0,
+        confirmed: 0,
+        madea: 0,
+        madeb: 0,
+        alice: 0,
+        bob: 0,
+        contract: 0,
+        height: 0,
+    };
+    Position {
+        slots: [empty; 32],
+        mined: 0,
+        alice: byte_or_zero(sheet, 3),
+        bob: byte_or_zero(sheet, 4),
+    }
+}
+
+// The step that starts at byte i of any bytes.
+pub fn step_at(position: Position, sheet: &[u8], setup: &[u8], journal: &[u8], i: usize) -> Stepped
+    requires { ⌜ length (now setup) ≡ 4 ⌝ }
+    requires { ⌜ Fit (now sheet) (now setup) ⌝ }
+    requires { ⌜ i + 4 ≤ length (now journal) ⌝ }
+    ensures { λ r. ⌜ r ≡ step (now (sheet .entry)) (now (setup .entry)) position (stepAt (now (journal .entry)) i) ⌝ }
+{
+    position.step(
+        sheet,
+        setup,
+        journal[i],
+        journal[i + 1],
+        journal[i + 2],
+        journal[i + 3],
+    )
+}

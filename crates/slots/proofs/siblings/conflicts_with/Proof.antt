@@ -1,0 +1,60 @@
+-- The set of those below t.
+use Rattle.slots.specs.Conflict.{foundIn}
+use Rattle.laws.specs.Sets.{setBelow, set-start, set-more, set-done}
+use Rattle.laws.specs.Mask.{bit}
+use mathlib.Core.Bool.{false}
+use mathlib.Core.Path.{_≡_}
+use Prim.Native.Nat.{_≤_, _-_}
+use borrow.Author.Needs.{needs}
+use Rattle.slots.proofs.siblings.conflicts_with.Statement.{statement}
+use Rattle.slots.proofs.siblings.conflicts_with.Tie as tie
+
+abbrev Inv-loop : tie.InvT-loop
+Inv-loop sheet there parents n found₀ t₀ found t = (t ≤ n) × (found ≡ setBelow t (foundIn sheet (bit there) false))
+
+abbrev μ-loop : tie.MeasureT-loop
+μ-loop sheet there parents n found₀ t₀ found t = n - t
+
+parents-of-requires : tie.Need-parents-of-requires Inv-loop μ-loop
+parents-of-requires c κs = search needs
+
+count-requires : tie.Need-count-requires Inv-loop μ-loop
+count-requires c κs = search needs
+
+loop-holds : tie.Need-loop-holds Inv-loop μ-loop
+loop-holds c = (search needs, set-start _)
+
+conflict-by-requires : tie.Need-conflict-by-requires Inv-loop μ-loop
+conflict-by-requires c κs = search needs
+
+join-requires : tie.Need-join-requires Inv-loop μ-loop
+join-requires c κs = search needs
+
+add-t : tie.Need-add-t Inv-loop μ-loop
+add-t c = search needs
+
+loop-less : tie.Need-loop-less Inv-loop μ-loop
+loop-less c = search needs
+
+loop-again : tie.Need-loop-again Inv-loop μ-loop
+unfolding foundIn
+loop-again c = (search needs, set-more _ _ _ _ _ (c .before .before .before .loop .inv .1) (c .join .ensures) (c .before .conflict-by .ensures))
+
+returns : tie.Need-returns Inv-loop μ-loop
+returns c = rw (← (c .before .before .count .ensures .is)) (set-done _ _ _ _ (c .before .loop .inv .0) (c .loop-test .left) (c .before .loop .inv .1))
+
+pub conflicts-with-spec : {M : Type 1} → statement M
+conflicts-with-spec =
+    tie.close
+    (tie.spec
+    Inv-loop
+    μ-loop
+    parents-of-requires
+    count-requires
+    loop-holds
+    conflict-by-requires
+    join-requires
+    add-t
+    loop-less
+    loop-again
+    returns)

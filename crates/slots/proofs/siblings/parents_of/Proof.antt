@@ -1,0 +1,49 @@
+-- The parents of the members below k.
+use Rattle.slots.proofs.ByParents.{parents-start, parents-more, parents-done}
+use Rattle.slots.specs.Siblings.{Parents}
+use Rattle.laws.specs.Mask.{bit}
+use Prim.Native.Nat.{_≤_, _-_}
+use borrow.Author.Needs.{needs}
+use Rattle.slots.proofs.siblings.parents_of.Statement.{statement}
+use Rattle.slots.proofs.siblings.parents_of.Tie as tie
+
+abbrev Inv-loop : tie.InvT-loop
+Inv-loop sheet there n parents₀ k₀ parents k = (k ≤ n) × Parents sheet (bit there) k parents
+
+abbrev μ-loop : tie.MeasureT-loop
+μ-loop sheet there n parents₀ k₀ parents k = n - k
+
+count-requires : tie.Need-count-requires Inv-loop μ-loop
+count-requires c κs = search needs
+
+loop-holds : tie.Need-loop-holds Inv-loop μ-loop
+loop-holds c = (search needs, parents-start _ _)
+
+with-parent-requires : tie.Need-with-parent-requires Inv-loop μ-loop
+with-parent-requires c κs = search needs
+
+add-k : tie.Need-add-k Inv-loop μ-loop
+add-k c = search needs
+
+loop-less : tie.Need-loop-less Inv-loop μ-loop
+loop-less c = search needs
+
+loop-again : tie.Need-loop-again Inv-loop μ-loop
+loop-again c = (search needs, parents-more _ _ _ _ _ (c .before .before .loop .inv .1) (c .with-parent .ensures))
+
+returns : tie.Need-returns Inv-loop μ-loop
+returns c = rw (← (c .before .before .count .ensures .is)) (parents-done _ _ _ _ _ (c .before .loop .inv .0) (c .loop-test .left) (c .before .loop .inv .1))
+
+pub parents-of-spec : {M : Type 1} → statement M
+parents-of-spec =
+    tie.close
+    (tie.spec
+    Inv-loop
+    μ-loop
+    count-requires
+    loop-holds
+    with-parent-requires
+    add-k
+    loop-less
+    loop-again
+    returns)

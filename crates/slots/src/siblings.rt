@@ -1,0 +1,78 @@
+// The rivals of a whole set, by their parents.
+use crate::conflict;
+use crate::set;
+ghost use Prim.Native.Nat.{_<_};
+ghost use mathlib.Core.Path.{_≡_};
+ghost use mathlib.Core.Bool.{false};
+ghost use Rattle.laws.specs.Mask.{bit};
+ghost use Rattle.laws.specs.Sets.{setBelow};
+ghost use Rattle.sheet.specs.Field.{count, Sized};
+ghost use Rattle.slots.specs.Conflict.{conflictIn, foundIn};
+ghost use Rattle.slots.specs.Siblings.{Parents, ParentAdded};
+
+// The set `parents`, with k's parent too where k is in the set `there`.
+fn with_parent(sheet: &[u8], there: u32, parents: u32, k: usize) -> u32
+    requires { ⌜ Sized (now sheet) ⌝ }
+    requires { ⌜ k < count (now sheet) ⌝ }
+    ensures { λ r. ⌜ ParentAdded (now (sheet .entry)) (bit there) k parents r ⌝ }
+{
+    if !set::has(there, k) {
+        return parents;
+    }
+    let up = sheet::field::parent(sheet, k);
+    if 32 <= up {
+        return parents;
+    }
+    set::join(parents, true, up)
+}
+
+// The parents of the set's members.
+fn parents_of(sheet: &[u8], there: u32) -> u32
+    requires { ⌜ Sized (now sheet) ⌝ }
+    ensures { λ r. ⌜ Parents (now (sheet .entry)) (bit there) (count (now (sheet .entry))) r ⌝ }
+{
+    let n = sheet::field::count(sheet);
+    let mut parents: u32 = 0;
+    let mut k: usize = 0;
+    while k < n {
+        parents = with_parent(sheet, there, parents, k);
+        k += 1;
+    }
+    parents
+}
+
+// Whether a rival of t is in the set, where `parents` are those of its members. An opening rivals only itself.
+fn conflict_by(sheet: &[u8], there: u32, parents: u32, t: usize) -> bool
+    requires { ⌜ Sized (now sheet) ⌝ }
+    requires { ⌜ t < count (now sheet) ⌝ }
+    requires { ⌜ Parents (now sheet) (bit there) (count (now sheet)) parents ⌝ }
+    ensures { λ r. ⌜ r ≡ conflictIn (now (sheet .entry)) (bit there) t ⌝ }
+{
+    if set::has(there, t) {
+        return true;
+    }
+    let up = sheet::field::parent(sheet, t);
+    if up < 32 {
+        return set::has(parents, up);
+    }
+    if up == 255 {
+        return false;
+    }
+    conflict::conflict_in(sheet, there, t)
+}
+
+// The transactions that have a rival in the set.
+pub fn conflicts_with(sheet: &[u8], there: u32) -> u32
+    requires { ⌜ Sized (now sheet) ⌝ }
+    ensures { λ r. ⌜ r ≡ setBelow (count (now (sheet .entry))) (foundIn (now (sheet .entry)) (bit there) false) ⌝ }
+{
+    let parents = parents_of(sheet, there);
+    let n = sheet::field::count(sheet);
+    let mut found: u32 = 0;
+    let mut t: usize = 0;
+    while t < n {
+        found = set::join(found, conflict_by(sheet, there, parents, t), t);
+        t += 1;
+    }
+    found
+}
