@@ -1,34 +1,40 @@
 -- Which transaction bytes an actor's steps of a kind and a destination can have, and the sets of the open ones.
 -- Assumes nothing.
-use Prim.Native.Nat.{ℕ, zero, suc, _+_, _/_, _%_, _≤_, _<_}
+use Prim.Native.Nat.{ℕ, zero, suc, _+_, _-_, _*_, _/_, _%_, _≤_, _<_}
 use native.Mathlib.Nat.{eq-or-lt-of-le, le-of-suc-le-suc}
 use native.Mathlib.Omega.{arith}
 use mathlib.Core.Path.{_≡_, refl, sym, ap, _∙_}
-use mathlib.Core.Bool.{Bool, true, false, not, _&&_, _||_, and-false}
+use mathlib.Core.Bool.{Bool, true, false, not, _&&_, _||_, and-true, and-false}
 use mathlib.Core.List.{List, [], _∷_}
 use lib.Dec.{eqb, ltb}
 use lib.ListN.{getD}
-use borrow.Author.Tests.{eqb-true, eq-eqb, ne-eqb, ltb-true, lt-ltb, le-ltb, not-true}
-use Rattle.laws.specs.Booleans.{either, clash, and-parts}
+use borrow.Author.Tests.{eqb-true, eqb-false, eq-eqb, ne-eqb, ltb-true, lt-ltb, le-ltb, not-true, not-false}
+use Rattle.laws.specs.Booleans.{split, either, clash, and-parts, or-parts, or-right}
 use Rattle.laws.specs.Sets.{joined, setBelow}
-use Rattle.sheet.specs.Field.{count, signatures}
+use Rattle.sheet.specs.Field.{count, signatures, parent}
+use Rattle.sheet.specs.Setup.{conduct}
+use Rattle.slots.specs.declared.Destination.the-variants.{Contract}
 use Rattle.slots.specs.declared.Step.{Step}
 use Rattle.slots.specs.declared.Step.the-variants.{Share, Give, SendToPool, HandToMiner, Include, Mine, Bump}
 use Rattle.slots.specs.Slot.{emptySlot}
-use Rattle.slots.specs.Destination.{miner, contract, destinationNumber, isParty}
+use Rattle.slots.specs.Destination.{miner, contract, destinationNumber, isParty, isContract}
 use Rattle.steps.specs.declared.Decoded.{Decoded}
 use Rattle.steps.specs.declared.Decoded.the-variants.{Read, Refused}
 use Rattle.readings.specs.declared.Sight.{Sight}
-use Rattle.steps.specs.Decode.{noTransaction, fieldsRight, decode, stepBytes}
-use Rattle.readings.specs.Sight.{isOpenIn, mayStand, limit}
-use Rattle.steps.proofs.RightFields.{share-listed, pool-listed, miner-listed, include-listed, bump-listed}
+use Rattle.steps.specs.Decode.{noTransaction, sendsTo, sharesTo, isOther, firstShareFields, fieldsRight, ofKind, decode, stepBytes}
+use Rattle.readings.specs.Sight.{shareNewIn, refusalIn, partyMay, mayStand, limit, givesIn, sharesFirst, minesIn, lastIn}
+use Rattle.steps.proofs.RightFields.{share-listed, give-listed, pool-listed, miner-listed, include-listed, bump-listed}
 use Rattle.queries.specs.declared.OpenSets.{OpenSets}
 use Rattle.position.specs.declared.Position.{Position}
-use Rattle.position.specs.Position.{slotCount}
+use Rattle.position.specs.Position.{slotCount, slot, blockOf}
 use Rattle.position.specs.Fit.{Fit}
 use Rattle.queries.specs.OpenSets.{isOpenRead, isOpenStep, openSet, places, belowSets, lastSet, openSets, sightOf}
 use Rattle.position.proofs.Decoding.{decodes}
-use Rattle.queries.proofs.OpenSteps.{open-seen}
+use Rattle.queries.proofs.OpenListed.{kind-open, give-open, give-stands}
+
+no-party : (a : ℕ) → a ≡ 2 → isParty a ≡ false
+unfolding isParty
+no-party a e = le-ltb a 2 (omega (arith, e))
 
 -- ---- sets
 
@@ -49,7 +55,7 @@ set-upto (suc m) n f l h =
 
 -- ---- a step with right fields and a transaction byte other than 255
 module _ (s u : List ℕ) (k a t d : ℕ) (low : t < slotCount) where
-  party-reach : (j n : ℕ) → j ≡ k → isParty a ≡ true → ltb j 5 ≡ true → limit s j ≡ n → t < n → (mayStand k a d && ltb t (limit s k)) ≡ true
+  party-reach : (j n : ℕ) → j ≡ k → isParty a ≡ true → partyMay j a d ≡ true → limit s j ≡ n → t < n → (mayStand k a d && ltb t (limit s k)) ≡ true
   unfolding mayStand
   party-reach j n e h f m l = rw (← e, h, f, m) (lt-ltb t n l)
 
@@ -59,10 +65,25 @@ module _ (s u : List ℕ) (k a t d : ℕ) (low : t < slotCount) where
   miner-reach j e h f g m l =
       let two : a ≡ 2 = eqb-true a miner h in
       let other : ltb a 2 ≡ false = le-ltb a 2 (omega (arith, two)) in
-      rw (← e, other, f, g, m) (lt-ltb t (count s) l)
+      rw (← e, other, h, f, g, m) (lt-ltb t (count s) l)
+
+  -- a gift goes to the other party, what is sent to the contract or the sender
+  other-is : isParty a ≡ true → isOther a d ≡ true → eqb d (1 - a) ≡ true
+  unfolding isOther isParty
+  other-is h o =
+      let w = and-parts (ltb d 2) _ o in
+      let z : d ≡ a → ⊥ = eqb-false d a (not-true (eqb d a) (w .1)) in
+      eq-eqb d (1 - a) (omega (arith, ltb-true a 2 h, ltb-true d 2 (w .0), z))
+
+  sender-is : sendsTo s a t d ≡ true → (eqb d contract || eqb d a) ≡ true
+  unfolding sendsTo
+  sender-is h =
+      split (isContract s t)
+      (λ c. let e : eqb d contract ≡ true = rw c at h in rw e)
+      (λ c. or-right (eqb d contract) (eqb d a) (and-parts (eqb d a) _ (rw c at h) .0))
 
   in-reach : (y : Step) → stepBytes y ≡ k ∷ a ∷ t ∷ d ∷ [] → fieldsRight s u y ≡ true → (mayStand k a d && ltb t (limit s k)) ≡ true
-  unfolding stepBytes fieldsRight limit
+  unfolding stepBytes fieldsRight limit partyMay
   in-reach (Share b i to) e h =
       let m : b ≡ a = ap (λ l. getD l 1 0) e in
       let n : i ≡ t = ap (λ l. getD l 2 0) e in
@@ -73,18 +94,26 @@ module _ (s u : List ℕ) (k a t d : ℕ) (low : t < slotCount) where
       let m : b ≡ a = ap (λ l. getD l 1 0) e in
       let n : i ≡ t = ap (λ l. getD l 2 0) e in
       let r : fieldsRight s u (Give a t to) ≡ true = rw (m, n) at h in
+      let q : destinationNumber to ≡ d = ap (λ l. getD l 3 0) e in
       let w = and-parts (isParty a) _ r in
-      party-reach 2 (signatures s) (ap (λ l. getD l 0 0) e) (w .0) refl refl (ltb-true t (signatures s) (and-parts (ltb t (signatures s)) _ (w .1) .0))
+      let v = and-parts (ltb t (signatures s)) _ (w .1) in
+      party-reach 2 (signatures s) (ap (λ l. getD l 0 0) e) (w .0) (other-is (w .0) (rw q at (v .1))) refl (ltb-true t (signatures s) (v .0))
   in-reach (SendToPool b i to) e h =
       let m : b ≡ a = ap (λ l. getD l 1 0) e in
       let n : i ≡ t = ap (λ l. getD l 2 0) e in
       let r : fieldsRight s u (SendToPool a t to) ≡ true = rw (m, n) at h in
-      party-reach 3 (count s) (ap (λ l. getD l 0 0) e) (and-parts (isParty a) _ r .0) refl refl (pool-listed s u a t to (SendToPool a t to) refl r)
+      let q : destinationNumber to ≡ d = ap (λ l. getD l 3 0) e in
+      let w = and-parts (isParty a) _ r in
+      let v = and-parts (ltb t (count s)) _ (w .1) in
+      party-reach 3 (count s) (ap (λ l. getD l 0 0) e) (w .0) (sender-is (rw q at (v .1))) refl (pool-listed s u a t to (SendToPool a t to) refl r)
   in-reach (HandToMiner b i to) e h =
       let m : b ≡ a = ap (λ l. getD l 1 0) e in
       let n : i ≡ t = ap (λ l. getD l 2 0) e in
       let r : fieldsRight s u (HandToMiner a t to) ≡ true = rw (m, n) at h in
-      party-reach 4 (count s) (ap (λ l. getD l 0 0) e) (and-parts (isParty a) _ r .0) refl refl (miner-listed s u a t to (HandToMiner a t to) refl r)
+      let q : destinationNumber to ≡ d = ap (λ l. getD l 3 0) e in
+      let w = and-parts (isParty a) _ r in
+      let v = and-parts (ltb t (count s)) _ (w .1) in
+      party-reach 4 (count s) (ap (λ l. getD l 0 0) e) (w .0) (sender-is (rw q at (v .1))) refl (miner-listed s u a t to (HandToMiner a t to) refl r)
   in-reach (Include b i to) e h =
       let m : b ≡ a = ap (λ l. getD l 1 0) e in
       let n : i ≡ t = ap (λ l. getD l 2 0) e in
@@ -139,30 +168,101 @@ module _ (s u : List ℕ) (p : Position) (actor kind d : ℕ) where
       let n : limit s kind ≡ count s = rw (ne-eqb kind 2 other) in
       h ∙ rw n at (set-limited (omega (arith, n, few)))
 
-  pub set-given : (r : ℕ) (g : Sight) → Fit s u → signatures s ≤ 8 → g ≡ sightOf s u p actor → kind ≡ 2
-      → r ≡ setBelow (signatures s) (λ i. isOpenIn s u g emptySlot 0 (decode s u 2 actor i d)) → r ≡ openSet s u p actor kind d
+  pub set-given : (r : ℕ) (b : Bool) (g : Sight) → Fit s u → signatures s ≤ 8 → g ≡ sightOf s u p actor → b ≡ mayStand kind actor d → not b ≡ false → d < 3
+      → kind ≡ 2 → r ≡ setBelow (signatures s) (λ i. givesIn g actor i d) → r ≡ openSet s u p actor kind d
   unfolding limit
-  set-given r g fit few e two h =
+  set-given r b g fit few e m f l two h =
       let n : limit s kind ≡ signatures s = rw two in
-      (h ∙ rw (e, ← two))
-      ∙ set-same (signatures s) (λ i. isOpenIn s u (sightOf s u p actor) emptySlot 0 (decode s u kind actor i d)) (λ t. isOpenStep s u p kind actor t d)
-      (λ i l. open-seen s u p fit kind actor i d emptySlot 0 (λ z. absurd (z two)))
+      let w = give-stands actor d (rw two at (sym m ∙ not-false b f)) in
+      (h ∙ rw e)
+      ∙ set-same (signatures s) (λ i. givesIn (sightOf s u p actor) actor i d) (λ t. isOpenStep s u p kind actor t d)
+      (λ i j. rw two (sym (give-open s u p fit actor i emptySlot 0 d l (w .0) (w .1) j)))
       ∙ rw n at (set-limited (omega (arith, n, few)))
 
--- ---- the steps with transaction byte 255, and all sets of an actor
-module _ (s u : List ℕ) (p : Position) (actor : ℕ) where
-  last-made : (r : ℕ) (g : Sight) → Fit s u → g ≡ sightOf s u p actor
-      → r ≡ setBelow places (λ i. isOpenIn s u g emptySlot 0 (decode s u (i / 3 + 1) actor noTransaction (i % 3))) → r ≡ lastSet s u p actor
-  unfolding lastSet
-  last-made r g fit e h =
-      (h ∙ rw e)
-      ∙ set-same places
-      (λ i. isOpenIn s u (sightOf s u p actor) emptySlot 0 (decode s u (i / 3 + 1) actor noTransaction (i % 3)))
-      (λ i. isOpenStep s u p (i / 3 + 1) actor noTransaction (i % 3))
-      (λ i l. open-seen s u p fit (i / 3 + 1) actor noTransaction (i % 3) emptySlot 0 (λ z m. absurd (omega (arith, m, fit .checked .sized .few))))
+-- ---- the steps with transaction byte 255
 
-  pub sets-made : (b : List ℕ) (r : ℕ) (g : Sight) → Fit s u → g ≡ sightOf s u p actor → b ≡ belowSets s u p actor
-      → r ≡ setBelow places (λ i. isOpenIn s u g emptySlot 0 (decode s u (i / 3 + 1) actor noTransaction (i % 3)))
+-- a test that at most k passes
+pub set-one : (n k : ℕ) (f : ℕ → Bool) → k < n → ((j : ℕ) → j < n → (j ≡ k → ⊥) → f j ≡ false) → setBelow n f ≡ joined 0 (f k) k
+unfolding setBelow
+set-one n k f l h =
+    set-upto n (suc k) f l (λ j i m. h j m (λ e. omega (arith, e, i)))
+    ∙ rw (set-upto k 0 f (omega arith) (λ j i m. h j (omega (arith, m, l)) (λ e. omega (arith, e, m))))
+
+module _ (s u : List ℕ) (p : Position) (fit : Fit s u) (few : signatures s ≤ 8) (k a d : ℕ)
+    (first : isParty a ≡ true → k ≡ 1 → d ≡ 2 → ⊥) (mined : isParty a ≡ false → k ≡ 6 → d ≡ 2 → ⊥) where
+  beyond : (i n : ℕ) → i ≡ 255 → i < n → n ≤ 32 → ⊥
+  beyond i n e l m = omega (arith, e, l, m)
+
+  top-never : (y : Step) → stepBytes y ≡ k ∷ a ∷ noTransaction ∷ d ∷ [] → fieldsRight s u y ≡ true → ⊥
+  unfolding stepBytes fieldsRight firstShareFields
+  top-never (Share b i to) e h =
+      let m : b ≡ a = ap (λ l. getD l 1 0) e in
+      let n : i ≡ 255 = ap (λ l. getD l 2 0) e in
+      let q : destinationNumber to ≡ d = ap (λ l. getD l 3 0) e in
+      let w = and-parts (isParty b) _ h in
+      either (or-parts (ltb i (count s) && sharesTo s i (destinationNumber to)) _ (w .1))
+      (λ y. beyond i (count s) n (ltb-true i (count s) (and-parts (ltb i (count s)) _ y .0)) (fit .checked .sized .few))
+      (λ y.
+      let z = and-parts (not (eqb (conduct u) 0)) _ (and-parts (eqb i noTransaction) _ y .1) in
+      first (rw m at (w .0)) (sym (ap (λ l. getD l 0 0) e)) (sym q ∙ eqb-true (destinationNumber to) contract (z .1)))
+  top-never (Give b i to) e h = beyond i 8 (ap (λ l. getD l 2 0) e) (give-listed s u b i to (Give b i to) refl few h) (omega arith)
+  top-never (SendToPool b i to) e h = beyond i (count s) (ap (λ l. getD l 2 0) e) (pool-listed s u b i to (SendToPool b i to) refl h) (fit .checked .sized .few)
+  top-never (HandToMiner b i to) e h = beyond i (count s) (ap (λ l. getD l 2 0) e) (miner-listed s u b i to (HandToMiner b i to) refl h) (fit .checked .sized .few)
+  top-never (Include b i to) e h = beyond i (count s) (ap (λ l. getD l 2 0) e) (include-listed s u b i to (Include b i to) refl h) (fit .checked .sized .few)
+  top-never (Mine b i to) e h =
+      let m : b ≡ a = ap (λ l. getD l 1 0) e in
+      let q : destinationNumber to ≡ d = ap (λ l. getD l 3 0) e in
+      let w = and-parts (eqb b miner) _ h in
+      mined (no-party a (sym m ∙ eqb-true b miner (w .0))) (sym (ap (λ l. getD l 0 0) e))
+      (sym q ∙ eqb-true (destinationNumber to) contract (and-parts (eqb i noTransaction) _ (w .1) .1))
+  top-never (Bump b i to) e h = beyond i (count s) (ap (λ l. getD l 2 0) e) (bump-listed s u b i to (Bump b i to) refl h) (fit .checked .sized .few)
+
+  top-read : (y : Decoded) → decode s u k a noTransaction d ≡ y → isOpenRead s u p y ≡ false
+  unfolding isOpenRead
+  top-read (Read y) e = let w = decodes s u k a noTransaction d y e in absurd (top-never y (w .bytes) (w .fields))
+  top-read Refused e = refl
+
+  top-closed : isOpenStep s u p k a noTransaction d ≡ false
+  unfolding isOpenStep
+  top-closed = top-read (decode s u k a noTransaction d) refl
+
+-- a place by its kind and destination
+place-of : (i k : ℕ) → i / 3 + 1 ≡ k + 1 → i % 3 ≡ 2 → i ≡ 3 * k + 2
+place-of i k e f = omega (arith, e, f)
+
+-- ---- these, and all sets of an actor
+module _ (s u : List ℕ) (p : Position) (fit : Fit s u) (few : signatures s ≤ 8) (actor : ℕ) where
+  no-slot : {k : ℕ} → (k ≡ 2 → ⊥) → noTransaction < count s → (emptySlot ≡ slot p noTransaction) × (0 ≡ blockOf p (parent s noTransaction))
+  no-slot z m = absurd (omega (arith, m, fit .checked .sized .few))
+
+  first-open : isParty actor ≡ true → isOpenStep s u p 1 actor noTransaction 2 ≡ sharesFirst u (sightOf s u p actor) actor
+  unfolding sharesFirst refusalIn shareNewIn fieldsRight firstShareFields ofKind destinationNumber
+  first-open h =
+      rw (h, le-ltb noTransaction (count s) (omega (arith, fit .checked .sized .few)), and-true (not (eqb (conduct u) 0)))
+      at (kind-open s u p fit actor noTransaction emptySlot 0 1 Contract (Share actor noTransaction Contract) no-slot refl)
+
+  mine-open : isOpenStep s u p 6 actor noTransaction 2 ≡ minesIn (sightOf s u p actor) actor
+  unfolding minesIn refusalIn fieldsRight ofKind destinationNumber
+  mine-open =
+      rw (and-true (eqb actor miner))
+      at (kind-open s u p fit actor noTransaction emptySlot 0 6 Contract (Mine actor noTransaction Contract) no-slot refl)
+
+  last-is : lastIn u (sightOf s u p actor) actor ≡ lastSet s u p actor
+  unfolding lastIn lastSet
+  last-is =
+      split (isParty actor)
+      (λ h.
+      rw (h, sym (first-open h))
+      (sym
+      (set-one places 2 (λ i. isOpenStep s u p (i / 3 + 1) actor noTransaction (i % 3)) (omega arith)
+      (λ j l z. top-closed s u p fit few (j / 3 + 1) actor (j % 3) (λ g e f. z (place-of j 0 e f)) (λ g e f. clash h g)))))
+      (λ h.
+      rw (h, sym mine-open)
+      (sym
+      (set-one places 17 (λ i. isOpenStep s u p (i / 3 + 1) actor noTransaction (i % 3)) (omega arith)
+      (λ j l z. top-closed s u p fit few (j / 3 + 1) actor (j % 3) (λ g e f. clash g h) (λ g e f. z (place-of j 5 e f))))))
+
+  pub sets-made : (b : List ℕ) (r : ℕ) (g : Sight) → g ≡ sightOf s u p actor → b ≡ belowSets s u p actor → r ≡ lastIn u g actor
       → record { below = b; last = r } ≡ openSets s u p actor
   unfolding openSets
-  sets-made b r g fit e f h = rw (f, last-made r g fit e h)
+  sets-made b r g e f h = rw (f, (h ∙ rw e) ∙ last-is)

@@ -6,7 +6,7 @@ use mathlib.Core.Path.{_≡_, refl, sym, ap, _∙_}
 use mathlib.Core.Bool.{Bool, true, false, not, _&&_, and-false}
 use mathlib.Core.List.{List, [], _∷_}
 use lib.Dec.{eqb}
-use lib.ListN.{length, getD}
+use lib.ListN.{getD}
 use borrow.Author.Tests.{eqb-false, lt-ltb, le-ltb, not-true, not-false}
 use Rattle.laws.specs.Booleans.{split, and-parts}
 use Rattle.laws.specs.Failing.{firstFailing}
@@ -20,9 +20,7 @@ use Rattle.steps.specs.declared.Decoded.{Decoded}
 use Rattle.steps.specs.declared.Decoded.the-variants.{Read, Refused}
 use Rattle.steps.specs.declared.View.{View}
 use Rattle.steps.specs.declared.Outlook.{Outlook}
-use Rattle.readings.specs.declared.Sight.{Sight}
 use Rattle.steps.specs.Decode.{noTransaction, fieldsRight, decode, stepBytes}
-use Rattle.steps.specs.Parent.{slotAbove, blockAbove}
 use Rattle.steps.specs.View.{keysIn}
 use Rattle.steps.specs.Conduct.{conductTests, sendHeldIn}
 use Rattle.steps.specs.Sharing.{shareMetIn, giveMetIn}
@@ -31,7 +29,7 @@ use Rattle.readings.specs.Sight.{shareNewIn, refusalIn, isOpenIn}
 use Rattle.steps.proofs.RightFields.{share-listed, pool-listed, miner-listed, include-listed, bump-listed}
 use Rattle.position.specs.declared.Position.{Position}
 use Rattle.position.specs.Position.{slot, blockOf, keys, holds, marked}
-use Rattle.position.specs.View.{viewBelow, sinceIn}
+use Rattle.position.specs.View.{viewBelow}
 use Rattle.position.specs.Tests.{shareMet, shareTests, giveMet, giveTests, bumpTests}
 use Rattle.position.specs.Conduct.{isCareful, canPay, sendAllowed, payingFirst, conductAllows}
 use Rattle.position.specs.Outlook.{outlook}
@@ -42,7 +40,7 @@ use Rattle.position.specs.StepRefusal.{tests, stepRefusal}
 use Rattle.queries.specs.OpenSets.{isOpenRead, isOpenStep, keptBack, sightOf}
 use Rattle.position.proofs.Decoding.{decodes}
 use Rattle.position.proofs.Outlooks.{careful-outlook, share-outlook, give-outlook, held-outlook}
-use Rattle.position.proofs.SendTests.{since-parent, pool-tests, miner-tests}
+use Rattle.position.proofs.SendTests.{pool-tests, miner-tests}
 use Rattle.position.proofs.MineTests.{owed-view, include-tests, mine-tests}
 
 module _ (s u : List ℕ) (p : Position) (fit : Fit s u) (actor t : ℕ) (x : Slot) (since : ℕ) where
@@ -148,15 +146,6 @@ module _ (s u : List ℕ) (p : Position) (fit : Fit s u) (kind actor t d : ℕ) 
   pub open-seen : isOpenIn s u (sightOf s u p actor) x since (decode s u kind actor t d) ≡ isOpenStep s u p kind actor t d
   unfolding isOpenStep
   open-seen = read-seen (decode s u kind actor t d) refl
-
--- a turn of a loop over the transactions, with their slots and their parents' at hand
-pub open-turn : (s u : List ℕ) (p : Position) (kind actor t d up since : ℕ) (g : Sight) (r : Bool) → Fit s u → length (p .slots) ≡ 32
-    → g ≡ sightOf s u p actor → up ≡ slotAbove s t → since ≡ blockAbove s t (slot p up .height)
-    → r ≡ isOpenIn s u g (slot p t) since (decode s u kind actor t d) → r ≡ isOpenStep s u p kind actor t d
-unfolding sinceIn
-open-turn s u p kind actor t d up since g r fit n e a b h =
-    let w : since ≡ blockOf p (parent s t) = (b ∙ rw a) ∙ since-parent s p n t in
-    (h ∙ rw e) ∙ open-seen s u p fit kind actor t d (slot p t) since (λ z l. (refl, w))
 
 -- ---- what is the same for all steps of the actor, from its parts
 module _ (s u : List ℕ) (p : Position) (o : Outlook) (actor : ℕ) where

@@ -1,7 +1,9 @@
 // The open steps of an actor, as sets.
 use crate::OpenSets;
 use position::Position;
+use readings::Goes;
 use readings::Sight;
+use readings::next;
 use readings::open;
 use slots::set;
 use steps::Outlook;
@@ -9,9 +11,11 @@ use steps::View;
 use steps::parent;
 ghost use Prim.Native.Nat.{_<_, _≤_};
 ghost use mathlib.Core.Path.{_≡_};
+ghost use mathlib.Core.Bool.{true};
 ghost use lib.ListN.{length};
 ghost use Rattle.laws.specs.Sets.{setBelow};
 ghost use Rattle.sheet.specs.Field.{count, signatures, Sized};
+ghost use Rattle.readings.specs.Sight.{mayStand, goesFor};
 ghost use Rattle.position.specs.Owed.{anyOwed};
 ghost use Rattle.position.specs.Outlook.{outlook};
 ghost use Rattle.position.specs.View.{viewBelow};
@@ -80,6 +84,7 @@ fn sheet_set(
     sheet: &[u8],
     setup: &[u8],
     sight: Sight,
+    goes: Goes,
     actor: u8,
     kind: u8,
     to: u8,
@@ -89,19 +94,24 @@ fn sheet_set(
     requires { ⌜ length (now setup) ≡ 4 ⌝ }
     requires { ⌜ Fit (now sheet) (now setup) ⌝ }
     requires { ⌜ sight ≡ sightOf (now sheet) (now setup) position actor ⌝ }
+    requires { ⌜ goes ≡ goesFor (now sheet) actor ⌝ }
+    requires { ⌜ mayStand kind actor to ≡ true ⌝ }
+    requires { ⌜ (kind ≡ 2 → ⊥) ⌝ }
+    requires { ⌜ to < 3 ⌝ }
     ensures { λ r. ⌜ r ≡ setBelow (count (now (sheet .entry))) (λ t. isOpenStep (now (sheet .entry)) (now (setup .entry)) position kind actor t to) ⌝ }
 {
     let n = sheet::field::count(sheet);
+    let c = open::candidates(setup, sight, goes, kind, actor, to);
     let mut found: u32 = 0;
-    let mut t: usize = 0;
+    let mut t = next::next(c, 0, n);
     while t < n {
         let x = position.slots[t];
         let up = parent::slot_above(sheet, t);
         let above = position.slots[up];
         let since = parent::block_above(sheet, t, above.height);
-        let on = open::open_at(sheet, setup, sight, x, since, kind, actor, t as u8, to);
+        let on = open::accepted_as(sheet, setup, sight, x, since, kind, actor, t, to);
         found = set::join(found, on, t);
-        t += 1;
+        t = next::next(c, t + 1, n);
     }
     found
 }
@@ -112,6 +122,7 @@ fn open_set(
     sheet: &[u8],
     setup: &[u8],
     sight: Sight,
+    goes: Goes,
     actor: u8,
     kind: u8,
     destination: u8,
@@ -121,31 +132,59 @@ fn open_set(
     requires { ⌜ length (now setup) ≡ 4 ⌝ }
     requires { ⌜ Fit (now sheet) (now setup) ⌝ }
     requires { ⌜ sight ≡ sightOf (now sheet) (now setup) position actor ⌝ }
+    requires { ⌜ goes ≡ goesFor (now sheet) actor ⌝ }
+    requires { ⌜ destination < 3 ⌝ }
     ensures { λ r. ⌜ r ≡ openSet (now (sheet .entry)) (now (setup .entry)) position actor kind destination ⌝ }
 {
     if !open::may_stand(kind, actor, destination) {
         return 0;
     }
     if kind == 2 {
-        return open::give_set(sheet, setup, sight, actor, destination);
+        return open::give_set(sheet, sight, actor, destination);
     }
-    sheet_set(position, sheet, setup, sight, actor, kind, destination)
+    sheet_set(
+        position,
+        sheet,
+        setup,
+        sight,
+        goes,
+        actor,
+        kind,
+        destination,
+    )
 }
 
 // These sets, for each kind and destination.
-fn below_sets(position: Position, sheet: &[u8], setup: &[u8], sight: Sight, actor: u8) -> [u32; 21]
+fn below_sets(
+    position: Position,
+    sheet: &[u8],
+    setup: &[u8],
+    sight: Sight,
+    goes: Goes,
+    actor: u8,
+) -> [u32; 21]
     requires { ⌜ Sized (now sheet) ⌝ }
     requires { ⌜ signatures (now sheet) ≤ 8 ⌝ }
     requires { ⌜ length (now setup) ≡ 4 ⌝ }
     requires { ⌜ Fit (now sheet) (now setup) ⌝ }
     requires { ⌜ sight ≡ sightOf (now sheet) (now setup) position actor ⌝ }
+    requires { ⌜ goes ≡ goesFor (now sheet) actor ⌝ }
     ensures { λ r. ⌜ r ≡ belowSets (now (sheet .entry)) (now (setup .entry)) position actor ⌝ }
 {
     let mut below: [u32; 21] = [0; 21];
     let mut i: usize = 0;
     while i < 21 {
         let kind = (i / 3 + 1) as u8;
-        let found = open_set(position, sheet, setup, sight, actor, kind, (i % 3) as u8);
+        let found = open_set(
+            position,
+            sheet,
+            setup,
+            sight,
+            goes,
+            actor,
+            kind,
+            (i % 3) as u8,
+        );
         below[i] = found;
         i += 1;
     }
@@ -172,7 +211,8 @@ pub fn open_sets(
     ensures { λ r. ⌜ r ≡ openSets (now (sheet .entry)) (now (setup .entry)) position actor ⌝ }
 {
     let sight = sight(position, sheet, setup, view, o, owed, actor);
-    let below = below_sets(position, sheet, setup, sight, actor);
-    let last = open::last_set(sheet, setup, sight, actor);
+    let goes = open::goes_for(sheet, actor);
+    let below = below_sets(position, sheet, setup, sight, goes, actor);
+    let last = open::last_set(setup, sight, actor);
     OpenSets { below, last }
 }

@@ -1,3 +1,4 @@
+pub mod Next
 pub mod Holder
 pub mod Reported
 pub mod Report

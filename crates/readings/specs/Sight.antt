@@ -1,19 +1,23 @@
 -- The refusal of any step over what is the same for all steps of an actor, the slot x of the step's transaction and `since`, its parent's block.
 -- Assumes nothing.
-use Prim.Native.Nat.{ℕ}
-use mathlib.Core.Bool.{Bool, false, not, _&&_, _||_}
+use Prim.Native.Nat.{ℕ, _-_}
+use mathlib.Core.Bool.{Bool, true, false, not, _&&_, _||_}
 use mathlib.Core.List.{List}
-use lib.Dec.{eqb, ltb}
+use lib.Bits.{bitAnd}
+use lib.Dec.{eqb, leb}
 use Rattle.laws.specs.Booleans.{pick}
 use Rattle.laws.specs.Failing.{firstFailing}
+use Rattle.laws.specs.Sets.{joined, setBelow}
 use Rattle.sheet.specs.Refusal.{accepted}
 use Rattle.sheet.specs.Field.{count, signatures}
-use Rattle.sheet.specs.Setup.{perDay}
+use Rattle.sheet.specs.Setup.{perDay, conduct, stealth}
 use Rattle.slots.specs.declared.Slot.{Slot}
 use Rattle.slots.specs.declared.Step.{Step}
 use Rattle.slots.specs.declared.Step.the-variants.{Share, Give, SendToPool, HandToMiner, Include, Mine, Bump}
-use Rattle.slots.specs.Destination.{contract, destinationNumber, isParty}
+use Rattle.slots.specs.Destination.{alice, miner, contract, destinationNumber, isParty, isPayee, isContract}
 use Rattle.readings.specs.declared.Sight.{Sight}
+use Rattle.readings.specs.declared.Goes.{Goes}
+use Rattle.steps.specs.declared.Outlook.{Outlook}
 use Rattle.steps.specs.declared.Decoded.{Decoded}
 use Rattle.steps.specs.declared.Decoded.the-variants.{Read, Refused}
 use Rattle.steps.specs.Decode.{noTransaction}
@@ -47,9 +51,91 @@ unfoldable pub isOpenIn : List ℕ → List ℕ → Sight → Slot → ℕ → D
 isOpenIn s u g x since (Read y) = eqb (refusalIn s u g x since y) accepted
 isOpenIn s u g x since Refused = false
 
+-- ---- the same by numbers, for a transaction of the sheet
+
+-- a party's step of this kind may go to this destination
+unfoldable pub partyMay : ℕ → ℕ → ℕ → Bool
+partyMay kind actor destination =
+    pick (eqb kind 1) true
+    (pick (eqb kind 2) (eqb destination (1 - actor))
+    ((eqb kind 3 || eqb kind 4) && (eqb destination contract || eqb destination actor)))
+
 -- some step of this kind, actor and destination may have right fields with a transaction byte other than 255
 unfoldable pub mayStand : ℕ → ℕ → ℕ → Bool
-mayStand kind actor destination = pick (isParty actor) (ltb kind 5) ((eqb kind 5 || eqb kind 7) && eqb destination contract)
+mayStand kind actor destination =
+    pick (isParty actor) (partyMay kind actor destination) (eqb actor miner && ((eqb kind 5 || eqb kind 7) && eqb destination contract))
+
+-- a contract transaction goes to the contract, a paying one to its payees
+unfoldable pub goesTo : List ℕ → ℕ → ℕ → Bool
+goesTo s t destination = pick (eqb destination contract) (isContract s t) (isPayee s t destination)
+
+-- the first test of a kind other than 2 and 6 that fails
+unfoldable pub refusalAs : List ℕ → List ℕ → Sight → Slot → ℕ → ℕ → ℕ → ℕ → ℕ → ℕ
+refusalAs s u g x since kind actor t d =
+    pick (eqb kind 1) (firstFailing (conductTests (shareAllowedIn (g .outlook) actor t) (shareMetIn s (keysIn (g .view) actor) x actor t d)))
+    (pick (eqb kind 3) (firstFailing (poolTestsIn (sendHeldIn s (g .outlook) (g .back) actor t) s u (g .view) x since actor t d))
+    (pick (eqb kind 4) (firstFailing (minerTestsIn (sendHeldIn s (g .outlook) (g .back) actor t) s u (g .view) x since actor t d))
+    (pick (eqb kind 5) (firstFailing (includeTestsIn s (g .view) (g .owed) t))
+    (firstFailing (bumpTestsIn (owedIn s (perDay u) (g .view) since t))))))
+
+-- ---- the transactions that are tested, as sets
+
+-- those that go to a destination
+unfoldable pub goesSet : List ℕ → ℕ → ℕ
+goesSet s d = setBelow (count s) (λ t. goesTo s t d)
+
+-- by destination, for a party
+unfoldable pub goesFor : List ℕ → ℕ → Goes
+goesFor s actor =
+    pick (isParty actor)
+    (record { alice = goesSet s 0; bob = goesSet s 1; contract = goesSet s 2 })
+    (record { alice = 0; bob = 0; contract = 0 })
+
+unfoldable pub goesOf : Goes → ℕ → ℕ
+goesOf w d = pick (eqb d 0) (w .alice) (pick (eqb d 1) (w .bob) (w .contract))
+
+-- all of 32
+abbrev pub full : ℕ
+full = 4294967295
+
+-- those that conduct may let a party share: but for open conduct success, bit 2, by Alice
+unfoldable pub sharers : Outlook → ℕ → ℕ
+sharers o actor = pick (o .free) full (pick (eqb (o .phase) 3 && eqb actor alice) 4 0)
+
+-- those that it may let a party send: none in phase 0
+unfoldable pub senders : Outlook → ℕ
+senders o = pick (o .free) full (pick (eqb (o .phase) 0) 0 full)
+
+-- those that a kind's tests may pass, whatever the destination
+unfoldable pub turnsIn : List ℕ → Sight → ℕ → ℕ → ℕ
+turnsIn u g kind actor =
+    pick (eqb kind 1) (sharers (g .outlook) actor)
+    (pick (eqb kind 3) (senders (g .outlook))
+    (pick (eqb kind 4) (pick (eqb (stealth u) 1) (senders (g .outlook)) 0)
+    (g .view .pool)))
+
+-- of kinds 1, 3 and 4 those that go to the destination
+unfoldable pub candidatesIn : List ℕ → Sight → Goes → ℕ → ℕ → ℕ → ℕ
+candidatesIn u g w kind actor d = pick (leb 5 kind) (turnsIn u g kind actor) (bitAnd (goesOf w d) (turnsIn u g kind actor))
+
+-- kind 2: a give that is accepted
+unfoldable pub givesIn : Sight → ℕ → ℕ → ℕ → Bool
+givesIn g actor i d =
+    eqb (firstFailing (conductTests (giveAllowedIn (g .outlook) actor i) (giveMetIn (keysIn (g .view) actor) (keysIn (g .view) d) i))) accepted
+
+-- kind 1 with transaction byte 255: first shares that are accepted
+unfoldable pub sharesFirst : List ℕ → Sight → ℕ → Bool
+sharesFirst u g actor =
+    not (eqb (conduct u) 0)
+    && eqb (firstFailing (conductTests (shareAllowedIn (g .outlook) actor noTransaction) (not (g .made)))) accepted
+
+-- kind 6: a block that may be mined
+unfoldable pub minesIn : Sight → ℕ → Bool
+minesIn g actor = eqb actor miner && eqb (firstFailing (mineTestsIn (g .view) (g .owed))) accepted
+
+-- the places of the steps with transaction byte 255: 2 for the first shares, 17 for kind 6
+unfoldable pub lastIn : List ℕ → Sight → ℕ → ℕ
+lastIn u g actor = pick (isParty actor) (joined 0 (sharesFirst u g actor) 2) (joined 0 (minesIn g actor) 17)
 
 -- the transaction bytes other than 255 that a kind's steps may have are below this
 unfoldable pub limit : List ℕ → ℕ → ℕ

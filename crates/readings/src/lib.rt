@@ -1,5 +1,6 @@
 // What is read off a position, over views, single slots and the sheet: open steps, rows of a report, holders.
 pub mod holder;
+pub mod next;
 pub mod open;
 pub mod report;
 pub mod reported;
@@ -17,6 +18,13 @@ pub struct Sight {
     pub owed: bool,
     // the actor's first shares are made
     pub made: bool,
+}
+
+// The transactions of a sheet that go to each destination, as sets.
+pub struct Goes {
+    pub alice: u32,
+    pub bob: u32,
+    pub contract: u32,
 }
 
 // A transaction's row of a report: its block, 0 while it is unconfirmed, its lock height and deadline, its status and its

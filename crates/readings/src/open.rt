@@ -1,237 +1,58 @@
-// The refusal of any step of an actor, and whether four bytes are an open step of it.
+// Which steps of an actor are open, by their numbers.
+use crate::Goes;
 use crate::Sight;
-use slots::Destination;
 use slots::Slot;
-use slots::Step;
 use slots::party;
 use slots::set;
-use steps::Decoded;
+use slots::signatures;
+use steps::Outlook;
 use steps::conduct;
-use steps::decode;
 use steps::mining;
 use steps::owed;
+use steps::parent;
 use steps::sending;
 use steps::sharing;
-ghost use Prim.Native.Nat.{_+_, _/_, _%_, _<_, _≤_};
+ghost use Prim.Native.Nat.{_<_, _≤_};
 ghost use mathlib.Core.Path.{_≡_};
-ghost use mathlib.Core.Bool.{true};
+ghost use mathlib.Core.Bool.{_&&_, _||_};
+ghost use lib.Dec.{eqb};
 ghost use lib.ListN.{length};
+ghost use Rattle.laws.specs.Booleans.{pick};
 ghost use Rattle.laws.specs.Failing.{firstFailing};
+ghost use Rattle.laws.specs.Mask.{bit};
 ghost use Rattle.laws.specs.Sets.{setBelow};
 ghost use Rattle.sheet.specs.Field.{count, signatures, Sized};
-ghost use Rattle.slots.specs.declared.Step.the-variants.{Share, Give, SendToPool, HandToMiner, Include, Mine, Bump};
-ghost use Rattle.slots.specs.Slot.{emptySlot};
-ghost use Rattle.steps.specs.Decode.{decode, fieldsRight};
-ghost use Rattle.readings.specs.Sight.{shareNewIn, refusalIn, isOpenIn, mayStand};
+ghost use Rattle.sheet.specs.Setup.{perDay, stealth};
+ghost use Rattle.slots.specs.Ancestry.{hasParent};
+ghost use Rattle.slots.specs.Signatures.{signed};
+ghost use Rattle.steps.specs.View.{keysIn, senderIn};
+ghost use Rattle.steps.specs.Conduct.{shareAllowedIn, sendHeldIn, conductTests};
+ghost use Rattle.steps.specs.Sharing.{shareMetIn};
+ghost use Rattle.steps.specs.Sending.{poolTestsIn, minerTestsIn};
+ghost use Rattle.steps.specs.Mining.{owedIn, bumpTestsIn};
+ghost use Rattle.readings.specs.Sight.{partyMay, mayStand, goesTo, goesSet, goesFor, goesOf, sharers, senders, turnsIn, candidatesIn, refusalAs, givesIn, sharesFirst, minesIn, lastIn};
 
-// Whether a share is new and not empty; of the first shares (255), whether they are new.
-fn share_new(sheet: &[u8], sight: Sight, x: Slot, party: u8, t: u8, destination: u8) -> bool
-    requires { ⌜ Sized (now sheet) ⌝ }
-    requires { ⌜ ((t ≡ 255 → ⊥) → t < count (now sheet)) ⌝ }
-    requires { ⌜ destination < 3 ⌝ }
-    ensures { λ r. ⌜ r ≡ shareNewIn (now (sheet .entry)) sight x party t destination ⌝ }
+// Whether a sender can name a destination: the contract or itself.
+fn to_sender(actor: u8, destination: u8) -> bool
+    ensures { λ r. ⌜ r ≡ (eqb destination 2 || eqb destination actor) ⌝ }
 {
-    if t == 255 {
-        return !sight.made;
+    if destination == 2 {
+        return true;
     }
-    let k = sheet::field::wide(t);
-    sharing::share_met(sheet, sight.view.keys(party), x, party, k, destination)
+    destination == actor
 }
 
-// Kind 1.
-fn share_refusal(
-    sheet: &[u8],
-    setup: &[u8],
-    sight: Sight,
-    x: Slot,
-    since: u16,
-    party: u8,
-    t: u8,
-    to: Destination,
-) -> u32
-    requires { ⌜ Sized (now sheet) ⌝ }
-    requires { ⌜ ((t ≡ 255 → ⊥) → t < count (now sheet)) ⌝ }
-    ensures { λ r. ⌜ r ≡ refusalIn (now (sheet .entry)) (now (setup .entry)) sight x since (Share party t to) ⌝ }
+// Whether a party's step of a kind may go to a destination.
+fn party_may(kind: u8, actor: u8, destination: u8) -> bool
+    requires { ⌜ actor < 2 ⌝ }
+    ensures { λ r. ⌜ r ≡ partyMay kind actor destination ⌝ }
 {
-    let allowed = sight.outlook.share_allowed(party, t);
-    let met = share_new(sheet, sight, x, party, t, party::destination_number(to));
-    conduct::conduct_refusal(allowed, met)
-}
-
-// Kind 2.
-fn give_refusal(
-    sheet: &[u8],
-    setup: &[u8],
-    sight: Sight,
-    x: Slot,
-    since: u16,
-    party: u8,
-    i: u8,
-    to: Destination,
-) -> u32
-    requires { ⌜ i < 8 ⌝ }
-    ensures { λ r. ⌜ r ≡ refusalIn (now (sheet .entry)) (now (setup .entry)) sight x since (Give party i to) ⌝ }
-{
-    let allowed = sight.outlook.give_allowed(party, i);
-    let receiver = sight.view.keys(party::destination_number(to));
-    let met = sharing::give_met(sight.view.keys(party), receiver, i);
-    conduct::conduct_refusal(allowed, met)
-}
-
-// Kind 3.
-fn pool_refusal(
-    sheet: &[u8],
-    setup: &[u8],
-    sight: Sight,
-    x: Slot,
-    since: u16,
-    party: u8,
-    t: u8,
-    to: Destination,
-) -> u32
-    requires { ⌜ Sized (now sheet) ⌝ }
-    requires { ⌜ signatures (now sheet) ≤ 8 ⌝ }
-    requires { ⌜ length (now setup) ≡ 4 ⌝ }
-    requires { ⌜ t < count (now sheet) ⌝ }
-    ensures { λ r. ⌜ r ≡ refusalIn (now (sheet .entry)) (now (setup .entry)) sight x since (SendToPool party t to) ⌝ }
-{
-    let k = sheet::field::wide(t);
-    let allowed = sight.outlook.send_held(sheet, sight.back, party, k);
-    let destination = party::destination_number(to);
-    sending::pool_refusal(
-        sheet,
-        setup,
-        sight.view,
-        allowed,
-        x,
-        since,
-        party,
-        k,
-        destination,
-    )
-}
-
-// Kind 4.
-fn miner_refusal(
-    sheet: &[u8],
-    setup: &[u8],
-    sight: Sight,
-    x: Slot,
-    since: u16,
-    party: u8,
-    t: u8,
-    to: Destination,
-) -> u32
-    requires { ⌜ Sized (now sheet) ⌝ }
-    requires { ⌜ signatures (now sheet) ≤ 8 ⌝ }
-    requires { ⌜ length (now setup) ≡ 4 ⌝ }
-    requires { ⌜ t < count (now sheet) ⌝ }
-    ensures { λ r. ⌜ r ≡ refusalIn (now (sheet .entry)) (now (setup .entry)) sight x since (HandToMiner party t to) ⌝ }
-{
-    let k = sheet::field::wide(t);
-    let allowed = sight.outlook.send_held(sheet, sight.back, party, k);
-    let destination = party::destination_number(to);
-    sending::miner_refusal(
-        sheet,
-        setup,
-        sight.view,
-        allowed,
-        x,
-        since,
-        party,
-        k,
-        destination,
-    )
-}
-
-// Kind 5.
-fn include_refusal(
-    sheet: &[u8],
-    setup: &[u8],
-    sight: Sight,
-    x: Slot,
-    since: u16,
-    party: u8,
-    t: u8,
-    to: Destination,
-) -> u32
-    requires { ⌜ Sized (now sheet) ⌝ }
-    requires { ⌜ t < count (now sheet) ⌝ }
-    ensures { λ r. ⌜ r ≡ refusalIn (now (sheet .entry)) (now (setup .entry)) sight x since (Include party t to) ⌝ }
-{
-    let k = sheet::field::wide(t);
-    mining::include_refusal(sheet, sight.view, sight.owed, k)
-}
-
-// Kind 7.
-fn bump_refusal(
-    sheet: &[u8],
-    setup: &[u8],
-    sight: Sight,
-    x: Slot,
-    since: u16,
-    party: u8,
-    t: u8,
-    to: Destination,
-) -> u32
-    requires { ⌜ Sized (now sheet) ⌝ }
-    requires { ⌜ length (now setup) ≡ 4 ⌝ }
-    requires { ⌜ t < count (now sheet) ⌝ }
-    ensures { λ r. ⌜ r ≡ refusalIn (now (sheet .entry)) (now (setup .entry)) sight x since (Bump party t to) ⌝ }
-{
-    let k = sheet::field::wide(t);
-    let per_day = sheet::setup::per_day(setup);
-    mining::bump_refusal(owed::owed_at(sheet, per_day, sight.view, since, k))
-}
-
-// Any step whose fields are right: the first test that fails, 0 where none does.
-pub fn refusal_in(sheet: &[u8], setup: &[u8], sight: Sight, x: Slot, since: u16, step: Step) -> u32
-    requires { ⌜ Sized (now sheet) ⌝ }
-    requires { ⌜ signatures (now sheet) ≤ 8 ⌝ }
-    requires { ⌜ length (now setup) ≡ 4 ⌝ }
-    requires { ⌜ fieldsRight (now sheet) (now setup) step ≡ true ⌝ }
-    ensures { λ r. ⌜ r ≡ refusalIn (now (sheet .entry)) (now (setup .entry)) sight x since step ⌝ }
-{
-    match step {
-        Step::Share(party, t, to) => share_refusal(sheet, setup, sight, x, since, party, t, to),
-        Step::Give(party, i, to) => give_refusal(sheet, setup, sight, x, since, party, i, to),
-        Step::SendToPool(party, t, to) => pool_refusal(sheet, setup, sight, x, since, party, t, to),
-        Step::HandToMiner(party, t, to) => miner_refusal(
-            sheet,
-            setup,
-            sight,
-            x,
-            since,
-            party,
-            t,
-            to,
-        ),
-        Step::Include(party, t, to) => include_refusal(sheet, setup, sight, x, since, party, t, to),
-        Step::Mine(party, t, to) => mining::mine_refusal(sight.view, sight.owed),
-        Step::Bump(party, t, to) => bump_refusal(sheet, setup, sight, x, since, party, t, to),
-    }
-}
-
-// Whether four bytes are a step that is accepted.
-pub fn open_at(
-    sheet: &[u8],
-    setup: &[u8],
-    sight: Sight,
-    x: Slot,
-    since: u16,
-    kind: u8,
-    actor: u8,
-    t: u8,
-    destination: u8,
-) -> bool
-    requires { ⌜ Sized (now sheet) ⌝ }
-    requires { ⌜ signatures (now sheet) ≤ 8 ⌝ }
-    requires { ⌜ length (now setup) ≡ 4 ⌝ }
-    ensures { λ r. ⌜ r ≡ isOpenIn (now (sheet .entry)) (now (setup .entry)) sight x since (decode (now (sheet .entry)) (now (setup .entry)) kind actor t destination) ⌝ }
-{
-    match decode::decode(sheet, setup, kind, actor, t, destination) {
-        Decoded::Read(step) => refusal_in(sheet, setup, sight, x, since, step) == 0,
-        Decoded::Refused => false,
+    match kind {
+        1 => true,
+        2 => destination == 1 - actor,
+        3 => to_sender(actor, destination),
+        4 => to_sender(actor, destination),
+        _ => false,
     }
 }
 
@@ -240,7 +61,10 @@ pub fn may_stand(kind: u8, actor: u8, destination: u8) -> bool
     ensures { λ r. ⌜ r ≡ mayStand kind actor destination ⌝ }
 {
     if actor < 2 {
-        return kind < 5;
+        return party_may(kind, actor, destination);
+    }
+    if actor != 2 {
+        return false;
     }
     if kind == 5 {
         return destination == 2;
@@ -251,67 +75,343 @@ pub fn may_stand(kind: u8, actor: u8, destination: u8) -> bool
     false
 }
 
-// Whether four bytes whose step needs no slot are a step that is accepted.
-fn slotless(
+// Whether t goes to a destination: a contract transaction to the contract, a paying one to its payees.
+fn goes_to(sheet: &[u8], t: usize, destination: u8) -> bool
+    requires { ⌜ Sized (now sheet) ⌝ }
+    requires { ⌜ t < count (now sheet) ⌝ }
+    requires { ⌜ destination < 3 ⌝ }
+    ensures { λ r. ⌜ r ≡ goesTo (now (sheet .entry)) t destination ⌝ }
+{
+    if destination == 2 {
+        return party::is_contract(sheet, t);
+    }
+    party::is_payee(sheet, t, destination)
+}
+
+// The transactions that go to a destination.
+fn goes_set(sheet: &[u8], destination: u8) -> u32
+    requires { ⌜ Sized (now sheet) ⌝ }
+    requires { ⌜ destination < 3 ⌝ }
+    ensures { λ r. ⌜ r ≡ goesSet (now (sheet .entry)) destination ⌝ }
+{
+    let n = sheet::field::count(sheet);
+    let mut found: u32 = 0;
+    let mut t: usize = 0;
+    while t < n {
+        let on = goes_to(sheet, t, destination);
+        found = set::join(found, on, t);
+        t += 1;
+    }
+    found
+}
+
+// These, by destination; none for the miner, whose steps all go to the contract.
+pub fn goes_for(sheet: &[u8], actor: u8) -> Goes
+    requires { ⌜ Sized (now sheet) ⌝ }
+    ensures { λ r. ⌜ r ≡ goesFor (now (sheet .entry)) actor ⌝ }
+{
+    if 2 <= actor {
+        return Goes {
+            alice: 0,
+            bob: 0,
+            contract: 0,
+        };
+    }
+    let alice = goes_set(sheet, 0);
+    let bob = goes_set(sheet, 1);
+    let contract = goes_set(sheet, 2);
+    Goes {
+        alice,
+        bob,
+        contract,
+    }
+}
+
+impl Goes {
+    // Those of one destination.
+    fn of(self, destination: u8) -> u32
+        ensures { λ r. ⌜ r ≡ goesOf self destination ⌝ }
+    {
+        match destination {
+            0 => self.alice,
+            1 => self.bob,
+            _ => self.contract,
+        }
+    }
+}
+
+// The transactions that conduct may let a party share: but for open conduct success, bit 2, by Alice.
+fn sharers(o: Outlook, actor: u8) -> u32
+    ensures { λ r. ⌜ r ≡ sharers o actor ⌝ }
+{
+    if o.free {
+        return 4294967295;
+    }
+    if o.phase != 3 {
+        return 0;
+    }
+    if actor != 0 {
+        return 0;
+    }
+    4
+}
+
+// The transactions that conduct may let a party send: none in phase 0.
+fn senders(o: Outlook) -> u32
+    ensures { λ r. ⌜ r ≡ senders o ⌝ }
+{
+    if o.free {
+        return 4294967295;
+    }
+    if o.phase == 0 {
+        return 0;
+    }
+    4294967295
+}
+
+// These for kind 4, which needs stealth.
+fn handers(setup: &[u8], o: Outlook) -> u32
+    requires { ⌜ length (now setup) ≡ 4 ⌝ }
+    ensures { λ r. ⌜ r ≡ pick (eqb (stealth (now (setup .entry))) 1) (senders o) 0 ⌝ }
+{
+    if sheet::setup::stealth(setup) != 1 {
+        return 0;
+    }
+    senders(o)
+}
+
+// The transactions that a kind's tests may pass, whatever the destination.
+fn turns(setup: &[u8], sight: Sight, kind: u8, actor: u8) -> u32
+    requires { ⌜ length (now setup) ≡ 4 ⌝ }
+    ensures { λ r. ⌜ r ≡ turnsIn (now (setup .entry)) sight kind actor ⌝ }
+{
+    match kind {
+        1 => sharers(sight.outlook, actor),
+        3 => senders(sight.outlook),
+        4 => handers(setup, sight.outlook),
+        _ => sight.view.pool,
+    }
+}
+
+// The transactions that are tested for a kind and a destination.
+pub fn candidates(
+    setup: &[u8],
+    sight: Sight,
+    goes: Goes,
+    kind: u8,
+    actor: u8,
+    destination: u8,
+) -> u32
+    requires { ⌜ length (now setup) ≡ 4 ⌝ }
+    ensures { λ r. ⌜ r ≡ candidatesIn (now (setup .entry)) sight goes kind actor destination ⌝ }
+{
+    let turns = turns(setup, sight, kind, actor);
+    if 5 <= kind {
+        return turns;
+    }
+    goes.of(destination) & turns
+}
+
+// Kind 1.
+fn share_refusal(sheet: &[u8], sight: Sight, x: Slot, actor: u8, t: usize, destination: u8) -> u32
+    requires { ⌜ Sized (now sheet) ⌝ }
+    requires { ⌜ t < count (now sheet) ⌝ }
+    requires { ⌜ destination < 3 ⌝ }
+    ensures { λ r. ⌜ r ≡ firstFailing (conductTests (shareAllowedIn (sight .outlook) actor t) (shareMetIn (now (sheet .entry)) (keysIn (sight .view) actor) x actor t destination)) ⌝ }
+{
+    let allowed = sight.outlook.share_allowed(actor, t as u8);
+    let met = sharing::share_met(sheet, sight.view.keys(actor), x, actor, t, destination);
+    conduct::conduct_refusal(allowed, met)
+}
+
+// Whether a transaction to be sent has its parent there and its signatures.
+fn ready(
+    sheet: &[u8],
+    sight: Sight,
+    there: u32,
+    x: Slot,
+    actor: u8,
+    t: usize,
+    destination: u8,
+) -> bool
+    requires { ⌜ Sized (now sheet) ⌝ }
+    requires { ⌜ signatures (now sheet) ≤ 8 ⌝ }
+    requires { ⌜ t < count (now sheet) ⌝ }
+    ensures { λ r. ⌜ r ≡ (hasParent (now (sheet .entry)) (bit there) t && signed (now (sheet .entry)) (senderIn (now (sheet .entry)) (sight .view) x actor destination) t) ⌝ }
+{
+    if !parent::parent_there(sheet, there, t) {
+        return false;
+    }
+    let have = sight.view.sender(sheet, x, actor, destination);
+    signatures::signed(sheet, have, t)
+}
+
+// Kind 3. The parent and the signatures are tested first: the search for a rival takes longer.
+fn pool_accepted(
     sheet: &[u8],
     setup: &[u8],
     sight: Sight,
-    kind: u8,
+    x: Slot,
+    since: u16,
     actor: u8,
-    t: u8,
+    t: usize,
     destination: u8,
 ) -> bool
     requires { ⌜ Sized (now sheet) ⌝ }
     requires { ⌜ signatures (now sheet) ≤ 8 ⌝ }
     requires { ⌜ length (now setup) ≡ 4 ⌝ }
-    ensures { λ r. ⌜ r ≡ isOpenIn (now (sheet .entry)) (now (setup .entry)) sight emptySlot 0 (decode (now (sheet .entry)) (now (setup .entry)) kind actor t destination) ⌝ }
+    requires { ⌜ t < count (now sheet) ⌝ }
+    ensures { λ r. ⌜ r ≡ eqb (firstFailing (poolTestsIn (sendHeldIn (now (sheet .entry)) (sight .outlook) (sight .back) actor t) (now (sheet .entry)) (now (setup .entry)) (sight .view) x since actor t destination)) 0 ⌝ }
 {
-    let x = Slot {
-        pool: 0,
-        block: 0,
-        confirmed: 0,
-        madea: 0,
-        madeb: 0,
-        alice: 0,
-        bob: 0,
-        contract: 0,
-        height: 0,
-    };
-    open_at(sheet, setup, sight, x, 0, kind, actor, t, destination)
+    if !ready(sheet, sight, sight.view.sent(), x, actor, t, destination) {
+        return false;
+    }
+    let held = sight.outlook.send_held(sheet, sight.back, actor, t);
+    sending::pool_refusal(
+        sheet,
+        setup,
+        sight.view,
+        held,
+        x,
+        since,
+        actor,
+        t,
+        destination,
+    )
+        == 0
 }
 
-// The signatures that an actor can give to a destination.
-pub fn give_set(sheet: &[u8], setup: &[u8], sight: Sight, actor: u8, destination: u8) -> u32
+// Kind 4, in the same way.
+fn miner_accepted(
+    sheet: &[u8],
+    setup: &[u8],
+    sight: Sight,
+    x: Slot,
+    since: u16,
+    actor: u8,
+    t: usize,
+    destination: u8,
+) -> bool
     requires { ⌜ Sized (now sheet) ⌝ }
     requires { ⌜ signatures (now sheet) ≤ 8 ⌝ }
     requires { ⌜ length (now setup) ≡ 4 ⌝ }
-    ensures { λ r. ⌜ r ≡ setBelow (signatures (now (sheet .entry))) (λ i. isOpenIn (now (sheet .entry)) (now (setup .entry)) sight emptySlot 0 (decode (now (sheet .entry)) (now (setup .entry)) 2 actor i destination)) ⌝ }
+    requires { ⌜ t < count (now sheet) ⌝ }
+    ensures { λ r. ⌜ r ≡ eqb (firstFailing (minerTestsIn (sendHeldIn (now (sheet .entry)) (sight .outlook) (sight .back) actor t) (now (sheet .entry)) (now (setup .entry)) (sight .view) x since actor t destination)) 0 ⌝ }
+{
+    if !ready(sheet, sight, sight.view.placed(), x, actor, t, destination) {
+        return false;
+    }
+    let held = sight.outlook.send_held(sheet, sight.back, actor, t);
+    sending::miner_refusal(
+        sheet,
+        setup,
+        sight.view,
+        held,
+        x,
+        since,
+        actor,
+        t,
+        destination,
+    )
+        == 0
+}
+
+// Kind 7.
+fn bump_refusal(sheet: &[u8], setup: &[u8], sight: Sight, since: u16, t: usize) -> u32
+    requires { ⌜ Sized (now sheet) ⌝ }
+    requires { ⌜ length (now setup) ≡ 4 ⌝ }
+    requires { ⌜ t < count (now sheet) ⌝ }
+    ensures { λ r. ⌜ r ≡ firstFailing (bumpTestsIn (owedIn (now (sheet .entry)) (perDay (now (setup .entry))) (sight .view) since t)) ⌝ }
+{
+    let per_day = sheet::setup::per_day(setup);
+    mining::bump_refusal(owed::owed_at(sheet, per_day, sight.view, since, t))
+}
+
+// Whether a step of any kind but 2 and 6, with right fields, is accepted.
+pub fn accepted_as(
+    sheet: &[u8],
+    setup: &[u8],
+    sight: Sight,
+    x: Slot,
+    since: u16,
+    kind: u8,
+    actor: u8,
+    t: usize,
+    destination: u8,
+) -> bool
+    requires { ⌜ Sized (now sheet) ⌝ }
+    requires { ⌜ signatures (now sheet) ≤ 8 ⌝ }
+    requires { ⌜ length (now setup) ≡ 4 ⌝ }
+    requires { ⌜ t < count (now sheet) ⌝ }
+    requires { ⌜ destination < 3 ⌝ }
+    ensures { λ r. ⌜ r ≡ eqb (refusalAs (now (sheet .entry)) (now (setup .entry)) sight x since kind actor t destination) 0 ⌝ }
+{
+    match kind {
+        1 => share_refusal(sheet, sight, x, actor, t, destination) == 0,
+        3 => pool_accepted(sheet, setup, sight, x, since, actor, t, destination),
+        4 => miner_accepted(sheet, setup, sight, x, since, actor, t, destination),
+        5 => mining::include_refusal(sheet, sight.view, sight.owed, t) == 0,
+        _ => bump_refusal(sheet, setup, sight, since, t) == 0,
+    }
+}
+
+// Kind 2.
+fn gives(sight: Sight, actor: u8, i: u8, destination: u8) -> bool
+    requires { ⌜ i < 8 ⌝ }
+    ensures { λ r. ⌜ r ≡ givesIn sight actor i destination ⌝ }
+{
+    let allowed = sight.outlook.give_allowed(actor, i);
+    let receiver = sight.view.keys(destination);
+    let met = sharing::give_met(sight.view.keys(actor), receiver, i);
+    conduct::conduct_refusal(allowed, met) == 0
+}
+
+// The signatures that a party can give to the other.
+pub fn give_set(sheet: &[u8], sight: Sight, actor: u8, destination: u8) -> u32
+    requires { ⌜ Sized (now sheet) ⌝ }
+    requires { ⌜ signatures (now sheet) ≤ 8 ⌝ }
+    ensures { λ r. ⌜ r ≡ setBelow (signatures (now (sheet .entry))) (λ i. givesIn sight actor i destination) ⌝ }
 {
     let n = sheet::field::wide(sheet::field::signatures(sheet));
     let mut found: u32 = 0;
     let mut i: usize = 0;
     while i < n {
-        let on = slotless(sheet, setup, sight, 2, actor, i as u8, destination);
+        let on = gives(sight, actor, i as u8, destination);
         found = set::join(found, on, i);
         i += 1;
     }
     found
 }
 
-// The kinds and destinations with which the step with transaction byte 255 is open: bit 3 * k + d for kind k + 1 and destination d.
-pub fn last_set(sheet: &[u8], setup: &[u8], sight: Sight, actor: u8) -> u32
-    requires { ⌜ Sized (now sheet) ⌝ }
-    requires { ⌜ signatures (now sheet) ≤ 8 ⌝ }
+// Whether a party's first shares are open: kind 1 with transaction byte 255.
+fn shares_first(setup: &[u8], sight: Sight, actor: u8) -> bool
     requires { ⌜ length (now setup) ≡ 4 ⌝ }
-    ensures { λ r. ⌜ r ≡ setBelow 21 (λ i. isOpenIn (now (sheet .entry)) (now (setup .entry)) sight emptySlot 0 (decode (now (sheet .entry)) (now (setup .entry)) (i / 3 + 1) actor 255 (i % 3))) ⌝ }
+    ensures { λ r. ⌜ r ≡ sharesFirst (now (setup .entry)) sight actor ⌝ }
 {
-    let mut found: u32 = 0;
-    let mut i: usize = 0;
-    while i < 21 {
-        let kind = (i / 3 + 1) as u8;
-        let on = slotless(sheet, setup, sight, kind, actor, 255, (i % 3) as u8);
-        found = set::join(found, on, i);
-        i += 1;
+    if sheet::setup::conduct(setup) == 0 {
+        return false;
     }
-    found
+    let allowed = sight.outlook.share_allowed(actor, 255);
+    conduct::conduct_refusal(allowed, !sight.made) == 0
+}
+
+// Whether a block may be mined: kind 6, whose transaction byte is 255.
+fn mines(sight: Sight, actor: u8) -> bool
+    ensures { λ r. ⌜ r ≡ minesIn sight actor ⌝ }
+{
+    if actor != 2 {
+        return false;
+    }
+    mining::mine_refusal(sight.view, sight.owed) == 0
+}
+
+// The kinds and destinations with which the step with transaction byte 255 is open: bit 3 * k + d for kind k + 1 and destination d.
+pub fn last_set(setup: &[u8], sight: Sight, actor: u8) -> u32
+    requires { ⌜ length (now setup) ≡ 4 ⌝ }
+    ensures { λ r. ⌜ r ≡ lastIn (now (setup .entry)) sight actor ⌝ }
+{
+    if actor < 2 {
+        return set::join(0, shares_first(setup, sight, actor), 2);
+    }
+    set::join(0, mines(sight, actor), 17)
 }

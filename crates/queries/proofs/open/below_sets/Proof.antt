@@ -9,10 +9,10 @@ use Rattle.queries.proofs.open.below_sets.Statement.{statement}
 use Rattle.queries.proofs.open.below_sets.Tie as tie
 
 abbrev Inv-loop : tie.InvT-loop
-Inv-loop position sheet setup sight actor below₀ i₀ below i = (i ≤ 21) × (below ≡ rewriteFirst i (λ j x. openSet sheet setup position actor (j / 3 + 1) (j % 3)) (replicate 21 0)) × (length below ≡ 21)
+Inv-loop position sheet setup sight goes actor below₀ i₀ below i = (i ≤ 21) × (below ≡ rewriteFirst i (λ j x. openSet sheet setup position actor (j / 3 + 1) (j % 3)) (replicate 21 0)) × (length below ≡ 21)
 
 abbrev μ-loop : tie.MeasureT-loop
-μ-loop position sheet setup sight actor below₀ i₀ below i = 21 - i
+μ-loop position sheet setup sight goes actor below₀ i₀ below i = 21 - i
 
 loop-holds : tie.Need-loop-holds Inv-loop μ-loop
 loop-holds c = (search needs, rewrite-start _ _, search needs)
@@ -27,7 +27,7 @@ cast-open-set : tie.Need-cast-open-set Inv-loop μ-loop
 cast-open-set c = search needs
 
 open-set-requires : tie.Need-open-set-requires Inv-loop μ-loop
-open-set-requires c κs = (c .before .before .before .before .pre .0, (c .before .before .before .before .pre .1 .0, (c .before .before .before .before .pre .1 .1 .0, (c .before .before .before .before .pre .1 .1 .1 .0, (c .before .before .before .before .pre .1 .1 .1 .1)))))
+open-set-requires c κs = ((c .before .before .before .before .pre .0), ((c .before .before .before .before .pre .1 .0), ((c .before .before .before .before .pre .1 .1 .0), ((c .before .before .before .before .pre .1 .1 .1 .0), ((c .before .before .before .before .pre .1 .1 .1 .1 .0), ((c .before .before .before .before .pre .1 .1 .1 .1 .1), search needs))))))
 
 mul-below : tie.Need-mul-below Inv-loop μ-loop
 mul-below c = search needs

@@ -1,27 +1,36 @@
--- The set of those below t.
+-- The set of those below t, which is the next that is tested.
 use Rattle.position.specs.Position.{slot}
 use Rattle.queries.specs.OpenSets.{isOpenStep}
-use Rattle.queries.proofs.OpenSteps.{open-turn}
-use Rattle.laws.specs.Sets.{setBelow, set-start, set-more, set-done}
+use Rattle.queries.proofs.OpenTurns.{turn-open, first-turn, next-turn}
+use Rattle.laws.specs.Mask.{bit}
+use Rattle.laws.specs.Sets.{setBelow, set-done}
 use Rattle.laws.specs.Each.{length-of-map}
 use lib.ListN.{length}
 use mathlib.Core.Path.{_≡_}
-use Prim.Native.Nat.{_≤_, _-_}
+use mathlib.Core.Bool.{true}
+use native.Mathlib.Omega.{arith}
+use Prim.Native.Nat.{_≤_, _<_, _-_}
 use borrow.Author.Needs.{needs}
 use Rattle.queries.proofs.open.sheet_set.Statement.{statement}
 use Rattle.queries.proofs.open.sheet_set.Tie as tie
 
 abbrev Inv-loop : tie.InvT-loop
-Inv-loop sheet setup sight actor kind to position n found₀ t₀ found t = (t ≤ n) × (found ≡ setBelow t (λ j. isOpenStep sheet setup position kind actor j to))
+Inv-loop sheet setup sight actor kind to position n c found₀ t₀ found t = (t ≤ n) × (found ≡ setBelow t (λ j. isOpenStep sheet setup position kind actor j to)) × (t < n → bit c t ≡ true)
 
 abbrev μ-loop : tie.MeasureT-loop
-μ-loop sheet setup sight actor kind to position n found₀ t₀ found t = n - t
+μ-loop sheet setup sight actor kind to position n c found₀ t₀ found t = n - t
 
 count-requires : tie.Need-count-requires Inv-loop μ-loop
 count-requires c κs = search needs
 
+candidates-requires : tie.Need-candidates-requires Inv-loop μ-loop
+candidates-requires c κs = search needs
+
+next-requires : tie.Need-next-requires Inv-loop μ-loop
+next-requires c κs = search needs
+
 loop-holds : tie.Need-loop-holds Inv-loop μ-loop
-loop-holds c = (search needs, set-start _)
+loop-holds c = (c .next .ensures .high, first-turn _ _ _ _ _ _ (c .before .before .before .before .before .pre .1 .1 .1 .0) (c .before .before .before .before .before .pre .1 .1 .1 .1 .1 .1 .1 .1) (c .before .before .before .before .before .pre .1 .1 .1 .1 .1 .1 .0) (c .before .before .before .before .before .pre .1 .1 .1 .1 .1 .1 .1 .0) _ _ _ _ (c .before .before .before .before .before .pre .1 .1 .1 .1 .0) (c .before .before .before .before .before .pre .1 .1 .1 .1 .1 .0) (c .before .candidates .ensures) (c .before .before .count .ensures .is) _ (c .next .ensures), c .next .ensures .here)
 
 mul-x : tie.Need-mul-x Inv-loop μ-loop
 mul-x c = search needs
@@ -41,17 +50,17 @@ element-copy-out-above c = search needs
 block-above-requires : tie.Need-block-above-requires Inv-loop μ-loop
 block-above-requires c κs = search needs
 
-cast-open-at : tie.Need-cast-open-at Inv-loop μ-loop
-cast-open-at c = search needs
-
-open-at-requires : tie.Need-open-at-requires Inv-loop μ-loop
-open-at-requires c κs = search needs
+accepted-as-requires : tie.Need-accepted-as-requires Inv-loop μ-loop
+accepted-as-requires c κs = (c .before .before .before .before .before .before .before .before .before .before .before .pre .0, (c .before .before .before .before .before .before .before .before .before .before .before .pre .1 .0, (c .before .before .before .before .before .before .before .before .before .before .before .pre .1 .1 .0, (omega (arith, c .before .before .before .before .loop-test .taken, c .before .before .before .before .before .before .before .before .count .ensures .is), c .before .before .before .before .before .before .before .before .before .before .before .pre .1 .1 .1 .1 .1 .1 .1 .1))))
 
 join-requires : tie.Need-join-requires Inv-loop μ-loop
 join-requires c κs = search needs
 
-add-t : tie.Need-add-t Inv-loop μ-loop
-add-t c = search needs
+add-next : tie.Need-add-next Inv-loop μ-loop
+add-next c = search needs
+
+next-requires-2 : tie.Need-next-requires-2 Inv-loop μ-loop
+next-requires-2 c κs = search needs
 
 loop-less : tie.Need-loop-less Inv-loop μ-loop
 loop-less c = search needs
@@ -59,11 +68,15 @@ loop-less c = search needs
 loop-again : tie.Need-loop-again Inv-loop μ-loop
 unfolding slot
 loop-again c =
-    let l : length (c .before .before .before .before .before .before .before .before .before .before .before .args .t1 .slots) ≡ 32 = search (length-of-map, c .before .before .before .before .before .before .before .before .before .before .before .good) in
-    (search needs, set-more _ _ _ _ _ (c .before .before .before .before .before .before .before .loop .inv .1) (c .join .ensures) (open-turn _ _ _ _ _ _ _ _ _ _ _ (c .before .before .before .before .before .before .before .before .before .before .before .pre .1 .1 .1 .0) l (c .before .before .before .before .before .before .before .before .before .before .before .pre .1 .1 .1 .1) (c .before .before .before .before .slot-above .ensures .0) (c .before .before .block-above .ensures) (c .before .open-at .ensures)))
+    let l : length (c .before .before .before .before .before .before .before .before .before .before .before .before .before .before .args .t1 .slots) ≡ 32 = search (length-of-map, c .before .before .before .before .before .before .before .before .before .before .before .before .before .before .good) in (
+      c .next2 .ensures .high,
+      next-turn _ _ _ _ _ _ (c .before .before .before .before .before .before .before .before .before .before .before .before .before .before .pre .1 .1 .1 .0) (c .before .before .before .before .before .before .before .before .before .before .before .before .before .before .pre .1 .1 .1 .1 .1 .1 .1 .1) (c .before .before .before .before .before .before .before .before .before .before .before .before .before .before .pre .1 .1 .1 .1 .1 .1 .0) (c .before .before .before .before .before .before .before .before .before .before .before .before .before .before .pre .1 .1 .1 .1 .1 .1 .1 .0) _ _ _ _ (c .before .before .before .before .before .before .before .before .before .before .before .before .before .before .pre .1 .1 .1 .1 .0) (c .before .before .before .before .before .before .before .before .before .before .before .before .before .before .pre .1 .1 .1 .1 .1 .0) (c .before .before .before .before .before .before .before .before .before .before .candidates .ensures) (c .before .before .before .before .before .before .before .before .before .before .before .count .ensures .is) _ _ _ _ _ (c .next2 .ensures) (c .before .before .before .before .before .before .before .before .loop .inv .1) (c .before .join .ensures)
+          (turn-open _ _ _ _ _ _ (c .before .before .before .before .before .before .before .before .before .before .before .before .before .before .pre .1 .1 .1 .0) (c .before .before .before .before .before .before .before .before .before .before .before .before .before .before .pre .1 .1 .1 .1 .1 .1 .1 .1) (c .before .before .before .before .before .before .before .before .before .before .before .before .before .before .pre .1 .1 .1 .1 .1 .1 .0) (c .before .before .before .before .before .before .before .before .before .before .before .before .before .before .pre .1 .1 .1 .1 .1 .1 .1 .0) _ _ _ _ (c .before .before .before .before .before .before .before .before .before .before .before .before .before .before .pre .1 .1 .1 .1 .0) (c .before .before .before .before .before .before .before .before .before .before .before .before .before .before .pre .1 .1 .1 .1 .1 .0) (c .before .before .before .before .before .before .before .before .before .before .candidates .ensures) (c .before .before .before .before .before .before .before .before .before .before .before .count .ensures .is) _ (c .before .before .before .before .before .before .before .loop-test .taken) (c .before .before .before .before .before .before .before .before .loop .inv .2 (c .before .before .before .before .before .before .before .loop-test .taken)) _ _ _ l (c .before .before .before .before .before .slot-above .ensures .0) (c .before .before .before .block-above .ensures) (c .before .before .accepted-as .ensures)),
+      c .next2 .ensures .here,
+    )
 
 returns : tie.Need-returns Inv-loop μ-loop
-returns c = rw (← (c .before .before .count .ensures .is)) (set-done _ _ _ _ (c .before .loop .inv .0) (c .loop-test .left) (c .before .loop .inv .1))
+returns c = rw (← (c .before .before .before .before .count .ensures .is)) (set-done _ _ _ _ (c .before .loop .inv .0) (c .loop-test .left) (c .before .loop .inv .1))
 
 pub sheet-set-spec : {M : Type 1} → statement M
 sheet-set-spec =
@@ -72,6 +85,8 @@ sheet-set-spec =
     Inv-loop
     μ-loop
     count-requires
+    candidates-requires
+    next-requires
     loop-holds
     mul-x
     element-copy-out-x
@@ -79,10 +94,10 @@ sheet-set-spec =
     mul-above
     element-copy-out-above
     block-above-requires
-    cast-open-at
-    open-at-requires
+    accepted-as-requires
     join-requires
-    add-t
+    add-next
+    next-requires-2
     loop-less
     loop-again
     returns)

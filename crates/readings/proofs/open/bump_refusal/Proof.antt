@@ -1,17 +1,12 @@
 -- Owed, or not.
-use Rattle.readings.specs.Sight.{refusalIn}
 use borrow.Author.Needs.{needs}
 use Rattle.readings.proofs.open.bump_refusal.Statement.{statement}
 use Rattle.readings.proofs.open.bump_refusal.Tie as tie
 use Rattle.readings.proofs.open.bump_refusal.Reads as reads
 use Rattle.readings.proofs.open.bump_refusal.Lts as lts
-use Rattle.sheet.proofs.field.wide.Reads as wide-reads
 use Rattle.sheet.proofs.setup.per_day.Reads as per-day-reads
 use Rattle.steps.proofs.mining.bump_refusal.Reads as bump-refusal-reads
 use Rattle.steps.proofs.owed.owed_at.Reads as owed-at-reads
-
-wide-requires : tie.Need-wide-requires
-wide-requires c κs = search needs
 
 per-day-requires : tie.Need-per-day-requires
 per-day-requires c κs = search needs
@@ -23,10 +18,8 @@ bump-refusal-requires : tie.Need-bump-refusal-requires
 bump-refusal-requires c κs = search needs
 
 returns : tie.Need-returns
-unfolding refusalIn
-returns c = rw (← (c .before .before .before .wide .ensures .is), ← (c .before .before .per-day .ensures), ← (c .before .owed-at .ensures)) (c .bump-refusal .ensures)
+returns c = rw (← (c .before .before .per-day .ensures), ← (c .before .owed-at .ensures)) (c .bump-refusal .ensures)
 
 pub bump-refusal-spec : {M : Type 1} → statement M
 bump-refusal-spec =
-    tie.close
-    (tie.spec wide-requires per-day-requires owed-at-requires bump-refusal-requires returns)
+    tie.close (tie.spec per-day-requires owed-at-requires bump-refusal-requires returns)

@@ -1,8 +1,6 @@
 -- The set of those below i.
 use Rattle.laws.specs.Sets.{setBelow, set-start, set-more, set-done}
-use Rattle.slots.specs.Slot.{emptySlot}
-use Rattle.steps.specs.Decode.{decode}
-use Rattle.readings.specs.Sight.{isOpenIn}
+use Rattle.readings.specs.Sight.{givesIn}
 use mathlib.Core.Path.{_≡_}
 use Prim.Native.Nat.{_≤_, _-_}
 use borrow.Author.Needs.{needs}
@@ -13,13 +11,13 @@ use Rattle.readings.proofs.open.give_set.Lts as lts
 use Rattle.sheet.proofs.field.signatures.Reads as signatures-reads
 use Rattle.sheet.proofs.field.wide.Reads as wide-reads
 use Rattle.slots.proofs.set.join.Reads as join-reads
-use Rattle.readings.proofs.open.slotless.Reads as slotless-reads
+use Rattle.readings.proofs.open.gives.Reads as gives-reads
 
 abbrev Inv-loop : tie.InvT-loop
-Inv-loop sheet setup sight actor destination n found₀ i₀ found i = (i ≤ n) × (found ≡ setBelow i (λ j. isOpenIn sheet setup sight emptySlot 0 (decode sheet setup 2 actor j destination)))
+Inv-loop sheet sight actor destination n found₀ i₀ found i = (i ≤ n) × (found ≡ setBelow i (λ j. givesIn sight actor j destination))
 
 abbrev μ-loop : tie.MeasureT-loop
-μ-loop sheet setup sight actor destination n found₀ i₀ found i = n - i
+μ-loop sheet sight actor destination n found₀ i₀ found i = n - i
 
 signatures-requires : tie.Need-signatures-requires Inv-loop μ-loop
 signatures-requires c κs = search needs
@@ -30,11 +28,11 @@ wide-requires c κs = search needs
 loop-holds : tie.Need-loop-holds Inv-loop μ-loop
 loop-holds c = (search needs, set-start _)
 
-cast-slotless : tie.Need-cast-slotless Inv-loop μ-loop
-cast-slotless c = search needs
+cast-gives : tie.Need-cast-gives Inv-loop μ-loop
+cast-gives c = search needs
 
-slotless-requires : tie.Need-slotless-requires Inv-loop μ-loop
-slotless-requires c κs = search needs
+gives-requires : tie.Need-gives-requires Inv-loop μ-loop
+gives-requires c κs = search needs
 
 join-requires : tie.Need-join-requires Inv-loop μ-loop
 join-requires c κs = search needs
@@ -46,7 +44,7 @@ loop-less : tie.Need-loop-less Inv-loop μ-loop
 loop-less c = search needs
 
 loop-again : tie.Need-loop-again Inv-loop μ-loop
-loop-again c = (search needs, set-more _ _ _ _ _ (c .before .before .before .loop .inv .1) (c .join .ensures) (c .before .slotless .ensures))
+loop-again c = (search needs, set-more _ _ _ _ _ (c .before .before .before .loop .inv .1) (c .join .ensures) (c .before .gives .ensures))
 
 returns : tie.Need-returns Inv-loop μ-loop
 returns c = rw (← (c .before .before .before .signatures .ensures), ← (c .before .before .wide .ensures .is)) (set-done _ _ _ _ (c .before .loop .inv .0) (c .loop-test .left) (c .before .loop .inv .1))
@@ -60,8 +58,8 @@ give-set-spec =
     signatures-requires
     wide-requires
     loop-holds
-    cast-slotless
-    slotless-requires
+    cast-gives
+    gives-requires
     join-requires
     add-i
     loop-less

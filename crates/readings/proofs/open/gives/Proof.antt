@@ -1,11 +1,10 @@
 -- Allowed, and the receiver lacks it.
-use Rattle.readings.specs.Sight.{refusalIn}
+use Rattle.readings.specs.Sight.{givesIn}
 use borrow.Author.Needs.{needs}
-use Rattle.readings.proofs.open.give_refusal.Statement.{statement}
-use Rattle.readings.proofs.open.give_refusal.Tie as tie
-use Rattle.readings.proofs.open.give_refusal.Reads as reads
-use Rattle.readings.proofs.open.give_refusal.Lts as lts
-use Rattle.slots.proofs.party.destination_number.Reads as destination-number-reads
+use Rattle.readings.proofs.open.gives.Statement.{statement}
+use Rattle.readings.proofs.open.gives.Tie as tie
+use Rattle.readings.proofs.open.gives.Reads as reads
+use Rattle.readings.proofs.open.gives.Lts as lts
 use Rattle.steps.proofs.Outlook.give_allowed.Reads as give-allowed-reads
 use Rattle.steps.proofs.View.keys.Reads as keys-reads
 use Rattle.steps.proofs.conduct.conduct_refusal.Reads as conduct-refusal-reads
@@ -13,9 +12,6 @@ use Rattle.steps.proofs.sharing.give_met.Reads as give-met-reads
 
 give-allowed-requires : tie.Need-give-allowed-requires
 give-allowed-requires c κs = search needs
-
-destination-number-requires : tie.Need-destination-number-requires
-destination-number-requires c κs = search needs
 
 keys-requires : tie.Need-keys-requires
 keys-requires c κs = search needs
@@ -30,15 +26,14 @@ conduct-refusal-requires : tie.Need-conduct-refusal-requires
 conduct-refusal-requires c κs = search needs
 
 returns : tie.Need-returns
-unfolding refusalIn
-returns c = rw (← (c .before .before .before .before .before .give-allowed .ensures), ← (c .before .before .before .before .destination-number .ensures .0), ← (c .before .before .before .keys .ensures), ← (c .before .before .keys2 .ensures), ← (c .before .give-met .ensures)) (c .conduct-refusal .ensures)
+unfolding givesIn
+returns c = rw (← (c .before .before .before .before .give-allowed .ensures), ← (c .before .before .before .keys .ensures), ← (c .before .before .keys2 .ensures), ← (c .before .give-met .ensures), c .conduct-refusal .ensures)
 
-pub give-refusal-spec : {M : Type 1} → statement M
-give-refusal-spec =
+pub gives-spec : {M : Type 1} → statement M
+gives-spec =
     tie.close
     (tie.spec
     give-allowed-requires
-    destination-number-requires
     keys-requires
     keys-requires-2
     give-met-requires

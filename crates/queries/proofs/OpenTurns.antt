@@ -1,0 +1,197 @@
+-- A set of open steps from the transactions that are tested: the others cannot be open.
+-- Assumes nothing.
+use Prim.Native.Nat.{ℕ, _+_, _<_}
+use native.Mathlib.Omega.{arith}
+use mathlib.Core.Path.{_≡_, refl, sym, _∙_}
+use mathlib.Core.Bool.{Bool, true, false, _&&_, _||_, Bool·beq, and-false}
+use mathlib.Core.List.{List}
+use lib.Dec.{eqb, leb}
+use lib.ListN.{length}
+use borrow.Author.Tests.{eqb-true, eqb-false, ne-eqb}
+use Rattle.laws.specs.Below.{allBelow, all-at}
+use Rattle.laws.specs.Bits.{bit-and}
+use Rattle.laws.specs.Booleans.{pick, split, clash, and-parts, beq-same}
+use Rattle.laws.specs.Failing.{firstFailing}
+use Rattle.laws.specs.Mask.{bit}
+use Rattle.laws.specs.Sets.{joined, setBelow, set-bit, set-start, set-more}
+use Rattle.sheet.specs.Field.{count, parent}
+use Rattle.sheet.specs.Refusal.{accepted, stepConflict, stepParent, stepPool}
+use Rattle.sheet.specs.Setup.{perDay, stealth}
+use Rattle.slots.specs.declared.Slot.{Slot}
+use Rattle.slots.specs.Destination.{alice, bob, miner, isParty}
+use Rattle.steps.specs.declared.Outlook.{Outlook}
+use Rattle.steps.specs.Decode.{noTransaction}
+use Rattle.steps.specs.Parent.{slotAbove, blockAbove}
+use Rattle.steps.specs.Names.{success}
+use Rattle.steps.specs.Conduct.{maySend, aliceSharesIn, shareAllowedIn, sendAllowedIn, sendHeldIn, conductTests}
+use Rattle.slots.specs.Conflict.{noConflict}
+use Rattle.slots.specs.Ancestry.{hasParent}
+use Rattle.steps.specs.View.{placedSet}
+use Rattle.steps.specs.Sending.{sendTestsIn, poolTestsIn, minerTestsIn}
+use Rattle.steps.specs.Mining.{owedIn, includeTestsIn, bumpTestsIn}
+use Rattle.readings.specs.declared.Goes.{Goes}
+use Rattle.readings.specs.declared.Sight.{Sight}
+use Rattle.readings.specs.Next.{Next}
+use Rattle.readings.specs.Sight.{mayStand, goesTo, refusalAs, goesSet, goesFor, goesOf, full, sharers, senders, turnsIn, candidatesIn}
+use Rattle.position.specs.declared.Position.{Position}
+use Rattle.position.specs.Position.{slot, blockOf}
+use Rattle.position.specs.View.{sinceIn}
+use Rattle.position.specs.Fit.{Fit}
+use Rattle.position.proofs.SendTests.{since-parent}
+use Rattle.queries.specs.OpenSets.{isOpenStep, sightOf}
+use Rattle.queries.proofs.OpenListed.{listed-open}
+use Rattle.queries.proofs.OpenReach.{set-upto}
+
+-- ---- the bits of all of 32, and of success alone
+words : allBelow 32 (λ t. bit full t && Bool·beq (bit 4 t) (eqb t success)) ≡ true
+unfolding allBelow bit
+words = refl
+
+word-bits : (t : ℕ) → t < 32 → (bit full t ≡ true) × (bit 4 t ≡ eqb t success)
+word-bits t l =
+    let w = and-parts (bit full t) _ (all-at 32 (λ k. bit full k && Bool·beq (bit 4 k) (eqb k success)) words t l) in
+    (w .0, beq-same (bit 4 t) (eqb t success) (w .1))
+
+third-fails : (a b : Bool) → eqb (pick a (pick b stepPool stepParent) stepConflict) accepted ≡ false
+third-fails true true = refl
+third-fails true false = refl
+third-fails false b = refl
+
+-- ---- what is not tested fails a test
+module _ (s u : List ℕ) (t : ℕ) (low : t < 32) where
+  not-sharer : (o : Outlook) (a : ℕ) → bit (sharers o a) t ≡ false → shareAllowedIn o a t ≡ false
+  unfolding sharers shareAllowedIn aliceSharesIn
+  not-sharer o a h =
+      let z : eqb t noTransaction ≡ false = ne-eqb t noTransaction (λ e. omega (arith, e, low)) in
+      split (o .free)
+      (λ e. clash (word-bits t low .0) (rw e at h))
+      (λ e.
+      split (eqb a alice)
+      (λ f.
+      split (eqb (o .phase) 3)
+      (λ q. let y : eqb t success ≡ false = sym (word-bits t low .1) ∙ (rw (e, q, f) at h) in rw (e, z, f, q, y))
+      (λ q. rw (e, z, f, q)))
+      (λ f. rw (e, z, f)))
+
+  not-sender : (o : Outlook) (back : Bool) (a : ℕ) → bit (senders o) t ≡ false → sendHeldIn s o back a t ≡ false
+  unfolding senders sendHeldIn sendAllowedIn maySend
+  not-sender o back a h =
+      split (o .free)
+      (λ e. clash (word-bits t low .0) (rw e at h))
+      (λ e.
+      split (eqb (o .phase) 0)
+      (λ f. let z : o .phase ≡ 0 = eqb-true (o .phase) 0 f in rw (e, z, and-false (eqb a alice), and-false (eqb a bob)))
+      (λ f. clash (word-bits t low .0) (rw (e, f) at h)))
+
+  module _ (g : Sight) (x : Slot) (since a d : ℕ) where
+    not-shared : bit (sharers (g .outlook) a) t ≡ false → eqb (refusalAs s u g x since 1 a t d) accepted ≡ false
+    unfolding refusalAs firstFailing conductTests
+    not-shared h = rw (not-sharer (g .outlook) a h)
+
+    not-sent : bit (senders (g .outlook)) t ≡ false → eqb (refusalAs s u g x since 3 a t d) accepted ≡ false
+    unfolding refusalAs firstFailing poolTestsIn sendTestsIn
+    not-sent h = rw (not-sender (g .outlook) (g .back) a h)
+
+    not-handed : bit (pick (eqb (stealth u) 1) (senders (g .outlook)) 0) t ≡ false → eqb (refusalAs s u g x since 4 a t d) accepted ≡ false
+    unfolding refusalAs firstFailing minerTestsIn sendTestsIn
+    not-handed h =
+        split (eqb (stealth u) 1)
+        (λ e. rw (e, not-sender (g .outlook) (g .back) a (rw e at h)))
+        (λ e. rw e)
+
+    not-included : bit (g .view .pool) t ≡ false → eqb (firstFailing (includeTestsIn s (g .view) (g .owed) t)) accepted ≡ false
+    unfolding firstFailing includeTestsIn
+    not-included h = rw h (third-fails (noConflict s (bit (placedSet (g .view))) t) (hasParent s (bit (placedSet (g .view))) t))
+
+    not-bumped : (day : ℕ) → bit (g .view .pool) t ≡ false → eqb (firstFailing (bumpTestsIn (owedIn s day (g .view) since t))) accepted ≡ false
+    unfolding firstFailing bumpTestsIn owedIn
+    not-bumped day h = rw h
+
+    not-mined : (k : ℕ) → eqb k 1 ≡ false → eqb k 3 ≡ false → eqb k 4 ≡ false → bit (g .view .pool) t ≡ false
+        → eqb (refusalAs s u g x since k a t d) accepted ≡ false
+    unfolding refusalAs
+    not-mined k e f q h = split (eqb k 5) (λ y. rw (e, f, q, y) (not-included h)) (λ y. rw (e, f, q, y) (not-bumped (perDay u) h))
+
+    not-turn : (k : ℕ) → bit (turnsIn u g k a) t ≡ false → eqb (refusalAs s u g x since k a t d) accepted ≡ false
+    unfolding turnsIn
+    not-turn k h =
+        split (eqb k 1)
+        (λ e. rw (eqb-true k 1 e) (not-shared (rw e at h)))
+        (λ e.
+        split (eqb k 3)
+        (λ f. rw (eqb-true k 3 f) (not-sent (rw (e, f) at h)))
+        (λ f.
+        split (eqb k 4)
+        (λ q. rw (eqb-true k 4 q) (not-handed (rw (e, f, q) at h)))
+        (λ q. not-mined k e f q (rw (e, f, q) at h))))
+
+-- ---- a set made from those that are tested, c
+-- kinds below 5 are a party's
+party-of : (k a d : ℕ) → mayStand k a d ≡ true → leb 5 k ≡ false → isParty a ≡ true
+unfolding mayStand
+party-of k a d m h =
+    split (isParty a)
+    (λ e. e)
+    (λ e.
+    let v = and-parts (eqb k 5 || eqb k 7) _ (and-parts (eqb a miner) _ (rw e at m) .1) in
+    split (eqb k 5)
+    (λ f. clash (rw (eqb-true k 5 f) refl) h)
+    (λ f. let z : eqb k 7 ≡ true = rw f at (v .0) in clash (rw (eqb-true k 7 z) refl) h))
+
+module _ (s u : List ℕ) (p : Position) (k a d : ℕ) (fit : Fit s u) (few : d < 3) (m : mayStand k a d ≡ true) (other : k ≡ 2 → ⊥)
+    (c n : ℕ) (g : Sight) (w : Goes) (seen : g ≡ sightOf s u p a) (goes : w ≡ goesFor s a) (tested : c ≡ candidatesIn u g w k a d) (all : n ≡ count s)
+  where
+    module _ (t : ℕ) (low : t < n) where
+      listed : t < count s
+      listed = omega (arith, low, all)
+
+      goes-bit : isParty a ≡ true → bit (goesOf w d) t ≡ goesTo s t d
+      unfolding goesFor goesOf goesSet
+      goes-bit h =
+          split (eqb d 0)
+          (λ e. rw (goes, h, eqb-true d 0 e) (set-bit (count s) (λ j. goesTo s j 0) (fit .checked .sized .few) t listed))
+          (λ e.
+          split (eqb d 1)
+          (λ f. rw (goes, h, eqb-true d 1 f) (set-bit (count s) (λ j. goesTo s j 1) (fit .checked .sized .few) t listed))
+          (λ f.
+          let z : d ≡ 2 = omega (arith, few, eqb-false d 0 e, eqb-false d 1 f) in
+          rw (goes, h, z) (set-bit (count s) (λ j. goesTo s j 2) (fit .checked .sized .few) t listed)))
+
+      candidate-bit : bit c t ≡ ((leb 5 k || goesTo s t d) && bit (turnsIn u g k a) t)
+      unfolding candidatesIn
+      candidate-bit =
+          split (leb 5 k)
+          (λ e. rw (tested, e))
+          (λ e. rw (tested, e) (bit-and (goesOf w d) (turnsIn u g k a) t ∙ rw (goes-bit (party-of k a d m e))))
+
+      pub turn-closed : bit c t ≡ false → isOpenStep s u p k a t d ≡ false
+      turn-closed h =
+          listed-open s u p fit a t (slot p t) (blockOf p (parent s t)) (λ i. (refl, refl)) listed k d few m other
+          ∙ split (leb 5 k || goesTo s t d)
+          (λ e.
+          let z : bit (turnsIn u g k a) t ≡ false = rw (candidate-bit, e) at h in
+          rw (e, ← seen) (not-turn s u t (omega (arith, listed, fit .checked .sized .few)) g (slot p t) (blockOf p (parent s t)) a d k z))
+          (λ e. rw e)
+
+      pub turn-open : bit c t ≡ true → (up since : ℕ) (b : Bool) → length (p .slots) ≡ 32 → up ≡ slotAbove s t
+          → since ≡ blockAbove s t (slot p up .height) → b ≡ eqb (refusalAs s u g (slot p t) since k a t d) accepted → b ≡ isOpenStep s u p k a t d
+      unfolding sinceIn
+      turn-open h up since b l i j f =
+          let e : since ≡ blockOf p (parent s t) = (j ∙ rw i) ∙ since-parent s p l t in
+          let y : b ≡ eqb (refusalAs s u (sightOf s u p a) (slot p t) since k a t d) accepted = f ∙ rw seen in
+          let z : isOpenStep s u p k a t d ≡ eqb (refusalAs s u (sightOf s u p a) (slot p t) since k a t d) accepted =
+          listed-open s u p fit a t (slot p t) since (λ q. (refl, e)) listed k d few m other
+          ∙ rw (and-parts (leb 5 k || goesTo s t d) (bit (turnsIn u g k a) t) (sym candidate-bit ∙ h) .0) in
+          y ∙ sym z
+
+    -- the loop: up to the first, and from one to the next
+    pub first-turn : (t : ℕ) → Next c 0 n t → 0 ≡ setBelow t (λ j. isOpenStep s u p k a j d)
+    first-turn t h =
+        set-start (λ j. isOpenStep s u p k a j d)
+        ∙ sym (set-upto t 0 (λ j. isOpenStep s u p k a j d) (h .low) (λ j i l. turn-closed j (omega (arith, l, h .high)) (h .gap j i l)))
+
+    pub next-turn : (t i f r : ℕ) (b : Bool) → Next c (t + 1) n i → f ≡ setBelow t (λ j. isOpenStep s u p k a j d) → r ≡ joined f b t
+        → b ≡ isOpenStep s u p k a t d → r ≡ setBelow i (λ j. isOpenStep s u p k a j d)
+    next-turn t i f r b h e q y =
+        set-more t (λ j. isOpenStep s u p k a j d) f r b e q y
+        ∙ sym (set-upto i (t + 1) (λ j. isOpenStep s u p k a j d) (h .low) (λ j l o. turn-closed j (omega (arith, o, h .high)) (h .gap j l o)))

@@ -1,0 +1,72 @@
+-- The zeros at the low end of a mask, and the next member of a set.
+-- Assumes nothing.
+use Prim.Native.Nat.{ℕ, zero, suc, _+_, _-_, _/_, _%_, _^_, _≤_, _<_}
+use native.Mathlib.Nat.{div-one, not-suc-le-zero, le-of-suc-le-suc}
+use native.Mathlib.Numerals.{one-add}
+use native.Mathlib.Omega.{arith}
+use mathlib.Core.Path.{_≡_, refl, sym, ap, _∙_}
+use mathlib.Core.Bool.{true, false}
+use lib.Count.{under, trailingZeros}
+use lib.Dec.{eqb}
+use lib.Pow.{shr-shr}
+use borrow.Author.Tests.{eq-eqb}
+use Rattle.laws.specs.Mask.{bit}
+use Rattle.readings.specs.Next.{Next}
+
+lowest : (m : ℕ) → bit m 0 ≡ eqb (m % 2) 1
+unfolding bit
+lowest m = ap (λ x. eqb (x % 2) 1) (div-one m)
+
+half-bit : (m i : ℕ) → bit m (suc i) ≡ bit (m / 2) i
+unfolding bit
+half-bit m i = ap (λ x. eqb (x % 2) 1) (ap (λ k. m / 2 ^ k) (sym (one-add i)) ∙ sym (shr-shr m 1 i))
+
+-- the bits of a mask without its lowest ones
+shifted : (m a i : ℕ) → bit (m / 2 ^ a) i ≡ bit m (a + i)
+unfolding bit
+shifted m a i = ap (λ x. eqb (x % 2) 1) (shr-shr m a i)
+
+-- no bit is set below the zeros' number, and the bit there is, unless all are zeros
+below-digit : (d m r : ℕ) → m % 2 ≡ d → ((i : ℕ) → i < r → bit (m / 2) i ≡ false) → (i : ℕ) → i < under d r → bit m i ≡ false
+below-digit zero m r e h zero l = lowest m ∙ rw e
+below-digit zero m r e h (suc i) l = half-bit m i ∙ h i (le-of-suc-le-suc l)
+below-digit (suc d) m r e h i l = absurd (not-suc-le-zero l)
+
+below-trailing : (k m i : ℕ) → i < trailingZeros k m → bit m i ≡ false
+unfolding trailingZeros
+below-trailing zero m i l = absurd (not-suc-le-zero l)
+below-trailing (suc k) m i l = below-digit (m % 2) m (trailingZeros k (m / 2)) refl (below-trailing k (m / 2)) i l
+
+at-digit : (d k m r : ℕ) → m % 2 ≡ d → (r < k → bit (m / 2) r ≡ true) → under d r < suc k → bit m (under d r) ≡ true
+at-digit zero k m r e h l = half-bit m r ∙ h (le-of-suc-le-suc l)
+at-digit (suc d) k m r e h l = lowest m ∙ eq-eqb (m % 2) 1 (omega (arith, e))
+
+at-trailing : (k m : ℕ) → trailingZeros k m < k → bit m (trailingZeros k m) ≡ true
+unfolding trailingZeros
+at-trailing zero m l = absurd (not-suc-le-zero l)
+at-trailing (suc k) m l = at-digit (m % 2) k m (trailingZeros k (m / 2)) refl (at-trailing k (m / 2)) l
+
+-- ---- the next member, from the zeros of the set without those below
+module _ (set from n : ℕ) where
+  pub next-past : from ≤ n → n ≤ from → Next set from n n
+  next-past l m = record { low = l; high = omega arith; gap = λ k i j. absurd (omega (arith, i, j, m)); here = λ i. absurd (omega (arith, i)) }
+
+  module _ (gap : ℕ) (is : gap ≡ trailingZeros 32 (set / 2 ^ from)) where
+    skipped : (k : ℕ) → from ≤ k → k < from + gap → bit set k ≡ false
+    skipped k i j =
+        let e : from + (k - from) ≡ k = omega (arith, i) in
+        let l : k - from < trailingZeros 32 (set / 2 ^ from) = omega (arith, is, i, j) in
+        ap (bit set) (sym e) ∙ sym (shifted set from (k - from)) ∙ below-trailing 32 (set / 2 ^ from) (k - from) l
+
+    pub next-none : from ≤ n → n - from ≤ gap → Next set from n n
+    next-none l m = record { low = l; high = omega arith; gap = λ k i j. skipped k i (omega (arith, j, m, l)); here = λ i. absurd (omega (arith, i)) }
+
+    pub next-some : n ≤ 32 → gap < n - from → Next set from n (from + gap)
+    next-some few m =
+        let l : trailingZeros 32 (set / 2 ^ from) < 32 = omega (arith, is, few, m) in
+        record {
+          low = omega arith;
+          high = omega (arith, m);
+          gap = skipped;
+          here = λ i. sym (shifted set from gap) ∙ rw is (at-trailing 32 (set / 2 ^ from) l);
+        }

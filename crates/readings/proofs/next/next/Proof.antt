@@ -1,0 +1,38 @@
+-- Past the end, no member, or the lowest bit that is left.
+use Rattle.readings.proofs.Trailing.{next-past, next-none, next-some}
+use lib.Count.{trailing-le}
+use mathlib.Core.Path.{refl}
+use Prim.Native.Nat.{_/_, _^_}
+use borrow.Author.Needs.{needs}
+use Rattle.readings.proofs.next.next.Statement.{statement}
+use Rattle.readings.proofs.next.next.Tie as tie
+use Rattle.readings.proofs.next.next.Reads as reads
+use Rattle.readings.proofs.next.next.Lts as lts
+
+returns : tie.Need-returns
+returns c = next-past _ _ _ (c .before .pre .0) (c .if1 .taken)
+
+cast-gap : tie.Need-cast-gap
+cast-gap c = search needs
+
+shr-gap : tie.Need-shr-gap
+shr-gap c = search needs
+
+cast-gap-2 : tie.Need-cast-gap-2
+cast-gap-2 c = let h = trailing-le 32 (c .before .args .set / 2 ^ c .before .args .from) in search needs
+
+sub-if2 : tie.Need-sub-if2
+sub-if2 c = search needs
+
+returns-2 : tie.Need-returns-2
+returns-2 c = next-none _ _ _ _ refl (c .before .before .pre .0) (c .if2 .taken)
+
+add-result : tie.Need-add-result
+add-result c = let h = trailing-le 32 (c .before .before .args .set / 2 ^ c .before .before .args .from) in search needs
+
+returns-3 : tie.Need-returns-3
+returns-3 c = next-some _ _ _ _ refl (c .before .before .pre .1) (c .if2 .left)
+
+pub next-spec : {M : Type 1} → statement M
+next-spec =
+    tie.close (tie.spec returns cast-gap shr-gap cast-gap-2 sub-if2 returns-2 add-result returns-3)

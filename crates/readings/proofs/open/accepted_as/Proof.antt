@@ -1,0 +1,63 @@
+-- By the kind.
+use Rattle.readings.specs.Sight.{refusalAs}
+use borrow.Author.Tests.{ne-eqb}
+use borrow.Author.Needs.{needs}
+use Rattle.readings.proofs.open.accepted_as.Statement.{statement}
+use Rattle.readings.proofs.open.accepted_as.Tie as tie
+use Rattle.readings.proofs.open.accepted_as.Reads as reads
+use Rattle.readings.proofs.open.accepted_as.Lts as lts
+use Rattle.readings.proofs.open.bump_refusal.Reads as bump-refusal-reads
+use Rattle.readings.proofs.open.miner_accepted.Reads as miner-accepted-reads
+use Rattle.readings.proofs.open.pool_accepted.Reads as pool-accepted-reads
+use Rattle.readings.proofs.open.share_refusal.Reads as share-refusal-reads
+use Rattle.steps.proofs.mining.include_refusal.Reads as include-refusal-reads
+
+share-refusal-requires : tie.Need-share-refusal-requires
+share-refusal-requires c κs = search needs
+
+pool-accepted-requires : tie.Need-pool-accepted-requires
+pool-accepted-requires c κs = search needs
+
+miner-accepted-requires : tie.Need-miner-accepted-requires
+miner-accepted-requires c κs = search needs
+
+include-refusal-requires : tie.Need-include-refusal-requires
+include-refusal-requires c κs = search needs
+
+bump-refusal-requires : tie.Need-bump-refusal-requires
+bump-refusal-requires c κs = search needs
+
+returns : tie.Need-returns
+unfolding refusalAs
+returns c = rw (c .before .match .keys1, c .share-refusal .ensures)
+
+returns-2 : tie.Need-returns-2
+unfolding refusalAs
+returns-2 c = rw (c .before .match .keys2) (c .pool-accepted .ensures)
+
+returns-3 : tie.Need-returns-3
+unfolding refusalAs
+returns-3 c = rw (c .before .match .keys3) (c .miner-accepted .ensures)
+
+returns-4 : tie.Need-returns-4
+unfolding refusalAs
+returns-4 c = rw (c .before .match .keys4, c .include-refusal .ensures)
+
+returns-5 : tie.Need-returns-5
+unfolding refusalAs
+returns-5 c = rw (ne-eqb _ _ (c .before .match .rest .1), ne-eqb _ _ (c .before .match .rest .0 .1), ne-eqb _ _ (c .before .match .rest .0 .0 .1), ne-eqb _ _ (c .before .match .rest .0 .0 .0 .1), c .bump-refusal .ensures)
+
+pub accepted-as-spec : {M : Type 1} → statement M
+accepted-as-spec =
+    tie.close
+    (tie.spec
+    share-refusal-requires
+    pool-accepted-requires
+    miner-accepted-requires
+    include-refusal-requires
+    bump-refusal-requires
+    returns
+    returns-2
+    returns-3
+    returns-4
+    returns-5)

@@ -1,0 +1,59 @@
+-- The set of those below t.
+use Rattle.laws.specs.Sets.{setBelow, set-start, set-more, set-done}
+use Rattle.readings.specs.Sight.{goesTo, goesSet}
+use mathlib.Core.Path.{_≡_}
+use Prim.Native.Nat.{_≤_, _-_}
+use borrow.Author.Needs.{needs}
+use Rattle.readings.proofs.open.goes_set.Statement.{statement}
+use Rattle.readings.proofs.open.goes_set.Tie as tie
+use Rattle.readings.proofs.open.goes_set.Reads as reads
+use Rattle.readings.proofs.open.goes_set.Lts as lts
+use Rattle.readings.proofs.open.goes_to.Reads as goes-to-reads
+use Rattle.sheet.proofs.field.count.Reads as count-reads
+use Rattle.slots.proofs.set.join.Reads as join-reads
+
+abbrev Inv-loop : tie.InvT-loop
+Inv-loop sheet destination n found₀ t₀ found t = (t ≤ n) × (found ≡ setBelow t (λ j. goesTo sheet j destination))
+
+abbrev μ-loop : tie.MeasureT-loop
+μ-loop sheet destination n found₀ t₀ found t = n - t
+
+count-requires : tie.Need-count-requires Inv-loop μ-loop
+count-requires c κs = search needs
+
+loop-holds : tie.Need-loop-holds Inv-loop μ-loop
+loop-holds c = (search needs, set-start _)
+
+goes-to-requires : tie.Need-goes-to-requires Inv-loop μ-loop
+goes-to-requires c κs = search needs
+
+join-requires : tie.Need-join-requires Inv-loop μ-loop
+join-requires c κs = search needs
+
+add-t : tie.Need-add-t Inv-loop μ-loop
+add-t c = search needs
+
+loop-less : tie.Need-loop-less Inv-loop μ-loop
+loop-less c = search needs
+
+loop-again : tie.Need-loop-again Inv-loop μ-loop
+loop-again c = (search needs, set-more _ _ _ _ _ (c .before .before .before .loop .inv .1) (c .join .ensures) (c .before .goes-to .ensures))
+
+returns : tie.Need-returns Inv-loop μ-loop
+unfolding goesSet
+returns c = rw (← (c .before .before .count .ensures .is)) (set-done _ _ _ _ (c .before .loop .inv .0) (c .loop-test .left) (c .before .loop .inv .1))
+
+pub goes-set-spec : {M : Type 1} → statement M
+goes-set-spec =
+    tie.close
+    (tie.spec
+    Inv-loop
+    μ-loop
+    count-requires
+    loop-holds
+    goes-to-requires
+    join-requires
+    add-t
+    loop-less
+    loop-again
+    returns)

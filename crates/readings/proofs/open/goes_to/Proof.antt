@@ -1,0 +1,27 @@
+-- By the destination.
+use Rattle.readings.specs.Sight.{goesTo}
+use borrow.Author.Tests.{ne-eqb}
+use borrow.Author.Needs.{needs}
+use Rattle.readings.proofs.open.goes_to.Statement.{statement}
+use Rattle.readings.proofs.open.goes_to.Tie as tie
+use Rattle.readings.proofs.open.goes_to.Reads as reads
+use Rattle.readings.proofs.open.goes_to.Lts as lts
+use Rattle.slots.proofs.party.is_contract.Reads as is-contract-reads
+use Rattle.slots.proofs.party.is_payee.Reads as is-payee-reads
+
+is-contract-requires : tie.Need-is-contract-requires
+is-contract-requires c κs = search needs
+
+returns : tie.Need-returns
+unfolding goesTo
+returns c = rw (c .before .if1 .taken) (c .is-contract .ensures)
+
+is-payee-requires : tie.Need-is-payee-requires
+is-payee-requires c κs = search needs
+
+returns-2 : tie.Need-returns-2
+unfolding goesTo
+returns-2 c = rw (ne-eqb _ _ (c .before .if1 .left)) (c .is-payee .ensures)
+
+pub goes-to-spec : {M : Type 1} → statement M
+goes-to-spec = tie.close (tie.spec is-contract-requires returns is-payee-requires returns-2)

@@ -1,0 +1,24 @@
+-- With stealth.
+use borrow.Author.Tests.{ne-eqb, eq-eqb}
+use borrow.Author.Needs.{needs}
+use Rattle.readings.proofs.open.handers.Statement.{statement}
+use Rattle.readings.proofs.open.handers.Tie as tie
+use Rattle.readings.proofs.open.handers.Reads as reads
+use Rattle.readings.proofs.open.handers.Lts as lts
+use Rattle.readings.proofs.open.senders.Reads as senders-reads
+use Rattle.sheet.proofs.setup.stealth.Reads as stealth-reads
+
+stealth-requires : tie.Need-stealth-requires
+stealth-requires c κs = search needs
+
+returns : tie.Need-returns
+returns c = rw (← (c .before .stealth .ensures), ne-eqb _ _ (c .if1 .taken))
+
+senders-requires : tie.Need-senders-requires
+senders-requires c κs = search needs
+
+returns-2 : tie.Need-returns-2
+returns-2 c = rw (← (c .before .before .stealth .ensures), eq-eqb _ _ (c .before .if1 .left)) (c .senders .ensures)
+
+pub handers-spec : {M : Type 1} → statement M
+handers-spec = tie.close (tie.spec stealth-requires returns senders-requires returns-2)

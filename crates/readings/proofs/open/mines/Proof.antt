@@ -1,0 +1,23 @@
+-- The miner, and no test fails.
+use Rattle.readings.specs.Sight.{minesIn}
+use borrow.Author.Tests.{ne-eqb}
+use borrow.Author.Needs.{needs}
+use Rattle.readings.proofs.open.mines.Statement.{statement}
+use Rattle.readings.proofs.open.mines.Tie as tie
+use Rattle.readings.proofs.open.mines.Reads as reads
+use Rattle.readings.proofs.open.mines.Lts as lts
+use Rattle.steps.proofs.mining.mine_refusal.Reads as mine-refusal-reads
+
+returns : tie.Need-returns
+unfolding minesIn
+returns c = rw (ne-eqb _ _ (c .if1 .taken))
+
+mine-refusal-requires : tie.Need-mine-refusal-requires
+mine-refusal-requires c κs = search needs
+
+returns-2 : tie.Need-returns-2
+unfolding minesIn
+returns-2 c = rw (c .before .if1 .left, c .mine-refusal .ensures)
+
+pub mines-spec : {M : Type 1} → statement M
+mines-spec = tie.close (tie.spec returns mine-refusal-requires returns-2)

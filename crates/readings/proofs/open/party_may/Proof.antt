@@ -1,0 +1,51 @@
+-- By the kind.
+use Rattle.readings.specs.Sight.{partyMay}
+use borrow.Author.Tests.{ne-eqb}
+use borrow.Author.Needs.{needs}
+use Rattle.readings.proofs.open.party_may.Statement.{statement}
+use Rattle.readings.proofs.open.party_may.Tie as tie
+use Rattle.readings.proofs.open.party_may.Reads as reads
+use Rattle.readings.proofs.open.party_may.Lts as lts
+use Rattle.readings.proofs.open.to_sender.Reads as to-sender-reads
+
+sub-result : tie.Need-sub-result
+sub-result c = search needs
+
+to-sender-requires : tie.Need-to-sender-requires
+to-sender-requires c κs = search needs
+
+to-sender-requires-2 : tie.Need-to-sender-requires-2
+to-sender-requires-2 c κs = search needs
+
+returns : tie.Need-returns
+unfolding partyMay
+returns c = rw (c .match .keys1)
+
+returns-2 : tie.Need-returns-2
+unfolding partyMay
+returns-2 c = rw (c .match .keys2)
+
+returns-3 : tie.Need-returns-3
+unfolding partyMay
+returns-3 c = rw (c .before .match .keys3) (c .to-sender .ensures)
+
+returns-4 : tie.Need-returns-4
+unfolding partyMay
+returns-4 c = rw (c .before .match .keys4) (c .to-sender2 .ensures)
+
+returns-5 : tie.Need-returns-5
+unfolding partyMay
+returns-5 c = rw (ne-eqb _ _ (c .match .rest .1), ne-eqb _ _ (c .match .rest .0 .1), ne-eqb _ _ (c .match .rest .0 .0 .1), ne-eqb _ _ (c .match .rest .0 .0 .0 .1))
+
+pub party-may-spec : {M : Type 1} → statement M
+party-may-spec =
+    tie.close
+    (tie.spec
+    sub-result
+    to-sender-requires
+    to-sender-requires-2
+    returns
+    returns-2
+    returns-3
+    returns-4
+    returns-5)

@@ -1,0 +1,40 @@
+-- Parent and signatures first, then all tests of the kind.
+use Rattle.readings.proofs.SendFirst.{pool-lacks}
+use borrow.Author.Needs.{needs}
+use Rattle.readings.proofs.open.pool_accepted.Statement.{statement}
+use Rattle.readings.proofs.open.pool_accepted.Tie as tie
+use Rattle.readings.proofs.open.pool_accepted.Reads as reads
+use Rattle.readings.proofs.open.pool_accepted.Lts as lts
+use Rattle.readings.proofs.open.ready.Reads as ready-reads
+use Rattle.steps.proofs.Outlook.send_held.Reads as send-held-reads
+use Rattle.steps.proofs.View.sent.Reads as sent-reads
+use Rattle.steps.proofs.sending.pool_refusal.Reads as pool-refusal-reads
+
+sent-requires : tie.Need-sent-requires
+sent-requires c κs = search needs
+
+ready-requires : tie.Need-ready-requires
+ready-requires c κs = search needs
+
+returns : tie.Need-returns
+returns c = pool-lacks _ _ _ _ _ _ _ _ _ _ _ (c .before .before .sent .ensures) (c .before .ready .ensures) (c .if1 .taken)
+
+send-held-requires : tie.Need-send-held-requires
+send-held-requires c κs = search needs
+
+pool-refusal-requires : tie.Need-pool-refusal-requires
+pool-refusal-requires c κs = search needs
+
+returns-2 : tie.Need-returns-2
+returns-2 c = rw (← (c .before .send-held .ensures), c .pool-refusal .ensures)
+
+pub pool-accepted-spec : {M : Type 1} → statement M
+pool-accepted-spec =
+    tie.close
+    (tie.spec
+    sent-requires
+    ready-requires
+    returns
+    send-held-requires
+    pool-refusal-requires
+    returns-2)

@@ -1,0 +1,33 @@
+-- Not under open conduct; else allowed and new.
+use Rattle.readings.specs.Sight.{sharesFirst}
+use borrow.Author.Tests.{ne-eqb}
+use borrow.Author.Needs.{needs}
+use Rattle.readings.proofs.open.shares_first.Statement.{statement}
+use Rattle.readings.proofs.open.shares_first.Tie as tie
+use Rattle.readings.proofs.open.shares_first.Reads as reads
+use Rattle.readings.proofs.open.shares_first.Lts as lts
+use Rattle.sheet.proofs.setup.conduct.Reads as conduct-reads
+use Rattle.steps.proofs.Outlook.share_allowed.Reads as share-allowed-reads
+use Rattle.steps.proofs.conduct.conduct_refusal.Reads as conduct-refusal-reads
+
+conduct-requires : tie.Need-conduct-requires
+conduct-requires c κs = search needs
+
+returns : tie.Need-returns
+unfolding sharesFirst
+returns c = rw (← (c .before .conduct .ensures), c .if1 .taken)
+
+share-allowed-requires : tie.Need-share-allowed-requires
+share-allowed-requires c κs = search needs
+
+conduct-refusal-requires : tie.Need-conduct-refusal-requires
+conduct-refusal-requires c κs = search needs
+
+returns-2 : tie.Need-returns-2
+unfolding sharesFirst
+returns-2 c = rw (← (c .before .before .before .before .conduct .ensures), ne-eqb _ _ (c .before .before .before .if1 .left), ← (c .before .before .share-allowed .ensures), c .conduct-refusal .ensures)
+
+pub shares-first-spec : {M : Type 1} → statement M
+shares-first-spec =
+    tie.close
+    (tie.spec conduct-requires returns share-allowed-requires conduct-refusal-requires returns-2)

@@ -1,0 +1,48 @@
+-- By the kind.
+use Rattle.readings.specs.Sight.{turnsIn}
+use borrow.Author.Tests.{ne-eqb}
+use borrow.Author.Needs.{needs}
+use Rattle.readings.proofs.open.turns.Statement.{statement}
+use Rattle.readings.proofs.open.turns.Tie as tie
+use Rattle.readings.proofs.open.turns.Reads as reads
+use Rattle.readings.proofs.open.turns.Lts as lts
+use Rattle.readings.proofs.open.handers.Reads as handers-reads
+use Rattle.readings.proofs.open.senders.Reads as senders-reads
+use Rattle.readings.proofs.open.sharers.Reads as sharers-reads
+
+sharers-requires : tie.Need-sharers-requires
+sharers-requires c κs = search needs
+
+senders-requires : tie.Need-senders-requires
+senders-requires c κs = search needs
+
+handers-requires : tie.Need-handers-requires
+handers-requires c κs = search needs
+
+returns : tie.Need-returns
+unfolding turnsIn
+returns c = rw (c .before .match .keys1) (c .sharers .ensures)
+
+returns-2 : tie.Need-returns-2
+unfolding turnsIn
+returns-2 c = rw (c .before .match .keys2) (c .senders .ensures)
+
+returns-3 : tie.Need-returns-3
+unfolding turnsIn
+returns-3 c = rw (c .before .match .keys3) (c .handers .ensures)
+
+returns-4 : tie.Need-returns-4
+unfolding turnsIn
+returns-4 c = rw (ne-eqb _ _ (c .match .rest .1), ne-eqb _ _ (c .match .rest .0 .1), ne-eqb _ _ (c .match .rest .0 .0 .1))
+
+pub turns-spec : {M : Type 1} → statement M
+turns-spec =
+    tie.close
+    (tie.spec
+    sharers-requires
+    senders-requires
+    handers-requires
+    returns
+    returns-2
+    returns-3
+    returns-4)
