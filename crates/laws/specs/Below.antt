@@ -3,6 +3,8 @@
 use Prim.Native.Nat.{ℕ, zero, suc, _+_, _≤_, _<_}
 use mathlib.Core.Path.{_≡_, refl, ap, sym, subst, _∙_}
 use mathlib.Core.Bool.{Bool, true, false, _||_, _&&_, or-true, and-false, false≢true}
+use lib.Dec.{ltb}
+use borrow.Author.Tests.{ltb-true, ltb-false}
 use mathlib.Core.Logic.{⊎-elim}
 use native.Mathlib.Numerals.{add-one}
 use native.Mathlib.Nat.{le-antisymm, eq-or-lt-of-le, le-of-suc-le-suc, not-suc-le-zero}
@@ -93,6 +95,11 @@ pub any-all-false : (n : ℕ) (p : ℕ → Bool) → ((k : ℕ) → k < n → p 
 unfolding anyBelow
 any-all-false zero p f = refl
 any-all-false (suc n) p f = rw (any-all-false n p (λ k h. f k (omega arith)), f n (omega arith))
+
+-- none below n, and none from there up to m
+pub any-upto : (n m : ℕ) (p : ℕ → Bool) → anyBelow n p ≡ false → ((k : ℕ) → n ≤ k → k < m → p k ≡ false) → anyBelow m p ≡ false
+any-upto n m p e f =
+    any-all-false m p (λ k h. split (ltb k n) (λ y. any-none n p e k (ltb-true k n y)) (λ y. f k (ltb-false k n y) h))
 
 -- two tests that agree below n
 pub any-same : (n : ℕ) (p q : ℕ → Bool) → ((k : ℕ) → k < n → p k ≡ q k) → anyBelow n p ≡ anyBelow n q

@@ -1,13 +1,14 @@
 -- The tests of kinds 5, 6 and 7 over a view are those of the rules.
 -- Assumes nothing.
-use Prim.Native.Nat.{ℕ, _<_, _≤_}
+use Prim.Native.Nat.{ℕ, _+_, _<_, _≤_}
 use native.Mathlib.Omega.{arith}
 use mathlib.Core.Path.{_≡_, refl, sym, ap, _∙_}
-use mathlib.Core.Bool.{Bool, not, _||_}
+use mathlib.Core.Bool.{Bool, false, not, _||_}
 use mathlib.Core.List.{List}
 use lib.Dec.{eqb}
-use Rattle.laws.specs.Below.{anyBelow, any-same}
+use Rattle.laws.specs.Below.{anyBelow, any-start, any-more, any-upto, any-same}
 use Rattle.laws.specs.Failing.{firstFailing}
+use Rattle.laws.specs.Mask.{bit}
 use Rattle.laws.specs.Sets.{setBelow, set-bit, set-some}
 use Rattle.sheet.specs.Field.{count, parent}
 use Rattle.sheet.specs.Setup.{perDay}
@@ -15,6 +16,7 @@ use Rattle.sheet.specs.Checked.{Checked}
 use Rattle.steps.specs.declared.View.{View}
 use Rattle.steps.specs.View.{placedSet}
 use Rattle.steps.specs.Mining.{owedIn, includeTestsIn, mineTestsIn}
+use Rattle.readings.specs.Next.{Next}
 use Rattle.position.specs.declared.Position.{Position}
 use Rattle.position.specs.Position.{inPool, inBlock, blockOf, isConfirmed, placed}
 use Rattle.position.specs.Owed.{waiting, owed, anyOwed}
@@ -40,6 +42,23 @@ module _ (s u : List ℕ) (p : Position) (few : count s ≤ 32) where
   any-owed-answer h v d n b e f g a =
       (a ∙ rw (e, f, g))
       ∙ any-same (count s) (λ t. owedIn s (perDay u) (viewBelow (count s) p) (sinceIn s p t) t) (owed s u p) (λ t l. owed-since h t l)
+
+-- a loop over the pool: none below its first member, and none up to the next
+not-waiting : (s : List ℕ) (d : ℕ) (v : View) (since t : ℕ) → bit (v .pool) t ≡ false → owedIn s d v since t ≡ false
+unfolding owedIn
+not-waiting s d v since t e = rw e
+
+module _ (s : List ℕ) (d : ℕ) (v : View) (p : Position) where
+  pub owed-first : (n t : ℕ) → Next (v .pool) 0 n t → anyBelow t (λ k. owedIn s d v (sinceIn s p k) k) ≡ false
+  owed-first n t h =
+      any-upto 0 t (λ k. owedIn s d v (sinceIn s p k) k) (any-start (λ k. owedIn s d v (sinceIn s p k) k))
+      (λ k l m. not-waiting s d v (sinceIn s p k) k (h .gap k l m))
+
+  pub owed-next : (n t r : ℕ) → Next (v .pool) (t + 1) n r → anyBelow t (λ k. owedIn s d v (sinceIn s p k) k) ≡ false
+      → owedIn s d v (sinceIn s p t) t ≡ false → anyBelow r (λ k. owedIn s d v (sinceIn s p k) k) ≡ false
+  owed-next n t r h e f =
+      any-upto (t + 1) r (λ k. owedIn s d v (sinceIn s p k) k) (any-more t (λ k. owedIn s d v (sinceIn s p k) k) e f)
+      (λ k l m. not-waiting s d v (sinceIn s p k) k (h .gap k l m))
 
 module _ (s u : List ℕ) (p : Position) (ok : Checked s) where
   pub include-tests : (t : ℕ) → t < count s → includeTestsIn s (viewBelow (count s) p) (anyOwed s u p) t ≡ includeTests s u p t

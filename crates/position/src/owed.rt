@@ -1,5 +1,6 @@
 // Whether some bump is owed in a position.
 use crate::Position;
+use readings::next;
 use steps::View;
 use steps::owed;
 use steps::parent;
@@ -23,7 +24,7 @@ impl Position {
         owed::owed_at(sheet, sheet::setup::per_day(setup), view, since, t)
     }
 
-    // Whether any is, each transaction looked at.
+    // Whether any is, each of the pool looked at.
     fn any_owed_among(self, sheet: &[u8], setup: &[u8], view: View) -> bool
         requires { ⌜ Sized (now sheet) ⌝ }
         requires { ⌜ length (now setup) ≡ 4 ⌝ }
@@ -32,7 +33,7 @@ impl Position {
     {
         let n = sheet::field::count(sheet);
         let per_day = sheet::setup::per_day(setup);
-        let mut t: usize = 0;
+        let mut t = next::next(view.pool, 0, n);
         while t < n {
             let up = parent::slot_above(sheet, t);
             let above = self.slots[up];
@@ -40,7 +41,7 @@ impl Position {
             if owed::owed_at(sheet, per_day, view, since, t) {
                 return true;
             }
-            t += 1;
+            t = next::next(view.pool, t + 1, n);
         }
         false
     }

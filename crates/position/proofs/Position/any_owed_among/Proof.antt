@@ -1,6 +1,6 @@
--- None below t is owed.
-use Rattle.position.proofs.MineTests.{any-owed-answer}
-use Rattle.laws.specs.Below.{anyBelow, any-start, any-more, any-found, any-done}
+-- None below t, the next of the pool, is owed.
+use Rattle.position.proofs.MineTests.{any-owed-answer, owed-first, owed-next}
+use Rattle.laws.specs.Below.{anyBelow, any-found, any-done}
 use Rattle.steps.specs.Mining.{owedIn}
 use Rattle.steps.specs.Parent.{slotAbove, blockAbove}
 use Rattle.position.specs.View.{sinceIn}
@@ -10,6 +10,7 @@ use mathlib.Core.Bool.{false}
 use Prim.Native.Nat.{_≤_, _-_}
 use Rattle.laws.specs.Each.{length-of-map}
 use mathlib.Core.Path.{sym}
+use denote.Ref.{now}
 use borrow.Author.Needs.{needs}
 use Rattle.position.proofs.Position.any_owed_among.Statement.{statement}
 use Rattle.position.proofs.Position.any_owed_among.Tie as tie
@@ -26,8 +27,11 @@ count-requires c κs = search needs
 per-day-requires : tie.Need-per-day-requires Inv-loop μ-loop
 per-day-requires c κs = search needs
 
+next-requires : tie.Need-next-requires Inv-loop μ-loop
+next-requires c κs = search needs
+
 loop-holds : tie.Need-loop-holds Inv-loop μ-loop
-loop-holds c = (search needs, any-start _)
+loop-holds c = (c .next .ensures .high, owed-first _ _ _ _ _ _ (c .next .ensures))
 
 slot-above-requires : tie.Need-slot-above-requires Inv-loop μ-loop
 slot-above-requires c κs = search needs
@@ -46,20 +50,23 @@ owed-at-requires c κs = search needs
 
 returns : tie.Need-returns Inv-loop μ-loop
 unfolding sinceIn slot
-returns c = any-owed-answer _ _ _ (search needs) (search (length-of-map, c .before .before .before .before .before .before .before .before .before .before .before .good)) _ _ _ _ (c .before .before .before .before .before .before .before .before .before .before .before .pre .1 .1) (c .before .before .before .before .before .before .before .per-day .ensures) (c .before .before .before .before .before .before .before .before .count .ensures .is) (sym (any-found _ _ _ (c .before .before .before .before .before .loop-test .taken) (rw (← (c .before .before .before .before .slot-above .ensures .0), ← (c .before .before .block-above .ensures), ← (c .before .owed-at .ensures)) (c .if1 .taken))))
+returns c = any-owed-answer _ _ _ (search needs) (search (length-of-map, c .before .before .before .before .before .before .before .before .before .before .before .before .good)) _ _ _ _ (c .before .before .before .before .before .before .before .before .before .before .before .before .pre .1 .1) (c .before .before .before .before .before .before .before .before .per-day .ensures) (c .before .before .before .before .before .before .before .before .before .count .ensures .is) (sym (any-found _ _ _ (c .before .before .before .before .before .loop-test .taken) (rw (← (c .before .before .before .before .slot-above .ensures .0), ← (c .before .before .block-above .ensures), ← (c .before .owed-at .ensures)) (c .if1 .taken))))
 
-add-t : tie.Need-add-t Inv-loop μ-loop
-add-t c = search needs
+add-next : tie.Need-add-next Inv-loop μ-loop
+add-next c = search needs
+
+next-requires-2 : tie.Need-next-requires-2 Inv-loop μ-loop
+next-requires-2 c κs = search needs
 
 loop-less : tie.Need-loop-less Inv-loop μ-loop
 loop-less c = search needs
 
 loop-again : tie.Need-loop-again Inv-loop μ-loop
 unfolding sinceIn slot
-loop-again c = (search needs, any-more _ _ (c .before .before .before .before .before .before .loop .inv .1) (rw (← (c .before .before .before .before .slot-above .ensures .0), ← (c .before .before .block-above .ensures), ← (c .before .owed-at .ensures)) (c .if1 .left)))
+loop-again c = (c .next2 .ensures .high, owed-next (now (c .before .before .before .before .before .before .before .before .before .before .before .before .before .args .sheet)) (c .before .before .before .before .before .before .before .before .before .per-day .result) (c .before .before .before .before .before .before .before .before .before .before .before .before .before .args .view) (c .before .before .before .before .before .before .before .before .before .before .before .before .before .args .t1) _ _ _ (c .next2 .ensures) (c .before .before .before .before .before .before .before .loop .inv .1) (rw (← (c .before .before .before .before .before .slot-above .ensures .0), ← (c .before .before .before .block-above .ensures), ← (c .before .before .owed-at .ensures)) (c .before .if1 .left)))
 
 returns-2 : tie.Need-returns-2 Inv-loop μ-loop
-returns-2 c = any-owed-answer _ _ _ (search needs) (search (length-of-map, c .before .before .before .before .before .before .good)) _ _ _ _ (c .before .before .before .before .before .before .pre .1 .1) (c .before .before .per-day .ensures) (c .before .before .before .count .ensures .is) (any-done _ _ _ _ (c .before .loop .inv .0) (c .loop-test .left) (c .before .loop .inv .1))
+returns-2 c = any-owed-answer _ _ _ (search needs) (search (length-of-map, c .before .before .before .before .before .before .before .good)) _ _ _ _ (c .before .before .before .before .before .before .before .pre .1 .1) (c .before .before .before .per-day .ensures) (c .before .before .before .before .count .ensures .is) (any-done _ _ _ _ (c .before .loop .inv .0) (c .loop-test .left) (c .before .loop .inv .1))
 
 pub any-owed-among-spec : {M : Type 1} → statement M
 any-owed-among-spec =
@@ -69,6 +76,7 @@ any-owed-among-spec =
     μ-loop
     count-requires
     per-day-requires
+    next-requires
     loop-holds
     slot-above-requires
     mul-above
@@ -76,7 +84,8 @@ any-owed-among-spec =
     block-above-requires
     owed-at-requires
     returns
-    add-t
+    add-next
+    next-requires-2
     loop-less
     loop-again
     returns-2)
