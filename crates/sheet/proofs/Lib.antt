@@ -3,6 +3,6 @@ pub mod Passed
 pub mod PassedEntry
 pub mod PassedSheet
 pub mod PassedSetup
-pub mod SaswapBytes
+pub mod SaswapLength
 pub mod SaswapFits
 pub mod Theorems

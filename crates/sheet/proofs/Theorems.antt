@@ -12,14 +12,14 @@ use Rattle.sheet.specs.Setup.{perDay, conduct, stealth, setupRefusal}
 use Rattle.sheet.specs.LockHeight.{lockHeight}
 use Rattle.sheet.specs.Checked.{Checked, SetupChecked}
 use Rattle.sheet.proofs.Opened.{opened}
-use Rattle.sheet.proofs.SaswapBytes
+use Rattle.sheet.proofs.SaswapLength
 use Rattle.sheet.proofs.SaswapFits
 use Rattle.sheet.proofs.PassedSheet.{passed-sheet}
 use Rattle.sheet.proofs.PassedSetup.{passed-setup}
 
 -- The SASwap sheet has 95 bytes.
 pub saswap-length : (d : ℕ) → length (saswap d) ≡ 95
-saswap-length = SaswapBytes.saswap-length
+saswap-length = SaswapLength.saswap-length
 
 -- It passes the check, for every number of blocks per day.
 pub saswap-passes : (d : ℕ) → sheetRefusal (saswap d) ≡ 0

@@ -1,0 +1,11 @@
+-- The length of the SASwap sheets.
+-- Assumes nothing.
+use Prim.Native.Nat.{ℕ}
+use mathlib.Core.Path.{_≡_, refl}
+use lib.ListN.{length}
+use Rattle.sheet.specs.Saswap.{saswapAt, saswap}
+
+-- P9: "the SASwap sheet is 95 bytes"
+pub saswap-length : (d : ℕ) → length (saswap d) ≡ 95
+unfolding saswap saswapAt
+saswap-length d = refl

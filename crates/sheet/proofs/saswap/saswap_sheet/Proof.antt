@@ -1,0 +1,42 @@
+-- The table at offset 0, with the two bytes that go by the offset.
+use Rattle.sheet.specs.Saswap.{offset, saswapAt, saswap}
+use native.Mathlib.Omega.{arith}
+use borrow.Author.Needs.{needs}
+use Rattle.sheet.proofs.saswap.saswap_sheet.Statement.{statement}
+use Rattle.sheet.proofs.saswap.saswap_sheet.Tie as tie
+
+offset-requires : tie.Need-offset-requires
+offset-requires c κs = search needs
+
+add-bytes : tie.Need-add-bytes
+unfolding offset
+add-bytes c = omega arith
+
+array-write-bytes : tie.Need-array-write-bytes
+array-write-bytes c = search needs
+
+offset-requires-2 : tie.Need-offset-requires-2
+offset-requires-2 c κs = search needs
+
+add-bytes-2 : tie.Need-add-bytes-2
+unfolding offset
+add-bytes-2 c = omega arith
+
+array-write-bytes-2 : tie.Need-array-write-bytes-2
+array-write-bytes-2 c = search needs
+
+returns : tie.Need-returns
+unfolding saswap saswapAt
+returns c = rw (c .offset2 .ensures, c .before .offset .ensures)
+
+pub saswap-sheet-spec : {M : Type 1} → statement M
+saswap-sheet-spec =
+    tie.close
+    (tie.spec
+    offset-requires
+    add-bytes
+    array-write-bytes
+    offset-requires-2
+    add-bytes-2
+    array-write-bytes-2
+    returns)
