@@ -5,7 +5,7 @@ use readings::Goes;
 use readings::Sight;
 use readings::next;
 use readings::open;
-use slots::set;
+use sheet::set;
 use steps::Outlook;
 use steps::View;
 use steps::parent;

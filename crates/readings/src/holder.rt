@@ -1,6 +1,6 @@
 // Who holds a coin, and payouts, over the set of the confirmed.
+use sheet::set;
 use slots::party;
-use slots::set;
 ghost use Prim.Native.Nat.{_<_};
 ghost use mathlib.Core.Path.{_≡_};
 ghost use mathlib.Core.Bool.{_&&_};

@@ -1,9 +1,9 @@
 // Which steps of an actor are open, by their numbers.
 use crate::Goes;
 use crate::Sight;
+use sheet::set;
 use slots::Slot;
 use slots::party;
-use slots::set;
 use slots::signatures;
 use steps::Outlook;
 use steps::conduct;

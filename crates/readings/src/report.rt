@@ -1,10 +1,10 @@
 // The row of a report.
 use crate::Row;
+use sheet::set;
 use slots::Slot;
 use slots::ancestry;
 use slots::deadline;
 use slots::lock_height;
-use slots::set;
 use steps::View;
 ghost use Prim.Native.Nat.{_<_, _≤_};
 ghost use mathlib.Core.Path.{_≡_};

@@ -1,6 +1,6 @@
 // What is read from the bytes of a report.
 use crate::holder;
-use slots::set;
+use sheet::set;
 use slots::signatures;
 ghost use Prim.Native.Nat.{_<_, _≤_, _*_};
 ghost use mathlib.Core.Path.{_≡_};

@@ -1,5 +1,6 @@
 pub mod Refusal
 pub mod Field
+pub mod Parents
 pub mod Check
 pub mod Saswap
 pub mod Setup

@@ -7,4 +7,3 @@ pub mod Deadline
 pub mod Signatures
 pub mod Height
 pub mod Line
-pub mod Siblings

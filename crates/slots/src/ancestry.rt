@@ -1,5 +1,5 @@
 // Ancestry (document 01: line): recursion up the sheet, where a parent is always a lower number.
-use crate::set;
+use sheet::set;
 ghost use Prim.Native.Nat.{_<_};
 ghost use mathlib.Core.Path.{_≡_};
 ghost use Rattle.laws.specs.Mask.{bit};

@@ -1,6 +1,6 @@
 // Conflicts (document 01: rivals), against a set of transactions.
-use crate::set;
 use crate::siblings;
+use sheet::set;
 ghost use Prim.Native.Nat.{_<_};
 ghost use mathlib.Core.Path.{_≡_};
 ghost use mathlib.Core.Bool.{_&&_};

@@ -8,7 +8,6 @@ pub mod conflict;
 pub mod deadline;
 pub mod lock_height;
 pub mod party;
-pub mod set;
 mod siblings;
 pub mod signatures;
 

@@ -1,45 +1,15 @@
 // The rivals of a whole set, by their parents.
 use crate::conflict;
-use crate::set;
+use sheet::parents;
+use sheet::set;
 ghost use Prim.Native.Nat.{_<_};
 ghost use mathlib.Core.Path.{_≡_};
 ghost use mathlib.Core.Bool.{false};
 ghost use Rattle.laws.specs.Mask.{bit};
 ghost use Rattle.laws.specs.Sets.{setBelow};
 ghost use Rattle.sheet.specs.Field.{count, Sized};
+ghost use Rattle.sheet.specs.Parents.{Parents};
 ghost use Rattle.slots.specs.Conflict.{conflictIn, foundIn};
-ghost use Rattle.slots.specs.Siblings.{Parents, ParentAdded};
-
-// The set `parents`, with k's parent too where k is in the set `there`.
-fn with_parent(sheet: &[u8], there: u32, parents: u32, k: usize) -> u32
-    requires { ⌜ Sized (now sheet) ⌝ }
-    requires { ⌜ k < count (now sheet) ⌝ }
-    ensures { λ r. ⌜ ParentAdded (now (sheet .entry)) (bit there) k parents r ⌝ }
-{
-    if !set::has(there, k) {
-        return parents;
-    }
-    let up = sheet::field::parent(sheet, k);
-    if 32 <= up {
-        return parents;
-    }
-    set::join(parents, true, up)
-}
-
-// The parents of the set's members.
-fn parents_of(sheet: &[u8], there: u32) -> u32
-    requires { ⌜ Sized (now sheet) ⌝ }
-    ensures { λ r. ⌜ Parents (now (sheet .entry)) (bit there) (count (now (sheet .entry))) r ⌝ }
-{
-    let n = sheet::field::count(sheet);
-    let mut parents: u32 = 0;
-    let mut k: usize = 0;
-    while k < n {
-        parents = with_parent(sheet, there, parents, k);
-        k += 1;
-    }
-    parents
-}
 
 // Whether a rival of t is in the set, where `parents` are those of its members. An opening rivals only itself.
 fn conflict_by(sheet: &[u8], there: u32, parents: u32, t: usize) -> bool
@@ -66,7 +36,7 @@ pub fn conflicts_with(sheet: &[u8], there: u32) -> u32
     requires { ⌜ Sized (now sheet) ⌝ }
     ensures { λ r. ⌜ r ≡ setBelow (count (now (sheet .entry))) (foundIn (now (sheet .entry)) (bit there) false) ⌝ }
 {
-    let parents = parents_of(sheet, there);
+    let parents = parents::parents_of(sheet, there);
     let n = sheet::field::count(sheet);
     let mut found: u32 = 0;
     let mut t: usize = 0;

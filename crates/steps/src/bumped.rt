@@ -1,8 +1,8 @@
 // Who enters the block by a bump, and what it makes of a slot: kind 7.
 use crate::View;
+use sheet::set;
 use slots::Slot;
 use slots::ancestry;
-use slots::set;
 ghost use Prim.Native.Nat.{_<_};
 ghost use mathlib.Core.Path.{_≡_};
 ghost use Rattle.laws.specs.Sets.{setBelow};

@@ -68,9 +68,9 @@ impl View {
         ensures { λ r. ⌜ r ≡ viewWith self k x ⌝ }
     {
         View {
-            pool: slots::set::join(self.pool, 0 < x.pool, k),
-            block: slots::set::join(self.block, 0 < x.block, k),
-            confirmed: slots::set::join(self.confirmed, 0 < x.height, k),
+            pool: sheet::set::join(self.pool, 0 < x.pool, k),
+            block: sheet::set::join(self.block, 0 < x.block, k),
+            confirmed: sheet::set::join(self.confirmed, 0 < x.height, k),
             mined: self.mined,
             shared: self.shared | x.shared_any(),
             alice: self.alice,

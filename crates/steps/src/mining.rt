@@ -2,8 +2,8 @@
 use crate::View;
 use crate::parent;
 use sheet::refusal;
+use sheet::set;
 use slots::conflict;
-use slots::set;
 ghost use Prim.Native.Nat.{_<_};
 ghost use mathlib.Core.Path.{_≡_};
 ghost use mathlib.Core.Bool.{not, _||_};

@@ -1,8 +1,8 @@
 // When a bump is owed.
 use crate::View;
+use sheet::set;
 use slots::deadline;
 use slots::lock_height;
-use slots::set;
 ghost use Prim.Native.Nat.{_<_};
 ghost use mathlib.Core.Path.{_≡_};
 ghost use Rattle.sheet.specs.Field.{count, Sized};

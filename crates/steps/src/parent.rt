@@ -1,5 +1,5 @@
 // The parent of a transaction: whether it is there, and where its block is read.
-use slots::set;
+use sheet::set;
 ghost use Prim.Native.Nat.{_<_};
 ghost use mathlib.Core.Path.{_≡_};
 ghost use Rattle.laws.specs.Mask.{bit};

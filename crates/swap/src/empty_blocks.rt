@@ -1,8 +1,8 @@
 // Rows of empty blocks in a journal, taken at once.
 use position::Position;
+use sheet::set;
 use slots::deadline;
 use slots::lock_height;
-use slots::set;
 use steps::View;
 use steps::parent;
 ghost use Prim.Native.Nat.{_+_, _*_, _≤_, _<_};

@@ -10,7 +10,7 @@ use Rattle.readings.proofs.open.give_set.Reads as reads
 use Rattle.readings.proofs.open.give_set.Lts as lts
 use Rattle.sheet.proofs.field.signatures.Reads as signatures-reads
 use Rattle.sheet.proofs.field.wide.Reads as wide-reads
-use Rattle.slots.proofs.set.join.Reads as join-reads
+use Rattle.sheet.proofs.set.join.Reads as join-reads
 use Rattle.readings.proofs.open.gives.Reads as gives-reads
 
 abbrev Inv-loop : tie.InvT-loop

@@ -10,7 +10,7 @@ use Rattle.readings.proofs.open.goes_set.Reads as reads
 use Rattle.readings.proofs.open.goes_set.Lts as lts
 use Rattle.readings.proofs.open.goes_to.Reads as goes-to-reads
 use Rattle.sheet.proofs.field.count.Reads as count-reads
-use Rattle.slots.proofs.set.join.Reads as join-reads
+use Rattle.sheet.proofs.set.join.Reads as join-reads
 
 abbrev Inv-loop : tie.InvT-loop
 Inv-loop sheet destination n found₀ t₀ found t = (t ≤ n) × (found ≡ setBelow t (λ j. goesTo sheet j destination))

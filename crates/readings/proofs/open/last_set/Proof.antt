@@ -9,7 +9,7 @@ use Rattle.readings.proofs.open.last_set.Reads as reads
 use Rattle.readings.proofs.open.last_set.Lts as lts
 use Rattle.readings.proofs.open.mines.Reads as mines-reads
 use Rattle.readings.proofs.open.shares_first.Reads as shares-first-reads
-use Rattle.slots.proofs.set.join.Reads as join-reads
+use Rattle.sheet.proofs.set.join.Reads as join-reads
 
 shares-first-requires : tie.Need-shares-first-requires
 shares-first-requires c κs = search needs

@@ -9,7 +9,7 @@ use Rattle.slots.proofs.ancestry.in_ancestry.Reads as in-ancestry
 use Rattle.slots.proofs.ancestry.in_ancestry.Kinds as in-ancestry-kinds
 use Rattle.slots.proofs.ancestry.+in_ancestry.Lts-in_ancestry as in-ancestry-lts
 use Rattle.sheet.proofs.field.parent.Reads as parent-reads
-use Rattle.slots.proofs.set.has.Reads as has-reads
+use Rattle.sheet.proofs.set.has.Reads as has-reads
 use Rattle.slots.proofs.ancestry.+in_ancestry.{statement}
 use Rattle.slots.proofs.ancestry.+in_ancestry.Tie.{close}
 

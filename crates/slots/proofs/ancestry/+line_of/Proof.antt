@@ -9,7 +9,7 @@ use Rattle.slots.proofs.ancestry.line_of.Reads as line-of
 use Rattle.slots.proofs.ancestry.line_of.Kinds as line-of-kinds
 use Rattle.slots.proofs.ancestry.+line_of.Lts-line_of as line-of-lts
 use Rattle.sheet.proofs.field.parent.Reads as parent-reads
-use Rattle.slots.proofs.set.join.Reads as join-reads
+use Rattle.sheet.proofs.set.join.Reads as join-reads
 use Rattle.slots.proofs.ancestry.+line_of.{statement}
 use Rattle.slots.proofs.ancestry.+line_of.Tie.{close}
 

@@ -5,7 +5,7 @@ use Rattle.steps.proofs.mining.block_met.Statement.{statement}
 use Rattle.steps.proofs.mining.block_met.Tie as tie
 use Rattle.steps.proofs.mining.block_met.Reads as reads
 use Rattle.steps.proofs.mining.block_met.Lts as lts
-use Rattle.slots.proofs.set.has.Reads as has-reads
+use Rattle.sheet.proofs.set.has.Reads as has-reads
 
 returns : tie.Need-returns
 returns c = simp (tests, c .if1 .taken)

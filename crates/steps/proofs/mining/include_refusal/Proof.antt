@@ -10,7 +10,7 @@ use Rattle.steps.proofs.mining.include_refusal.Tie as tie
 use Rattle.steps.proofs.mining.include_refusal.Reads as reads
 use Rattle.steps.proofs.mining.include_refusal.Lts as lts
 use Rattle.slots.proofs.conflict.conflict_in.Reads as conflict-in-reads
-use Rattle.slots.proofs.set.has.Reads as has-reads
+use Rattle.sheet.proofs.set.has.Reads as has-reads
 use Rattle.steps.proofs.View.placed.Reads as placed-reads
 use Rattle.steps.proofs.parent.parent_there.Reads as parent-there-reads
 

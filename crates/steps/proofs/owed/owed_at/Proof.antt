@@ -8,7 +8,7 @@ use Rattle.steps.proofs.owed.owed_at.Reads as reads
 use Rattle.steps.proofs.owed.owed_at.Lts as lts
 use Rattle.slots.proofs.deadline.deadline.Reads as deadline-reads
 use Rattle.slots.proofs.lock_height.wide.Reads as wide-reads
-use Rattle.slots.proofs.set.has.Reads as has-reads
+use Rattle.sheet.proofs.set.has.Reads as has-reads
 
 has-requires : tie.Need-has-requires
 has-requires c κs = search needs

@@ -9,7 +9,7 @@ use Rattle.steps.proofs.parent.parent_there.Reads as reads
 use Rattle.steps.proofs.parent.parent_there.Lts as lts
 use Rattle.sheet.proofs.field.opening.Reads as opening-reads
 use Rattle.sheet.proofs.field.parent.Reads as parent-reads
-use Rattle.slots.proofs.set.has.Reads as has-reads
+use Rattle.sheet.proofs.set.has.Reads as has-reads
 
 opening-requires : tie.Need-opening-requires
 opening-requires c κs = search needs

@@ -1,11 +1,11 @@
 -- The parents of the members below k.
-use Rattle.slots.proofs.ByParents.{parents-start, parents-more, parents-done}
-use Rattle.slots.specs.Siblings.{Parents}
+use Rattle.sheet.proofs.ParentSets.{parents-start, parents-more, parents-done}
+use Rattle.sheet.specs.Parents.{Parents}
 use Rattle.laws.specs.Mask.{bit}
 use Prim.Native.Nat.{_≤_, _-_}
 use borrow.Author.Needs.{needs}
-use Rattle.slots.proofs.siblings.parents_of.Statement.{statement}
-use Rattle.slots.proofs.siblings.parents_of.Tie as tie
+use Rattle.sheet.proofs.parents.parents_of.Statement.{statement}
+use Rattle.sheet.proofs.parents.parents_of.Tie as tie
 
 abbrev Inv-loop : tie.InvT-loop
 Inv-loop sheet there n parents₀ k₀ parents k = (k ≤ n) × Parents sheet (bit there) k parents

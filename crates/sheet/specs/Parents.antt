@@ -1,4 +1,4 @@
--- Rivals by their parents: a second form of `conflictIn` for a whole set.
+-- The parents of a set of transactions, over a test that tells its members.
 -- Assumes nothing.
 use Prim.Native.Nat.{ℕ, _<_}
 use mathlib.Core.Path.{_≡_}

@@ -5,8 +5,8 @@ use lib.Bits.{and-mask}
 use mathlib.Core.Path.{ap}
 use Prim.Native.Nat.{_/_, _^_}
 use borrow.Author.Needs.{needs}
-use Rattle.slots.proofs.set.has.Statement.{statement}
-use Rattle.slots.proofs.set.has.Tie as tie
+use Rattle.sheet.proofs.set.has.Statement.{statement}
+use Rattle.sheet.proofs.set.has.Tie as tie
 
 cast-result : tie.Need-cast-result
 cast-result c = search needs

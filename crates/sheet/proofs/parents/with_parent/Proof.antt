@@ -1,13 +1,13 @@
 -- A member's parent, where a set can have it.
-use Rattle.slots.proofs.ByParents.{added-none, added-far, added-one}
+use Rattle.sheet.proofs.ParentSets.{added-none, added-far, added-one}
 use Rattle.laws.specs.Sets.{joined}
 use native.Mathlib.Omega.{arith}
 use mathlib.Core.Bool.{true}
 use mathlib.Core.Path.{sym, ap, _∙_}
 use borrow.Author.Tests.{not-true, not-false}
 use borrow.Author.Needs.{needs}
-use Rattle.slots.proofs.siblings.with_parent.Statement.{statement}
-use Rattle.slots.proofs.siblings.with_parent.Tie as tie
+use Rattle.sheet.proofs.parents.with_parent.Statement.{statement}
+use Rattle.sheet.proofs.parents.with_parent.Tie as tie
 
 has-requires : tie.Need-has-requires
 has-requires c κs = search needs

@@ -6,8 +6,8 @@ use lib.Bits.{bitOr}
 use native.Mathlib.Omega.{arith}
 use native.Mathlib.Nat.{one-mul}
 use borrow.Author.Needs.{needs}
-use Rattle.slots.proofs.set.join.Statement.{statement}
-use Rattle.slots.proofs.set.join.Tie as tie
+use Rattle.sheet.proofs.set.join.Statement.{statement}
+use Rattle.sheet.proofs.set.join.Tie as tie
 
 cast-result : tie.Need-cast-result
 cast-result c = search needs

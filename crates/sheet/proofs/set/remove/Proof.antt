@@ -7,8 +7,8 @@ use native.Mathlib.Omega.{arith}
 use native.Mathlib.Nat.{one-mul}
 use Prim.Native.Nat.{_-_}
 use borrow.Author.Needs.{needs}
-use Rattle.slots.proofs.set.remove.Statement.{statement}
-use Rattle.slots.proofs.set.remove.Tie as tie
+use Rattle.sheet.proofs.set.remove.Statement.{statement}
+use Rattle.sheet.proofs.set.remove.Tie as tie
 
 cast-result : tie.Need-cast-result
 cast-result c = search needs

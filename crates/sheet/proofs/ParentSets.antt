@@ -1,0 +1,44 @@
+-- The parents of a set: those of its members below a number, and one member more.
+-- Assumes nothing.
+use Prim.Native.Nat.{ℕ, _+_, _≤_, _<_}
+use native.Mathlib.Nat.{le-antisymm}
+use native.Mathlib.Omega.{arith}
+use mathlib.Core.Path.{_≡_, sym, ap, _∙_}
+use mathlib.Core.Bool.{Bool, true, false, _||_, or-false, and-false}
+use mathlib.Core.List.{List}
+use borrow.Author.Tests.{ne-eqb}
+use Rattle.laws.specs.Below.{anyBelow, any-next}
+use Rattle.laws.specs.Bits.{no-bit}
+use Rattle.laws.specs.Mask.{bit}
+use Rattle.laws.specs.Sets.{joined, bit-joined}
+use Rattle.sheet.specs.Field.{parent}
+use Rattle.sheet.specs.Parents.{childThere, isParentBelow, Parents, ParentAdded}
+
+module _ (s : List ℕ) (member : ℕ → Bool) where
+  -- no member, or a parent that no set has: nothing is added
+  pub added-none : (k m : ℕ) → member k ≡ false → ParentAdded s member k m m
+  unfolding childThere
+  added-none k m e = record { at = λ p l. rw e (sym (or-false (bit m p))) }
+
+  pub added-far : (k m : ℕ) → 32 ≤ parent s k → ParentAdded s member k m m
+  unfolding childThere
+  added-far k m h =
+      record { at = λ p l. rw (ne-eqb p (parent s k) (λ e. omega (arith, e)), and-false (member k)) (sym (or-false (bit m p))) }
+
+  pub added-one : (k m r : ℕ) → member k ≡ true → parent s k < 32 → r ≡ joined m true (parent s k) → ParentAdded s member k m r
+  unfolding childThere
+  added-one k m r e h f =
+      record { at = λ p l. rw (f, e) (bit-joined m true (parent s k) p h l) }
+
+  -- a loop's start, its turns and its end
+  pub parents-start : Parents s member 0 0
+  unfolding isParentBelow anyBelow
+  parents-start = record { at = λ p l. no-bit p }
+
+  pub parents-more : (n m r : ℕ) → Parents s member n m → ParentAdded s member n m r → Parents s member (n + 1) r
+  unfolding isParentBelow
+  parents-more n m r h a =
+      record { at = λ p l. a .at p l ∙ ap (λ b. b || childThere s member p n) (h .at p l) ∙ sym (any-next n (childThere s member p)) }
+
+  pub parents-done : (k n r : ℕ) → k ≤ n → n ≤ k → Parents s member k r → Parents s member n r
+  parents-done k n r l m h = rw (le-antisymm m l) h

@@ -1,0 +1,38 @@
+// The parents of a set of transactions.
+use crate::field;
+use crate::set;
+ghost use Prim.Native.Nat.{_<_};
+ghost use Rattle.laws.specs.Mask.{bit};
+ghost use Rattle.sheet.specs.Field.{count, Sized};
+ghost use Rattle.sheet.specs.Parents.{Parents, ParentAdded};
+
+// The set `parents`, with k's parent too where k is in the set `there`.
+fn with_parent(sheet: &[u8], there: u32, parents: u32, k: usize) -> u32
+    requires { ⌜ Sized (now sheet) ⌝ }
+    requires { ⌜ k < count (now sheet) ⌝ }
+    ensures { λ r. ⌜ ParentAdded (now (sheet .entry)) (bit there) k parents r ⌝ }
+{
+    if !set::has(there, k) {
+        return parents;
+    }
+    let up = field::parent(sheet, k);
+    if 32 <= up {
+        return parents;
+    }
+    set::join(parents, true, up)
+}
+
+// The parents of the set's members.
+pub fn parents_of(sheet: &[u8], there: u32) -> u32
+    requires { ⌜ Sized (now sheet) ⌝ }
+    ensures { λ r. ⌜ Parents (now (sheet .entry)) (bit there) (count (now (sheet .entry))) r ⌝ }
+{
+    let n = field::count(sheet);
+    let mut parents: u32 = 0;
+    let mut k: usize = 0;
+    while k < n {
+        parents = with_parent(sheet, there, parents, k);
+        k += 1;
+    }
+    parents
+}
