@@ -1,17 +1,20 @@
--- The parents of a set: those of its members below a number, and one member more.
+-- The parents of a set: those of its members below a number, and one member more; those of all transactions.
 -- Assumes nothing.
 use Prim.Native.Nat.{ℕ, _+_, _≤_, _<_}
 use native.Mathlib.Nat.{le-antisymm}
 use native.Mathlib.Omega.{arith}
-use mathlib.Core.Path.{_≡_, sym, ap, _∙_}
-use mathlib.Core.Bool.{Bool, true, false, _||_, or-false, and-false}
+use mathlib.Core.Path.{_≡_, refl, sym, ap, _∙_}
+use mathlib.Core.Bool.{Bool, true, false, _&&_, _||_, or-false, and-false}
 use mathlib.Core.List.{List}
-use borrow.Author.Tests.{ne-eqb}
-use Rattle.laws.specs.Below.{anyBelow, any-next}
+use lib.Dec.{eqb}
+use borrow.Author.Tests.{eqb-true, eqb-false, eq-eqb, ne-eqb}
+use Rattle.laws.specs.Booleans.{split}
+use Rattle.laws.specs.Below.{allBelow, all-at, anyBelow, any-next, any-same}
 use Rattle.laws.specs.Bits.{no-bit}
 use Rattle.laws.specs.Mask.{bit}
 use Rattle.laws.specs.Sets.{joined, bit-joined}
-use Rattle.sheet.specs.Field.{parent}
+use Rattle.sheet.specs.Field.{count, parent}
+use Rattle.sheet.specs.Check.{hasChild}
 use Rattle.sheet.specs.Parents.{childThere, isParentBelow, Parents, ParentAdded}
 
 module _ (s : List ℕ) (member : ℕ → Bool) where
@@ -42,3 +45,31 @@ module _ (s : List ℕ) (member : ℕ → Bool) where
 
   pub parents-done : (k n r : ℕ) → k ≤ n → n ≤ k → Parents s member k r → Parents s member n r
   parents-done k n r l m h = rw (le-antisymm m l) h
+
+-- one test over the bits of a full word
+full-bits : allBelow 32 (bit 4294967295) ≡ true
+unfolding allBelow bit
+full-bits = refl
+
+module _ (s : List ℕ) where
+  -- every transaction is in the full set
+  pub all-members : (n r : ℕ) → n ≤ 32 → Parents s (bit 4294967295) n r → Parents s (λ k. true) n r
+  unfolding isParentBelow childThere
+  all-members n r l h =
+      record {
+        at = λ p m.
+            h .at p m
+            ∙ any-same n (childThere s (bit 4294967295) p) (childThere s (λ k. true) p)
+            (λ k i. ap (λ b. b && eqb p (parent s k)) (all-at 32 (bit 4294967295) full-bits k (omega arith)));
+      }
+
+  -- the parents of all are those that have a child
+  pub parent-child : (r t : ℕ) → t < 32 → Parents s (λ k. true) (count s) r → bit r t ≡ hasChild s t
+  unfolding hasChild isParentBelow childThere
+  parent-child r t l h =
+      h .at t l
+      ∙ any-same (count s) (childThere s (λ k. true) t) (λ k. eqb (parent s k) t)
+      (λ k m.
+      split (eqb t (parent s k))
+      (λ e. e ∙ sym (eq-eqb (parent s k) t (sym (eqb-true t (parent s k) e))))
+      (λ e. e ∙ sym (ne-eqb (parent s k) t (λ q. eqb-false t (parent s k) e (sym q)))))

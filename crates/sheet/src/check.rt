@@ -1,13 +1,17 @@
 // The checks 1 to 8 of a sheet.
 use crate::field;
+use crate::parents;
 use crate::refusal;
+use crate::set;
 ghost use Prim.Native.Nat.{_<_, _≤_, _^_};
 ghost use mathlib.Core.Path.{_≡_};
+ghost use mathlib.Core.Bool.{true};
 ghost use lib.ListN.{length};
 ghost use Rattle.laws.specs.Below.{allBelow};
 ghost use Rattle.laws.specs.Failing.{firstFailing};
 ghost use Rattle.sheet.specs.Field.{count, signatures, Sized};
-ghost use Rattle.sheet.specs.Check.{headRight, countRight, within, masksRight, signaturesRight, lengthRight, parentRight, entryRight, daysRight, lockRight, hasChild, childrenRight, arrayRule, arrayTests, sheetRefusal};
+ghost use Rattle.sheet.specs.Parents.{Parents};
+ghost use Rattle.sheet.specs.Check.{headRight, countRight, within, masksRight, signaturesRight, lengthRight, parentRight, entryRight, daysRight, lockRight, childrenRight, arrayRule, arrayTests, sheetRefusal};
 
 // Two to the number of bits.
 fn limit(bits: u8) -> usize
@@ -145,37 +149,23 @@ fn lock_right(sheet: &[u8], t: usize) -> bool
     true
 }
 
-// Whether some transaction has t for its parent.
-fn has_child(sheet: &[u8], t: usize) -> bool
-    requires { ⌜ Sized (now sheet) ⌝ }
-    ensures { λ r. ⌜ r ≡ hasChild (now (sheet .entry)) t ⌝ }
-{
-    let n = field::count(sheet);
-    let mut k: usize = 0;
-    while k < n {
-        if field::parent(sheet, k) == t {
-            return true;
-        }
-        k += 1;
-    }
-    false
-}
-
-// 8: a contract transaction has a child, and a paying one has none.
-fn children_right(sheet: &[u8], t: usize) -> bool
+// 8: a contract transaction has a child, and a paying one has none, where `parents` are those of all transactions.
+fn children_right(sheet: &[u8], parents: u32, t: usize) -> bool
     requires { ⌜ Sized (now sheet) ⌝ }
     requires { ⌜ t < count (now sheet) ⌝ }
+    requires { ⌜ Parents (now sheet) (λ k. true) (count (now sheet)) parents ⌝ }
     ensures { λ r. ⌜ r ≡ childrenRight (now (sheet .entry)) t ⌝ }
 {
     let contract = field::payees(sheet, t) == 0;
-    contract == has_child(sheet, t)
+    contract == set::has(parents, t)
 }
 
 // A rule of 5 to 8, by its number, at one transaction.
-fn array_rule(sheet: &[u8], rule: u32, t: usize) -> bool
+fn array_rule(sheet: &[u8], parents: u32, rule: u32, t: usize) -> bool
     requires { ⌜ Sized (now sheet) ⌝ }
     requires { ⌜ signatures (now sheet) ≤ 8 ⌝ }
     requires { ⌜ t < count (now sheet) ⌝ }
+    requires { ⌜ Parents (now sheet) (λ k. true) (count (now sheet)) parents ⌝ }
     ensures { λ r. ⌜ r ≡ arrayRule (now (sheet .entry)) rule t ⌝ }
 {
     if rule == refusal::SHEET_PARENT {
@@ -187,19 +177,20 @@ fn array_rule(sheet: &[u8], rule: u32, t: usize) -> bool
     if rule == refusal::SHEET_LOCK {
         return lock_right(sheet, t);
     }
-    children_right(sheet, t)
+    children_right(sheet, parents, t)
 }
 
 // A rule of 5 to 8 for all transactions.
-fn all_right(sheet: &[u8], rule: u32) -> bool
+fn all_right(sheet: &[u8], parents: u32, rule: u32) -> bool
     requires { ⌜ Sized (now sheet) ⌝ }
     requires { ⌜ signatures (now sheet) ≤ 8 ⌝ }
+    requires { ⌜ Parents (now sheet) (λ k. true) (count (now sheet)) parents ⌝ }
     ensures { λ r. ⌜ r ≡ allBelow (count (now (sheet .entry))) (arrayRule (now (sheet .entry)) rule) ⌝ }
 {
     let n = field::count(sheet);
     let mut t: usize = 0;
     while t < n {
-        if !array_rule(sheet, rule, t) {
+        if !array_rule(sheet, parents, rule, t) {
             return false;
         }
         t += 1;
@@ -213,16 +204,17 @@ fn array_refusal(sheet: &[u8]) -> u32
     requires { ⌜ signatures (now sheet) ≤ 8 ⌝ }
     ensures { λ r. ⌜ r ≡ firstFailing (arrayTests (now (sheet .entry))) ⌝ }
 {
-    if !all_right(sheet, refusal::SHEET_PARENT) {
+    let parents = parents::all_parents(sheet);
+    if !all_right(sheet, parents, refusal::SHEET_PARENT) {
         return refusal::SHEET_PARENT;
     }
-    if !all_right(sheet, refusal::SHEET_ENTRY) {
+    if !all_right(sheet, parents, refusal::SHEET_ENTRY) {
         return refusal::SHEET_ENTRY;
     }
-    if !all_right(sheet, refusal::SHEET_LOCK) {
+    if !all_right(sheet, parents, refusal::SHEET_LOCK) {
         return refusal::SHEET_LOCK;
     }
-    if !all_right(sheet, refusal::SHEET_CHILDREN) {
+    if !all_right(sheet, parents, refusal::SHEET_CHILDREN) {
         return refusal::SHEET_CHILDREN;
     }
     refusal::ACCEPTED

@@ -1,10 +1,14 @@
-// The parents of a set of transactions.
+// The parents of a set of transactions, and of all.
 use crate::field;
 use crate::set;
 ghost use Prim.Native.Nat.{_<_};
+ghost use mathlib.Core.Bool.{true};
 ghost use Rattle.laws.specs.Mask.{bit};
 ghost use Rattle.sheet.specs.Field.{count, Sized};
 ghost use Rattle.sheet.specs.Parents.{Parents, ParentAdded};
+
+// All 32 transactions.
+const ALL: u32 = 4294967295;
 
 // The set `parents`, with k's parent too where k is in the set `there`.
 fn with_parent(sheet: &[u8], there: u32, parents: u32, k: usize) -> u32
@@ -35,4 +39,12 @@ pub fn parents_of(sheet: &[u8], there: u32) -> u32
         k += 1;
     }
     parents
+}
+
+// The parents of all transactions.
+pub fn all_parents(sheet: &[u8]) -> u32
+    requires { ⌜ Sized (now sheet) ⌝ }
+    ensures { λ r. ⌜ Parents (now (sheet .entry)) (λ k. true) (count (now (sheet .entry))) r ⌝ }
+{
+    parents_of(sheet, ALL)
 }

@@ -10,10 +10,10 @@ use Rattle.sheet.proofs.check.all_right.Statement.{statement}
 use Rattle.sheet.proofs.check.all_right.Tie as tie
 
 abbrev Inv-loop : tie.InvT-loop
-Inv-loop sheet rule n t₀ t = (t ≤ n) × (allBelow t (arrayRule sheet rule) ≡ true)
+Inv-loop sheet parents rule n t₀ t = (t ≤ n) × (allBelow t (arrayRule sheet rule) ≡ true)
 
 abbrev μ-loop : tie.MeasureT-loop
-μ-loop sheet rule n t₀ t = n - t
+μ-loop sheet parents rule n t₀ t = n - t
 
 count-requires : tie.Need-count-requires Inv-loop μ-loop
 count-requires c κs = search needs
@@ -22,7 +22,7 @@ loop-holds : tie.Need-loop-holds Inv-loop μ-loop
 loop-holds c = (search needs, all-start _)
 
 array-rule-requires : tie.Need-array-rule-requires Inv-loop μ-loop
-array-rule-requires c κs = search needs
+array-rule-requires c κs = let p = c .before .before .before .before .pre in (p .0, (p .1 .0, (search needs, p .1 .1)))
 
 returns : tie.Need-returns Inv-loop μ-loop
 returns c = rw (← (c .before .before .before .before .count .ensures .is)) (sym (all-broken _ _ _ (c .before .before .loop-test .taken) (sym (c .before .array-rule .ensures) ∙ not-true _ (c .if1 .taken))))

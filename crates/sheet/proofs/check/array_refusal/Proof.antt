@@ -5,6 +5,9 @@ use borrow.Author.Needs.{needs}
 use Rattle.sheet.proofs.check.array_refusal.Statement.{statement}
 use Rattle.sheet.proofs.check.array_refusal.Tie as tie
 
+all-parents-requires : tie.Need-all-parents-requires
+all-parents-requires c κs = search needs
+
 all-right-requires : tie.Need-all-right-requires
 all-right-requires c κs = search needs
 
@@ -51,6 +54,7 @@ pub array-refusal-spec : {M : Type 1} → statement M
 array-refusal-spec =
     tie.close
     (tie.spec
+    all-parents-requires
     all-right-requires
     returns
     all-right-requires-2

@@ -1,4 +1,5 @@
 -- A contract transaction has a child, and a paying one has none: check 8.
+use Rattle.sheet.proofs.ParentSets.{parent-child}
 use Rattle.sheet.specs.Check.{childrenRight}
 use borrow.Author.Needs.{needs}
 use Rattle.sheet.proofs.check.children_right.Statement.{statement}
@@ -7,12 +8,12 @@ use Rattle.sheet.proofs.check.children_right.Tie as tie
 payees-requires : tie.Need-payees-requires
 payees-requires c κs = search needs
 
-has-child-requires : tie.Need-has-child-requires
-has-child-requires c κs = search needs
+has-requires : tie.Need-has-requires
+has-requires c κs = search needs
 
 returns : tie.Need-returns
 unfolding childrenRight
-returns c = simp (← (c .has-child .ensures), ← (c .before .payees .ensures))
+returns c = rw (c .has .ensures, parent-child _ _ (c .before .before .before .args .t) (search needs) (c .before .before .before .pre .1 .1), ← (c .before .payees .ensures))
 
 pub children-right-spec : {M : Type 1} → statement M
-children-right-spec = tie.close (tie.spec payees-requires has-child-requires returns)
+children-right-spec = tie.close (tie.spec payees-requires has-requires returns)
