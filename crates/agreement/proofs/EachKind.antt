@@ -27,7 +27,7 @@ use Rattle.position.specs.FirstShares.{firstShares}
 use Rattle.position.specs.Owed.{waiting, enters}
 use Rattle.position.specs.Tests.{blockLimit}
 use Rattle.position.specs.Effect.{afterShare, afterGive, afterSend, afterHandIn, afterInclude, afterMine, afterBump}
-use Rattle.moves.proofs.Changed.{one-length, one-other}
+use Rattle.position.proofs.Changed.{one-length, one-other}
 use Rattle.moves.proofs.Untouched.{SamePool, SameBlock, SameConfirmed}
 use Rattle.moves.proofs.AfterShares.{share-length, share-beyond, share-pool, share-block, share-confirmed, give-slots, give-slot, give-pool, give-block, give-confirmed}
 use Rattle.moves.proofs.AfterSends.{send-pool, send-to, send-block, send-confirmed, hand-block, hand-to, hand-pool, hand-confirmed, include-block, include-to, include-pool, include-confirmed}

@@ -11,7 +11,7 @@ use Rattle.laws.specs.Booleans.{split, clash, and-parts}
 use Rattle.sheet.specs.Field.{parent, opening}
 use Rattle.ledger.specs.Entry.{Entry}
 use Rattle.ledger.specs.Coin.{coinOf}
-use Rattle.ledger.specs.Ledger.{Kept, lockFrom, fits, keep, enter, entryHolder, ledgerHolder}
+use Rattle.ledger.specs.Ledger.{Kept, lockFrom, fits, keep, enter}
 
 module _ (s : List ℕ) (perDay : ℕ) (e : Entry) where
   -- "An opening needs none kept for its coin .. The lock .. must be below b."
@@ -39,11 +39,6 @@ module _ (s : List ℕ) (e : Entry) (kept : Kept) (coin : ℕ) where
   pub keep-other : eqb coin (coinOf s (e .transaction)) ≡ false → keep s e kept coin ≡ kept coin
   unfolding keep
   keep-other h = rw h
-
-  -- "The holder there is the kept destination"
-  pub holder-own : eqb coin (coinOf s (e .transaction)) ≡ true → ledgerHolder (keep s e kept) coin ≡ e .destination
-  unfolding ledgerHolder entryHolder
-  holder-own h = rw (keep-own h)
 
 -- what an entry that fits was found over: none, or its parent's entry
 pub data Fit (s : List ℕ) (perDay : ℕ) (last : Option Entry) (e : Entry) : Type 0 where

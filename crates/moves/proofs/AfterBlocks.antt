@@ -15,7 +15,7 @@ use Rattle.position.specs.Position.{slot, inPool, poolTo, inBlock, blockTo, blo
 use Rattle.position.specs.Owed.{waiting, enters}
 use Rattle.steps.specs.Blocks.{confirmEntry}
 use Rattle.position.specs.Effect.{leavesPool, mineSlot, withMined, afterMine, leavesBlock, bumpSlot, afterBump}
-use Rattle.moves.proofs.Changed.{all-length, all-beyond, all-seen}
+use Rattle.position.proofs.Changed.{all-length, all-beyond, all-seen}
 use Rattle.moves.proofs.Untouched.{SamePool, SameConfirmed, all-pool, all-confirmed}
 
 -- nothing stands in an empty slot

@@ -15,7 +15,7 @@ use Rattle.slots.specs.Signatures.{exposedMask}
 use Rattle.position.specs.declared.Position.{Position}
 use Rattle.position.specs.Position.{slot, inPool, poolTo, inBlock, blockTo}
 use Rattle.position.specs.Effect.{afterSend, afterHandIn, afterInclude}
-use Rattle.moves.proofs.Changed.{one-slot}
+use Rattle.position.proofs.Changed.{one-slot}
 use Rattle.moves.proofs.Untouched.{SamePool, SameBlock, SameConfirmed, one-pool, one-block, one-confirmed}
 
 pub entry-stands : (d : ℕ) → standing (entryFor d) ≡ true

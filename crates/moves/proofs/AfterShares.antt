@@ -20,7 +20,7 @@ use Rattle.position.specs.Position.{slot, inPool, poolTo, inBlock, blockTo, blo
 use Rattle.steps.specs.Decode.{noTransaction}
 use Rattle.position.specs.FirstShares.{firstShares}
 use Rattle.position.specs.Effect.{withKey, shareOne, shareEach, afterShare, afterGive}
-use Rattle.moves.proofs.Changed.{one-length, one-mined, one-other, one-kept}
+use Rattle.position.proofs.Changed.{one-length, one-mined, one-other, one-kept}
 use Rattle.moves.proofs.Untouched.{SamePool, SameBlock, SameConfirmed, same-pool, same-block, same-confirmed}
 
 -- what marks and shared masks do not touch

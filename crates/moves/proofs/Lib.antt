@@ -1,7 +1,6 @@
 pub mod Listed
 pub mod Rises
 pub mod ListedBytes
-pub mod Changed
 pub mod Untouched
 pub mod AfterShares
 pub mod AfterSends

@@ -8,7 +8,7 @@ use Rattle.slots.specs.Slot.{standing, entryTo}
 use Rattle.position.specs.declared.Position.{Position}
 use Rattle.position.specs.Position.{slot, inPool, poolTo, inBlock, blockTo, blockOf, confirmedTo}
 use Rattle.position.specs.Effect.{withSlots, changeSlot, changeSlots}
-use Rattle.moves.proofs.Changed.{one-kept, all-kept}
+use Rattle.position.proofs.Changed.{one-kept, all-kept}
 
 pub record SamePool (p q : Position) : Type 0 where
   pub there : inPool q ≡ inPool p

@@ -35,7 +35,7 @@ use Rattle.steps.specs.Blocks.{confirmEntry}
 use Rattle.position.specs.Effect.{withSlots, changeSlot, changeSlots, withKey, shareOne, shareEach, afterShare, afterGive, afterSend, afterHandIn, afterInclude, leavesPool, mineSlot, withMined, afterMine, leavesBlock, bumpSlot, afterBump, effect}
 use Rattle.position.specs.Play.{FourBytes, journalSteps, step, runFrom, callTests, run, play}
 use Rattle.moves.specs.Wellformed.{WellformedSlot, Wellformed}
-use Rattle.moves.proofs.Changed.{one-length, all-length}
+use Rattle.position.proofs.Changed.{one-length, all-length}
 use Rattle.position.proofs.Decoding.{within-three}
 use Rattle.moves.proofs.MovedGive.{give-right}
 use Rattle.moves.proofs.Sending.{sent-to-pool}

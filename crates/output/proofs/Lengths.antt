@@ -9,11 +9,9 @@ use mathlib.Core.List.{List}
 use lib.ListN.{length, getD, length-append}
 use Rattle.laws.specs.Booleans.{pick}
 use Rattle.laws.specs.Gather.{gather}
-use Rattle.laws.specs.Little.{bytesOf}
 use Rattle.laws.specs.Mask.{bit}
 use Rattle.laws.specs.Sum.{sumBelow, bitsBelow, sum-same, sum-both, sum-times, sum-swap, sum-threes, sum-bound, length-gathered, bits-bound}
 use Rattle.output.specs.Emitted.{emitted, emittedAt, opensBelow, opensLast, belowBytes, lastBytes, kindBytes, actorBytes, openCount}
-use Rattle.output.specs.Row.{rowBytes}
 
 -- a step that is open has four
 pub four-fit : (on : Bool) (kind actor t d m : ℕ) → on ≡ true → length (emitted on kind actor t d) ≤ m → 4 ≤ m
@@ -66,8 +64,3 @@ pub count-bound : (below : List ℕ) (last : ℕ) → openCount below last ≤ 6
 unfolding openCount
 count-bound below last =
     omega (arith, sum-bound 21 32 (λ i. bitsBelow 32 (getD below i 0)) (λ i. bits-bound 32 (getD below i 0)), bits-bound 21 last)
-
--- "14 bytes for each transaction"
-pub length-row : (status payee block lock deadline : ℕ) → length (rowBytes status payee block lock deadline) ≡ 14
-unfolding rowBytes bytesOf
-length-row status payee block lock deadline = refl

@@ -1,15 +1,12 @@
 -- A mined block with nothing in it alters nothing but the number of blocks.
 -- Assumes nothing.
-use Prim.Native.Nat.{ℕ, zero, suc, _+_, _≤_, _<_}
-use native.Mathlib.Omega.{arith}
-use mathlib.Core.Path.{_≡_, refl, sym, _∙_}
+use Prim.Native.Nat.{ℕ, _+_, _≤_, _<_}
+use mathlib.Core.Path.{_≡_, sym, _∙_}
 use mathlib.Core.Bool.{false}
-use mathlib.Core.List.{List, [], _∷_}
-use lib.ListN.{getD}
+use mathlib.Core.List.{List}
 use Rattle.laws.specs.Booleans.{clash, fails-by}
 use Rattle.laws.specs.Below.{any-all-false}
 use Rattle.laws.specs.Bits.{no-bit}
-use Rattle.laws.specs.Each.{rewriteFirst}
 use Rattle.laws.specs.Sets.{set-bit}
 use Rattle.sheet.specs.Field.{count}
 use Rattle.slots.specs.Slot.{emptySlot, standing}
@@ -17,19 +14,12 @@ use Rattle.slots.specs.Ancestry.{meetsConflict}
 use Rattle.slots.proofs.Ancestors.{meets-find}
 use Rattle.steps.specs.declared.View.{View}
 use Rattle.steps.specs.Blocks.{confirmEntry}
+use Rattle.steps.proofs.Kept.{rewrite-kept}
 use Rattle.position.specs.declared.Position.{Position}
 use Rattle.position.specs.Position.{slot, inPool, inBlock}
 use Rattle.position.specs.Owed.{waiting, owed, anyOwed}
 use Rattle.position.specs.View.{viewBelow}
 use Rattle.position.specs.Effect.{withSlots, changeSlots, leavesPool, mineSlot, withMined, afterMine}
-
--- a rule that keeps what stands at each place below n
-rewrite-kept : {A : Type 0} (n : ℕ) (f : ℕ → A → A) (l : List A) (d : A) → ((i : ℕ) → i < n → f i (getD l i d) ≡ getD l i d) → rewriteFirst n f l ≡ l
-unfolding rewriteFirst
-rewrite-kept zero f l d h = refl
-rewrite-kept (suc n) f [] d h = refl
-rewrite-kept (suc n) f (x ∷ l) d h =
-    rw (h 0 (omega arith), rewrite-kept n (λ i. f (suc i)) l d (λ i m. h (suc i) (omega arith)))
 
 module _ (s : List ℕ) (p : Position) (none : (k : ℕ) → k < count s → inBlock p k ≡ false) where
   none-leaves : (t : ℕ) → leavesPool s (inBlock p) t ≡ false

@@ -13,10 +13,10 @@ use Rattle.laws.specs.Sets.{setBelow, set-bit, set-some}
 use Rattle.sheet.specs.Field.{count, parent}
 use Rattle.sheet.specs.Setup.{perDay}
 use Rattle.sheet.specs.Checked.{Checked}
+use Rattle.slots.specs.Next.{Next}
 use Rattle.steps.specs.declared.View.{View}
 use Rattle.steps.specs.View.{placedSet}
 use Rattle.steps.specs.Mining.{owedIn, includeTestsIn, mineTestsIn}
-use Rattle.readings.specs.Next.{Next}
 use Rattle.position.specs.declared.Position.{Position}
 use Rattle.position.specs.Position.{inPool, inBlock, blockOf, isConfirmed, placed}
 use Rattle.position.specs.Owed.{waiting, owed, anyOwed}

@@ -1,5 +1,6 @@
 pub mod Position
 pub mod FirstShares
+pub mod FirstSet
 pub mod Owed
 pub mod Tests
 pub mod Conduct
@@ -15,3 +16,4 @@ pub mod Holder
 pub mod Answers
 pub mod Printed
 pub mod View
+pub mod NextView

@@ -1,4 +1,4 @@
--- The view of a position: what the tests read off it, once for each step.
+-- The view of a position: what the tests read off it.
 -- Assumes nothing.
 use Prim.Native.Nat.{ℕ}
 use mathlib.Core.List.{List}

@@ -28,7 +28,7 @@ impl Position {
             entering,
             leaving,
         };
-        let bumped = blocks::changed_slots(slots, sheet, change);
+        let bumped = blocks::changed_slots(slots, sheet, change, view.pool | view.block);
         self.slots = bumped;
         self
     }

@@ -2,6 +2,7 @@
 use crate::Position;
 use slots::Slot;
 use slots::lock_height;
+use slots::next;
 use slots::party;
 use slots::signatures;
 use steps::Outlook;
@@ -15,8 +16,8 @@ ghost use lib.Dec.{ltb};
 ghost use lib.ListN.{length};
 ghost use Rattle.sheet.specs.Field.{count, signatures, Sized};
 ghost use Rattle.slots.specs.Slot.{standing};
-ghost use Rattle.position.specs.Position.{marked};
 ghost use Rattle.position.specs.FirstShares.{firstSharesMade};
+ghost use Rattle.position.specs.FirstSet.{firstSet};
 ghost use Rattle.position.specs.Conduct.{phase, late, canPay, payingFirst, sendAllowed};
 ghost use Rattle.position.specs.Outlook.{outlook};
 ghost use Rattle.position.specs.View.{viewBelow};
@@ -32,36 +33,31 @@ fn is_sent(x: Slot) -> bool
     0 < x.height
 }
 
-impl Position {
-    // Whether a party has shared t for the contract.
-    fn marked(self, party: u8, t: usize) -> bool
-        requires { ⌜ t < 32 ⌝ }
-        ensures { λ r. ⌜ r ≡ marked self party t 2 ⌝ }
-    {
-        let x = self.slots[t];
-        x.marked_for(party, 2)
+// A party's first shares: revoke and timeout, of Bob also refund_1 and refund_2.
+pub fn first_shares(party: u8) -> u32
+    ensures { λ r. ⌜ r ≡ firstSet party ⌝ }
+{
+    if party == 0 {
+        return 80;
     }
+    120
+}
 
-    // Whether a party's first shares are made: revoke and timeout, of Bob also refund_1 and refund_2.
+impl Position {
+    // Whether a party's first shares are made, for the contract.
     pub fn first_shares_made(self, party: u8) -> bool
         ensures { λ r. ⌜ r ≡ firstSharesMade self party ⌝ }
     {
-        if party == 0 {
-            if !self.marked(party, 4) {
+        let set = first_shares(party);
+        let mut t = next::next(set, 0, 32);
+        while t < 32 {
+            let x = self.slots[t];
+            if !x.marked_for(party, 2) {
                 return false;
             }
-            return self.marked(party, 6);
+            t = next::next(set, t + 1, 32);
         }
-        if !self.marked(party, 3) {
-            return false;
-        }
-        if !self.marked(party, 4) {
-            return false;
-        }
-        if !self.marked(party, 5) {
-            return false;
-        }
-        self.marked(party, 6)
+        true
     }
 
     // The phase: by lock_B, lock_A, and the first shares.

@@ -1,16 +1,35 @@
 // What an accepted step does to a position: kinds 1 to 5.
 use crate::Position;
+use crate::conduct;
+use slots::Slot;
+use slots::next;
 use slots::signatures;
+use steps::sending;
 ghost use Prim.Native.Nat.{_<_, _≤_};
 ghost use mathlib.Core.Path.{_≡_};
 ghost use mathlib.Core.Bool.{true};
 ghost use Rattle.sheet.specs.Field.{count, Sized};
+ghost use Rattle.slots.specs.Slot.{withShared, withMark};
+ghost use Rattle.slots.specs.Signatures.{shareMask};
 ghost use Rattle.position.specs.Position.{keys};
 ghost use Rattle.position.specs.FirstShares.{firstShares, shareable};
 ghost use Rattle.position.specs.Effect.{shareOne, shareEach, afterShare, withKey, afterSend, afterHandIn, afterInclude};
 
 // No signature.
 const NOTHING: u8 = 0;
+
+// The slot x of t after a share by a party with these keys held: what it shares, and its mark.
+fn shared_slot(sheet: &[u8], held: u8, party: u8, t: usize, destination: u8, x: Slot) -> Slot
+    requires { ⌜ Sized (now sheet) ⌝ }
+    requires { ⌜ t < count (now sheet) ⌝ }
+    requires { ⌜ party < 2 ⌝ }
+    requires { ⌜ destination < 3 ⌝ }
+    ensures { λ r. ⌜ r ≡ withMark party destination (withShared destination (shareMask (now (sheet .entry)) held t) x) ⌝ }
+{
+    let mask = signatures::share_mask(sheet, held, t);
+    let y = x.with_shared(destination, mask);
+    y.with_mark(party, destination)
+}
 
 impl Position {
     // The keys that a party holds.
@@ -31,29 +50,29 @@ impl Position {
         requires { ⌜ destination < 3 ⌝ }
         ensures { λ r. ⌜ r ≡ shareOne (now (sheet .entry)) party t destination self ⌝ }
     {
-        let mask = signatures::share_mask(sheet, self.keys(party), t);
         let x = self.slots[t];
-        let y = x.with_shared(destination, mask);
-        let marked = y.with_mark(party, destination);
-        self.slots[t] = marked;
+        let shared = shared_slot(sheet, self.keys(party), party, t, destination, x);
+        self.slots[t] = shared;
         self
     }
 
-    // A party's first shares: revoke and timeout, of Bob also refund_1 and refund_2, for the contract.
-    fn share_first(self, sheet: &[u8], party: u8) -> Position
+    // A party's first shares, for the contract. A share changes no key.
+    fn share_first(mut self, sheet: &[u8], party: u8) -> Position
         requires { ⌜ Sized (now sheet) ⌝ }
         requires { ⌜ 6 < count (now sheet) ⌝ }
         requires { ⌜ party < 2 ⌝ }
         ensures { λ r. ⌜ r ≡ shareEach (now (sheet .entry)) party (firstShares party) self ⌝ }
     {
-        if party == 0 {
-            let revoke = self.share_one(sheet, party, 4, 2);
-            return revoke.share_one(sheet, party, 6, 2);
+        let set = conduct::first_shares(party);
+        let held = self.keys(party);
+        let mut t = next::next(set, 0, 32);
+        while t < 32 {
+            let x = self.slots[t];
+            let shared = shared_slot(sheet, held, party, t, 2, x);
+            self.slots[t] = shared;
+            t = next::next(set, t + 1, 32);
         }
-        let refund = self.share_one(sheet, party, 3, 2);
-        let revoke = refund.share_one(sheet, party, 4, 2);
-        let second = revoke.share_one(sheet, party, 5, 2);
-        second.share_one(sheet, party, 6, 2)
+        self
     }
 
     // A share: of one transaction, or with 255 of the party's first shares.
@@ -91,10 +110,8 @@ impl Position {
         requires { ⌜ destination < 3 ⌝ }
         ensures { λ r. ⌜ r ≡ afterSend (now (sheet .entry)) t destination self ⌝ }
     {
-        let mask = signatures::exposed_mask(sheet, t);
         let x = self.slots[t];
-        let y = x.with_shared(destination, mask);
-        let sent = y.with_pool(destination + 1);
+        let sent = sending::sent_slot(sheet, t, destination, x);
         self.slots[t] = sent;
         self
     }

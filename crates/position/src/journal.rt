@@ -2,11 +2,13 @@
 use crate::Position;
 use crate::Stepped;
 use slots::Slot;
+use steps::View;
 ghost use Prim.Native.Nat.{_+_, _≤_};
 ghost use mathlib.Core.Path.{_≡_};
 ghost use lib.ListN.{length};
-ghost use Rattle.sheet.specs.Field.{byte};
+ghost use Rattle.sheet.specs.Field.{byte, count};
 ghost use Rattle.position.specs.Fit.{Fit};
+ghost use Rattle.position.specs.View.{viewBelow};
 ghost use Rattle.position.specs.Journal.{stepAt};
 ghost use Rattle.position.specs.Play.{step};
 ghost use Rattle.position.specs.Position.{start};
@@ -44,6 +46,32 @@ pub fn start(sheet: &[u8]) -> Position
     }
 }
 
+// The step that starts at byte i of any bytes, where the view is at hand.
+pub fn step_in_view(
+    position: Position,
+    sheet: &[u8],
+    setup: &[u8],
+    view: View,
+    journal: &[u8],
+    i: usize,
+) -> Stepped
+    requires { ⌜ length (now setup) ≡ 4 ⌝ }
+    requires { ⌜ Fit (now sheet) (now setup) ⌝ }
+    requires { ⌜ view ≡ viewBelow (count (now sheet)) position ⌝ }
+    requires { ⌜ i + 4 ≤ length (now journal) ⌝ }
+    ensures { λ r. ⌜ r ≡ step (now (sheet .entry)) (now (setup .entry)) position (stepAt (now (journal .entry)) i) ⌝ }
+{
+    position.step(
+        sheet,
+        setup,
+        view,
+        journal[i],
+        journal[i + 1],
+        journal[i + 2],
+        journal[i + 3],
+    )
+}
+
 // The step that starts at byte i of any bytes.
 pub fn step_at(position: Position, sheet: &[u8], setup: &[u8], journal: &[u8], i: usize) -> Stepped
     requires { ⌜ length (now setup) ≡ 4 ⌝ }
@@ -51,12 +79,6 @@ pub fn step_at(position: Position, sheet: &[u8], setup: &[u8], journal: &[u8], i
     requires { ⌜ i + 4 ≤ length (now journal) ⌝ }
     ensures { λ r. ⌜ r ≡ step (now (sheet .entry)) (now (setup .entry)) position (stepAt (now (journal .entry)) i) ⌝ }
 {
-    position.step(
-        sheet,
-        setup,
-        journal[i],
-        journal[i + 1],
-        journal[i + 2],
-        journal[i + 3],
-    )
+    let view = position.view(sheet);
+    step_in_view(position, sheet, setup, view, journal, i)
 }

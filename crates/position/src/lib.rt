@@ -10,6 +10,7 @@ pub mod effect;
 pub mod height;
 pub mod journal;
 mod mined;
+pub mod next_view;
 mod owed;
 mod refusal;
 pub mod step;

@@ -27,7 +27,7 @@ impl Position {
             entering: 0,
             leaving,
         };
-        let mined = blocks::changed_slots(slots, sheet, change);
+        let mined = blocks::changed_slots(slots, sheet, change, view.pool | view.block);
         self.slots = mined;
         self.mined = block;
         self

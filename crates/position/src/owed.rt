@@ -1,6 +1,6 @@
 // Whether some bump is owed in a position.
 use crate::Position;
-use readings::next;
+use slots::next;
 use steps::View;
 use steps::owed;
 use steps::parent;

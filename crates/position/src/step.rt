@@ -6,6 +6,7 @@ use slots::Destination;
 use slots::Step;
 use slots::party;
 use steps::Decoded;
+use steps::View;
 use steps::decode;
 ghost use Prim.Native.Nat.{_<_, _≤_};
 ghost use mathlib.Core.Path.{_≡_};
@@ -17,19 +18,28 @@ ghost use Rattle.slots.specs.Destination.{destinationNumber};
 ghost use Rattle.steps.specs.Decode.{fieldsRight};
 ghost use Rattle.position.specs.FirstShares.{shareable};
 ghost use Rattle.position.specs.Play.{takeStep, step};
+ghost use Rattle.position.specs.View.{viewBelow};
 ghost use Rattle.position.specs.Fit.{Fit};
 
 impl Position {
     // 1 Share.
-    pub fn share(self, sheet: &[u8], setup: &[u8], party: u8, t: u8, to: Destination) -> Stepped
+    pub fn share(
+        self,
+        sheet: &[u8],
+        setup: &[u8],
+        view: View,
+        party: u8,
+        t: u8,
+        to: Destination,
+    ) -> Stepped
         requires { ⌜ Sized (now sheet) ⌝ }
         requires { ⌜ length (now setup) ≡ 4 ⌝ }
         requires { ⌜ Fit (now sheet) (now setup) ⌝ }
+        requires { ⌜ view ≡ viewBelow (count (now sheet)) self ⌝ }
         requires { ⌜ party < 2 ⌝ }
         requires { ⌜ shareable (now sheet) t ≡ true ⌝ }
         ensures { λ r. ⌜ r ≡ takeStep (now (sheet .entry)) (now (setup .entry)) self (Share party t to) ⌝ }
     {
-        let view = self.view(sheet);
         let destination = party::destination_number(to);
         let refusal = self.share_refusal(sheet, setup, view, party, t, destination);
         if refusal != 0 {
@@ -46,15 +56,23 @@ impl Position {
     }
 
     // 2 Give.
-    pub fn give(self, sheet: &[u8], setup: &[u8], party: u8, i: u8, to: Destination) -> Stepped
+    pub fn give(
+        self,
+        sheet: &[u8],
+        setup: &[u8],
+        view: View,
+        party: u8,
+        i: u8,
+        to: Destination,
+    ) -> Stepped
         requires { ⌜ Sized (now sheet) ⌝ }
         requires { ⌜ length (now setup) ≡ 4 ⌝ }
         requires { ⌜ Fit (now sheet) (now setup) ⌝ }
+        requires { ⌜ view ≡ viewBelow (count (now sheet)) self ⌝ }
         requires { ⌜ i < 8 ⌝ }
         requires { ⌜ destinationNumber to < 2 ⌝ }
         ensures { λ r. ⌜ r ≡ takeStep (now (sheet .entry)) (now (setup .entry)) self (Give party i to) ⌝ }
     {
-        let view = self.view(sheet);
         let receiver = party::destination_number(to);
         let refusal = self.give_refusal(sheet, setup, view, party, i, receiver);
         if refusal != 0 {
@@ -75,6 +93,7 @@ impl Position {
         self,
         sheet: &[u8],
         setup: &[u8],
+        view: View,
         party: u8,
         t: u8,
         to: Destination,
@@ -83,11 +102,11 @@ impl Position {
         requires { ⌜ signatures (now sheet) ≤ 8 ⌝ }
         requires { ⌜ length (now setup) ≡ 4 ⌝ }
         requires { ⌜ Fit (now sheet) (now setup) ⌝ }
+        requires { ⌜ view ≡ viewBelow (count (now sheet)) self ⌝ }
         requires { ⌜ party < 2 ⌝ }
         requires { ⌜ t < count (now sheet) ⌝ }
         ensures { λ r. ⌜ r ≡ takeStep (now (sheet .entry)) (now (setup .entry)) self (SendToPool party t to) ⌝ }
     {
-        let view = self.view(sheet);
         let destination = party::destination_number(to);
         let k = sheet::field::wide(t);
         let refusal = self.pool_refusal(sheet, setup, view, party, k, destination);
@@ -109,6 +128,7 @@ impl Position {
         self,
         sheet: &[u8],
         setup: &[u8],
+        view: View,
         party: u8,
         t: u8,
         to: Destination,
@@ -117,11 +137,11 @@ impl Position {
         requires { ⌜ signatures (now sheet) ≤ 8 ⌝ }
         requires { ⌜ length (now setup) ≡ 4 ⌝ }
         requires { ⌜ Fit (now sheet) (now setup) ⌝ }
+        requires { ⌜ view ≡ viewBelow (count (now sheet)) self ⌝ }
         requires { ⌜ party < 2 ⌝ }
         requires { ⌜ t < count (now sheet) ⌝ }
         ensures { λ r. ⌜ r ≡ takeStep (now (sheet .entry)) (now (setup .entry)) self (HandToMiner party t to) ⌝ }
     {
-        let view = self.view(sheet);
         let destination = party::destination_number(to);
         let k = sheet::field::wide(t);
         let refusal = self.miner_refusal(sheet, setup, view, party, k, destination);
@@ -139,14 +159,22 @@ impl Position {
     }
 
     // 5 Include.
-    pub fn include(self, sheet: &[u8], setup: &[u8], party: u8, t: u8, to: Destination) -> Stepped
+    pub fn include(
+        self,
+        sheet: &[u8],
+        setup: &[u8],
+        view: View,
+        party: u8,
+        t: u8,
+        to: Destination,
+    ) -> Stepped
         requires { ⌜ Sized (now sheet) ⌝ }
         requires { ⌜ length (now setup) ≡ 4 ⌝ }
         requires { ⌜ Fit (now sheet) (now setup) ⌝ }
+        requires { ⌜ view ≡ viewBelow (count (now sheet)) self ⌝ }
         requires { ⌜ t < count (now sheet) ⌝ }
         ensures { λ r. ⌜ r ≡ takeStep (now (sheet .entry)) (now (setup .entry)) self (Include party t to) ⌝ }
     {
-        let view = self.view(sheet);
         let k = sheet::field::wide(t);
         let refusal = self.include_refusal(sheet, setup, view, k);
         if refusal != 0 {
@@ -163,13 +191,21 @@ impl Position {
     }
 
     // 6 Mine.
-    pub fn mine(self, sheet: &[u8], setup: &[u8], party: u8, t: u8, to: Destination) -> Stepped
+    pub fn mine(
+        self,
+        sheet: &[u8],
+        setup: &[u8],
+        view: View,
+        party: u8,
+        t: u8,
+        to: Destination,
+    ) -> Stepped
         requires { ⌜ Sized (now sheet) ⌝ }
         requires { ⌜ length (now setup) ≡ 4 ⌝ }
         requires { ⌜ Fit (now sheet) (now setup) ⌝ }
+        requires { ⌜ view ≡ viewBelow (count (now sheet)) self ⌝ }
         ensures { λ r. ⌜ r ≡ takeStep (now (sheet .entry)) (now (setup .entry)) self (Mine party t to) ⌝ }
     {
-        let view = self.view(sheet);
         let refusal = self.mine_refusal(sheet, setup, view);
         if refusal != 0 {
             return Stepped {
@@ -185,14 +221,22 @@ impl Position {
     }
 
     // 7 Bump.
-    pub fn bump(self, sheet: &[u8], setup: &[u8], party: u8, t: u8, to: Destination) -> Stepped
+    pub fn bump(
+        self,
+        sheet: &[u8],
+        setup: &[u8],
+        view: View,
+        party: u8,
+        t: u8,
+        to: Destination,
+    ) -> Stepped
         requires { ⌜ Sized (now sheet) ⌝ }
         requires { ⌜ length (now setup) ≡ 4 ⌝ }
         requires { ⌜ Fit (now sheet) (now setup) ⌝ }
+        requires { ⌜ view ≡ viewBelow (count (now sheet)) self ⌝ }
         requires { ⌜ t < count (now sheet) ⌝ }
         ensures { λ r. ⌜ r ≡ takeStep (now (sheet .entry)) (now (setup .entry)) self (Bump party t to) ⌝ }
     {
-        let view = self.view(sheet);
         let k = sheet::field::wide(t);
         let refusal = self.bump_refusal(sheet, setup, view, k);
         if refusal != 0 {
@@ -209,22 +253,23 @@ impl Position {
     }
 
     // Any step whose fields are right.
-    pub fn take(self, sheet: &[u8], setup: &[u8], x: Step) -> Stepped
+    pub fn take(self, sheet: &[u8], setup: &[u8], view: View, x: Step) -> Stepped
         requires { ⌜ Sized (now sheet) ⌝ }
         requires { ⌜ signatures (now sheet) ≤ 8 ⌝ }
         requires { ⌜ length (now setup) ≡ 4 ⌝ }
         requires { ⌜ Fit (now sheet) (now setup) ⌝ }
+        requires { ⌜ view ≡ viewBelow (count (now sheet)) self ⌝ }
         requires { ⌜ fieldsRight (now sheet) (now setup) x ≡ true ⌝ }
         ensures { λ r. ⌜ r ≡ takeStep (now (sheet .entry)) (now (setup .entry)) self x ⌝ }
     {
         match x {
-            Step::Share(party, t, to) => self.share(sheet, setup, party, t, to),
-            Step::Give(party, i, to) => self.give(sheet, setup, party, i, to),
-            Step::SendToPool(party, t, to) => self.send_to_pool(sheet, setup, party, t, to),
-            Step::HandToMiner(party, t, to) => self.hand_to_miner(sheet, setup, party, t, to),
-            Step::Include(party, t, to) => self.include(sheet, setup, party, t, to),
-            Step::Mine(party, t, to) => self.mine(sheet, setup, party, t, to),
-            Step::Bump(party, t, to) => self.bump(sheet, setup, party, t, to),
+            Step::Share(party, t, to) => self.share(sheet, setup, view, party, t, to),
+            Step::Give(party, i, to) => self.give(sheet, setup, view, party, i, to),
+            Step::SendToPool(party, t, to) => self.send_to_pool(sheet, setup, view, party, t, to),
+            Step::HandToMiner(party, t, to) => self.hand_to_miner(sheet, setup, view, party, t, to),
+            Step::Include(party, t, to) => self.include(sheet, setup, view, party, t, to),
+            Step::Mine(party, t, to) => self.mine(sheet, setup, view, party, t, to),
+            Step::Bump(party, t, to) => self.bump(sheet, setup, view, party, t, to),
         }
     }
 
@@ -233,6 +278,7 @@ impl Position {
         self,
         sheet: &[u8],
         setup: &[u8],
+        view: View,
         kind: u8,
         party: u8,
         t: u8,
@@ -242,10 +288,11 @@ impl Position {
         requires { ⌜ signatures (now sheet) ≤ 8 ⌝ }
         requires { ⌜ length (now setup) ≡ 4 ⌝ }
         requires { ⌜ Fit (now sheet) (now setup) ⌝ }
+        requires { ⌜ view ≡ viewBelow (count (now sheet)) self ⌝ }
         ensures { λ r. ⌜ r ≡ step (now (sheet .entry)) (now (setup .entry)) self (record { kind = kind; party = party; transaction = t; destination = destination }) ⌝ }
     {
         match decode::decode(sheet, setup, kind, party, t, destination) {
-            Decoded::Read(x) => self.take(sheet, setup, x),
+            Decoded::Read(x) => self.take(sheet, setup, view, x),
             Decoded::Refused => Stepped {
                 refusal: refusal::STEP_FIELD,
                 position: self,

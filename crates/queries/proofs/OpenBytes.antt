@@ -19,14 +19,12 @@ use Rattle.slots.specs.Destination.{alice, bob, miner, destinations}
 use Rattle.steps.specs.declared.Decoded.{Decoded}
 use Rattle.steps.specs.declared.Decoded.the-variants.{Read, Refused}
 use Rattle.steps.specs.Decode.{noTransaction, decode, stepBytes}
-use Rattle.output.specs.Emitted.{emitted, emittedAt, opensBelow, opensLast, belowBytes, lastBytes, kindBytes, actorBytes, openCount}
-use Rattle.output.proofs.Lengths.{length-actor}
-use Rattle.queries.specs.declared.OpenSets.{OpenSets}
+use Rattle.output.specs.Emitted.{emitted, emittedAt, opensBelow, opensLast, belowBytes, lastBytes, kindBytes, actorBytes}
 use Rattle.position.specs.declared.Position.{Position}
 use Rattle.position.specs.Position.{slotCount}
 use Rattle.position.specs.StepRefusal.{stepRefusal}
 use Rattle.position.specs.Open.{actors, kinds, ifAccepted, openAt, openOf, actorSteps, openSteps, listBytes}
-use Rattle.queries.specs.OpenSets.{isOpenRead, isOpenStep, Opens, openSet, places, belowSets, lastSet, openSets}
+use Rattle.queries.specs.OpenSets.{isOpenRead, isOpenStep, Opens, openSet, places, belowSets, lastSet}
 use Rattle.position.proofs.Decoding.{decodes}
 
 -- ---- lists of lists
@@ -131,15 +129,6 @@ module _ (s u : List ℕ) (p : Position) where
       ∙ ap₂ _++_ (actor-bytes bob b₁ l₁ o₁)
       (ap (flatMap stepBytes) (append-nil (actorSteps s u p miner)) ∙ actor-bytes miner b₂ l₂ o₂))
 
-  -- how many steps the list has
-  pub list-count : (b₀ b₁ b₂ : List ℕ) (l₀ l₁ l₂ : ℕ) → Opens s u p alice b₀ l₀ → Opens s u p bob b₁ l₁ → Opens s u p miner b₂ l₂
-      → length (openSteps s u p) ≡ openCount b₀ l₀ + (openCount b₁ l₁ + openCount b₂ l₂)
-  list-count b₀ b₁ b₂ l₀ l₁ l₂ o₀ o₁ o₂ =
-      let whole = sym list-length ∙ ap length (list-bytes b₀ b₁ b₂ l₀ l₁ l₂ o₀ o₁ o₂) in
-      let first = length-append (actorBytes b₀ l₀ alice) (actorBytes b₁ l₁ bob ++ actorBytes b₂ l₂ miner) in
-      let rest = length-append (actorBytes b₁ l₁ bob) (actorBytes b₂ l₂ miner) in
-      omega (arith, whole, first, rest, length-actor b₀ l₀ alice, length-actor b₁ l₁ bob, length-actor b₂ l₂ miner)
-
 -- ---- the sets by place
 module _ (s u : List ℕ) (p : Position) (actor : ℕ) where
   -- kind k + 1 and destination d at place 3 * k + d
@@ -157,8 +146,3 @@ module _ (s u : List ℕ) (p : Position) (actor : ℕ) where
             let r : (3 * k + d) % 3 ≡ d = omega arith in
             set-bit places (λ i. isOpenStep s u p (i / 3 + 1) actor noTransaction (i % 3)) (omega arith) (3 * k + d) (omega arith) ∙ rw (q, r);
       }
-
-  -- what the code answers
-  pub answer-open : (r : OpenSets) → r ≡ openSets s u p actor → Opens s u p actor (r .below) (r .last)
-  unfolding openSets
-  answer-open r e = rw e sets-open

@@ -19,6 +19,7 @@ use Rattle.sheet.specs.Refusal.{accepted, stepConflict, stepParent, stepPool}
 use Rattle.sheet.specs.Setup.{perDay, stealth}
 use Rattle.slots.specs.declared.Slot.{Slot}
 use Rattle.slots.specs.Destination.{alice, bob, miner, isParty}
+use Rattle.slots.specs.Next.{Next}
 use Rattle.steps.specs.declared.Outlook.{Outlook}
 use Rattle.steps.specs.Decode.{noTransaction}
 use Rattle.steps.specs.Parent.{slotAbove, blockAbove}
@@ -31,7 +32,6 @@ use Rattle.steps.specs.Sending.{sendTestsIn, poolTestsIn, minerTestsIn}
 use Rattle.steps.specs.Mining.{owedIn, includeTestsIn, bumpTestsIn}
 use Rattle.readings.specs.declared.Goes.{Goes}
 use Rattle.readings.specs.declared.Sight.{Sight}
-use Rattle.readings.specs.Next.{Next}
 use Rattle.readings.specs.Sight.{mayStand, goesTo, refusalAs, goesSet, goesFor, goesOf, full, sharers, senders, turnsIn, candidatesIn}
 use Rattle.position.specs.declared.Position.{Position}
 use Rattle.position.specs.Position.{slot, blockOf}

@@ -1,3 +1,2 @@
 pub mod Holders
-pub mod Trailing
 pub mod SendFirst

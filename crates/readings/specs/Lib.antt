@@ -1,4 +1,3 @@
-pub mod Next
 pub mod Holder
 pub mod Reported
 pub mod Report

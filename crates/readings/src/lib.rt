@@ -1,6 +1,5 @@
 // What is read off a position, over views, single slots and the sheet: open steps, rows of a report, holders.
 pub mod holder;
-pub mod next;
 pub mod open;
 pub mod report;
 pub mod reported;

@@ -2,22 +2,15 @@
 -- Assumes nothing.
 use Prim.Native.Nat.{ℕ, _≤_, _<_}
 use native.Mathlib.Omega.{arith}
-use mathlib.Core.Path.{_≡_, sym, ap, _∙_}
-use mathlib.Core.Bool.{Bool, false, not, _&&_, and-comm, and-false}
+use mathlib.Core.Path.{_≡_, ap, _∙_}
+use mathlib.Core.Bool.{Bool, not, _&&_, and-comm}
 use mathlib.Core.List.{List}
 use lib.Dec.{eqb}
-use Rattle.laws.specs.Below.{any-same, any-all-false}
-use Rattle.laws.specs.Bits.{no-bit}
+use Rattle.laws.specs.Below.{any-same}
 use Rattle.laws.specs.Mask.{bit}
 use Rattle.laws.specs.Sets.{removed, bit-removed}
 use Rattle.sheet.specs.Field.{count}
 use Rattle.slots.specs.Conflict.{conflict, conflictIn, otherConflictIn}
-
--- none is in the empty set
-pub conflictIn-none : (s : List ℕ) (m t : ℕ) → m ≡ 0 → false ≡ conflictIn s (bit m) t
-unfolding conflictIn
-conflictIn-none s m t e =
-    sym (any-all-false (count s) (λ k. conflict s k t && bit m k) (λ k l. rw (e, no-bit k) (and-false (conflict s k t))))
 
 -- two sets with the same members
 pub conflictIn-same : (s : List ℕ) (a b : ℕ → Bool) (t : ℕ) → ((k : ℕ) → k < count s → a k ≡ b k) → conflictIn s a t ≡ conflictIn s b t

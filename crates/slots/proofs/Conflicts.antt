@@ -1,4 +1,4 @@
--- Conflicts: a symmetric relation, and what the tests over a set say.
+-- Conflicts: a symmetric relation, by parents, and what the tests over a set say.
 -- Assumes nothing.
 use Prim.Native.Nat.{ℕ, _<_}
 use mathlib.Core.Path.{_≡_, refl, sym, ap, _∙_}
@@ -6,8 +6,8 @@ use mathlib.Core.Bool.{Bool, true, false, not, _&&_}
 use mathlib.Core.Logic.{_⊎_, inl, inr}
 use mathlib.Core.List.{List}
 use lib.Dec.{eqb}
-use borrow.Author.Tests.{eqb-true, eq-eqb, not-true}
-use Rattle.laws.specs.Booleans.{either, clash, and-parts, or-parts, or-right, fails-by}
+use borrow.Author.Tests.{eqb-true, eq-eqb, ne-eqb, not-true}
+use Rattle.laws.specs.Booleans.{split, either, clash, and-parts, or-parts, or-right, fails-by}
 use Rattle.laws.specs.Below.{any-some, any-none}
 use Rattle.sheet.specs.Field.{count, parent, opening}
 use Rattle.slots.specs.Conflict.{conflict, conflictIn, noConflict}
@@ -33,6 +33,23 @@ same-opening s k t e = ap (λ (q : ℕ). eqb q 255) e
 pub siblings-conflict : (s : List ℕ) (k t : ℕ) → opening s k ≡ false → parent s k ≡ parent s t → conflict s k t ≡ true
 unfolding conflict
 siblings-conflict s k t o e = rw (o, eq-eqb (parent s k) (parent s t) e) (or-right (eqb k t) true refl)
+
+-- rivals have one parent
+pub conflict-parent : (s : List ℕ) (k t : ℕ) → conflict s k t ≡ true → parent s k ≡ parent s t
+conflict-parent s k t h = either (conflict-parts s k t h) (ap (parent s)) (λ w. w .1)
+
+-- the rivals of one that is no opening are the children of its parent
+pub conflict-siblings : (s : List ℕ) (k t : ℕ) → opening s t ≡ false → conflict s k t ≡ eqb (parent s t) (parent s k)
+conflict-siblings s k t o =
+    split (conflict s k t)
+    (λ y. y ∙ sym (eq-eqb (parent s t) (parent s k) (sym (conflict-parent s k t y))))
+    (λ y.
+    y ∙ sym (ne-eqb (parent s t) (parent s k) (λ q. clash (siblings-conflict s k t (sym (same-opening s t k q) ∙ o) (sym q)) y)))
+
+-- "an opening rivals only itself"
+pub conflict-opening : (s : List ℕ) (k t : ℕ) → opening s t ≡ true → conflict s k t ≡ true → k ≡ t
+conflict-opening s k t o h =
+    either (conflict-parts s k t h) (λ e. e) (λ w. clash (same-opening s k t (w .1) ∙ o) (w .0))
 
 pub conflict-sym : (s : List ℕ) (k t : ℕ) → conflict s k t ≡ true → conflict s t k ≡ true
 conflict-sym s k t h =

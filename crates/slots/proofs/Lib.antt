@@ -9,3 +9,6 @@ pub mod Entered
 pub mod SharedBits
 pub mod LineSets
 pub mod ByParents
+pub mod Children
+pub mod Trailing
+pub mod Deadlines

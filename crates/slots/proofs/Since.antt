@@ -2,25 +2,21 @@
 -- Assumes nothing.
 use Prim.Native.Nat.{ℕ, zero, suc}
 use mathlib.Core.Path.{_≡_, refl, ap, _∙_}
-use mathlib.Core.Bool.{Bool, true, _&&_}
+use mathlib.Core.Bool.{Bool, _&&_}
 use mathlib.Core.List.{List}
 use lib.Dec.{ltb}
-use Rattle.laws.specs.Booleans.{pick, split, either}
+use Rattle.laws.specs.Booleans.{pick, split}
 use Rattle.laws.specs.Least.{leastBelow}
 use Rattle.sheet.specs.Field.{count, parent}
 use Rattle.sheet.specs.LockHeight.{never, lockHeight}
 use Rattle.slots.specs.Conflict.{conflict}
 use Rattle.slots.specs.Deadline.{deadline}
-use Rattle.slots.proofs.Conflicts.{conflict-parts}
+use Rattle.slots.proofs.Conflicts.{conflict-parent}
 
 -- a lock height over every block, and over the parent's alone
 pub lockHeight-since : (s : List ℕ) (d : ℕ) (block : ℕ → ℕ) (b t : ℕ) → block (parent s t) ≡ b → lockHeight s d block t ≡ lockHeight s d (λ k. b) t
 unfolding lockHeight
 lockHeight-since s d block b t e = rw e
-
--- rivals have one parent
-conflict-parent : (s : List ℕ) (k t : ℕ) → conflict s k t ≡ true → parent s k ≡ parent s t
-conflict-parent s k t h = either (conflict-parts s k t h) (ap (parent s)) (λ w. w .1)
 
 least-same : (n : ℕ) (p q : ℕ → Bool) (f g : ℕ → ℕ) (d : ℕ) → ((k : ℕ) → pick (p k) (f k) d ≡ pick (q k) (g k) d) → leastBelow n p f d ≡ leastBelow n q g d
 unfolding leastBelow

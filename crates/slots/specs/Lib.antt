@@ -7,3 +7,4 @@ pub mod Deadline
 pub mod Signatures
 pub mod Height
 pub mod Line
+pub mod Next

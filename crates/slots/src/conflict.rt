@@ -1,70 +1,41 @@
 // Conflicts (document 01: rivals), against a set of transactions.
+use crate::next;
 use crate::siblings;
 use sheet::set;
 ghost use Prim.Native.Nat.{_<_};
 ghost use mathlib.Core.Path.{_≡_};
-ghost use mathlib.Core.Bool.{_&&_};
 ghost use Rattle.laws.specs.Mask.{bit};
 ghost use Rattle.laws.specs.Sets.{setBelow};
 ghost use Rattle.sheet.specs.Field.{count, Sized};
-ghost use Rattle.slots.specs.Conflict.{conflict, conflictIn, otherConflictIn, foundIn};
+ghost use Rattle.slots.specs.Conflict.{conflictIn, otherConflictIn, foundIn};
+ghost use Rattle.sheet.specs.Parents.{isParentBelow};
 
-// Whether k is t or another child of its parent.
-pub fn is_conflict(sheet: &[u8], k: usize, t: usize) -> bool
+// Whether a child of `up` is in the set.
+fn child_in(sheet: &[u8], there: u32, up: usize) -> bool
     requires { ⌜ Sized (now sheet) ⌝ }
-    requires { ⌜ k < count (now sheet) ⌝ }
-    requires { ⌜ t < count (now sheet) ⌝ }
-    ensures { λ r. ⌜ r ≡ conflict (now (sheet .entry)) k t ⌝ }
-{
-    if k == t {
-        return true;
-    }
-    if sheet::field::opening(sheet, k) {
-        return false;
-    }
-    sheet::field::parent(sheet, k) == sheet::field::parent(sheet, t)
-}
-
-// Whether k is such a one and in the set.
-fn conflict_there(sheet: &[u8], there: u32, k: usize, t: usize) -> bool
-    requires { ⌜ Sized (now sheet) ⌝ }
-    requires { ⌜ k < count (now sheet) ⌝ }
-    requires { ⌜ t < count (now sheet) ⌝ }
-    ensures { λ r. ⌜ r ≡ (conflict (now (sheet .entry)) k t && bit there k) ⌝ }
-{
-    if !set::has(there, k) {
-        return false;
-    }
-    is_conflict(sheet, k, t)
-}
-
-// Whether a rival of t is in the set, each transaction looked at.
-fn conflict_among(sheet: &[u8], there: u32, t: usize) -> bool
-    requires { ⌜ Sized (now sheet) ⌝ }
-    requires { ⌜ t < count (now sheet) ⌝ }
-    ensures { λ r. ⌜ r ≡ conflictIn (now (sheet .entry)) (bit there) t ⌝ }
+    ensures { λ r. ⌜ r ≡ isParentBelow (now (sheet .entry)) (bit there) (count (now (sheet .entry))) up ⌝ }
 {
     let n = sheet::field::count(sheet);
-    let mut k: usize = 0;
+    let mut k = next::next(there, 0, n);
     while k < n {
-        if conflict_there(sheet, there, k, t) {
+        if sheet::field::parent(sheet, k) == up {
             return true;
         }
-        k += 1;
+        k = next::next(there, k + 1, n);
     }
     false
 }
 
-// Whether a rival of t is in the set. None is in the empty set.
+// Whether a rival of t is in the set. An opening rivals only itself.
 pub fn conflict_in(sheet: &[u8], there: u32, t: usize) -> bool
     requires { ⌜ Sized (now sheet) ⌝ }
     requires { ⌜ t < count (now sheet) ⌝ }
     ensures { λ r. ⌜ r ≡ conflictIn (now (sheet .entry)) (bit there) t ⌝ }
 {
-    if there == 0 {
-        return false;
+    if sheet::field::opening(sheet, t) {
+        return set::has(there, t);
     }
-    conflict_among(sheet, there, t)
+    child_in(sheet, there, sheet::field::parent(sheet, t))
 }
 
 // Whether a rival of t but t itself is in the set.

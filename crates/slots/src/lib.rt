@@ -7,6 +7,7 @@ pub mod ancestry;
 pub mod conflict;
 pub mod deadline;
 pub mod lock_height;
+pub mod next;
 pub mod party;
 mod siblings;
 pub mod signatures;

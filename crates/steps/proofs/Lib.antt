@@ -1,3 +1,4 @@
+pub mod Kept
 pub mod PoolTests
 pub mod Reached
 pub mod RightFields

@@ -2,35 +2,20 @@
 -- Assumes nothing.
 use Prim.Native.Nat.{ℕ, _<_, _≤_}
 use native.Mathlib.Omega.{arith}
-use mathlib.Core.Path.{_≡_, sym, _∙_}
+use mathlib.Core.Path.{_≡_}
 use mathlib.Core.Bool.{true, _&&_}
 use mathlib.Core.List.{List}
 use lib.Dec.{eqb, ltb}
 use borrow.Author.Tests.{eqb-true, ltb-true}
-use Rattle.laws.specs.Booleans.{split, either, and-parts, or-parts}
+use Rattle.laws.specs.Booleans.{either, and-parts, or-parts}
 use Rattle.sheet.specs.Field.{count, signatures}
 use Rattle.slots.specs.declared.Destination.{Destination}
 use Rattle.slots.specs.declared.Step.{Step}
 use Rattle.slots.specs.declared.Step.the-variants.{Share, Give, SendToPool, HandToMiner, Include, Mine, Bump}
 use Rattle.slots.specs.Destination.{destinationNumber, isParty}
-use Rattle.steps.specs.declared.Decoded.{Decoded}
-use Rattle.steps.specs.declared.Decoded.the-variants.{Read, Refused}
-use Rattle.steps.specs.Decode.{noTransaction, sharesTo, firstShareFields, fieldsRight, rangeChecked, spelled, decode}
+use Rattle.steps.specs.Decode.{noTransaction, sharesTo, firstShareFields, fieldsRight}
 
 module _ (s u : List ℕ) where
-  checked-right : (y : Decoded) (x : Step) → rangeChecked s u y ≡ Read x → fieldsRight s u x ≡ true
-  unfolding rangeChecked
-  checked-right (Read y) x e =
-      split (fieldsRight s u y)
-      (λ f. let q : Read y ≡ Read x = rw f at e in let r : y ≡ x = cc in rw (← r) f)
-      (λ f. let z : _≡_ {A = Decoded} Refused (Read x) = rw f at e in let w : _≡_ {A = ℕ} 0 1 = cc in absurd (omega arith))
-  checked-right Refused x e = let w : _≡_ {A = ℕ} 0 1 = cc in absurd (omega arith)
-
-  -- what is read has right fields
-  pub read-right : (k a t d : ℕ) (y : Decoded) (x : Step) → y ≡ decode s u k a t d → y ≡ Read x → fieldsRight s u x ≡ true
-  unfolding decode
-  read-right k a t d y x e h = checked-right (spelled k a t d) x (sym e ∙ h)
-
   module _ (party t : ℕ) (to : Destination) (x : Step) where
     pub share-listed : x ≡ Share party t to → fieldsRight s u x ≡ true → (t ≡ 255 → ⊥) → t < count s
     unfolding fieldsRight firstShareFields

@@ -1,13 +1,16 @@
 -- A mined block and a bump over sets: what they make of a slot, where `leaving` has those with a rival in the block or among those that
 -- enter.
 -- Assumes nothing.
-use Prim.Native.Nat.{ℕ}
-use mathlib.Core.Bool.{Bool, not, _&&_}
+use Prim.Native.Nat.{ℕ, _<_}
+use mathlib.Core.Path.{_≡_}
+use mathlib.Core.Bool.{Bool, false, not, _&&_}
 use mathlib.Core.List.{List}
+use lib.ListN.{getD}
 use Rattle.laws.specs.Booleans.{pick}
 use Rattle.laws.specs.Mask.{bit}
+use Rattle.sheet.specs.Field.{count}
 use Rattle.slots.specs.declared.Slot.{Slot}
-use Rattle.slots.specs.Slot.{standing, entryTo, withPool, withBlock, withConfirmed, withShared}
+use Rattle.slots.specs.Slot.{emptySlot, standing, entryTo, withPool, withBlock, withConfirmed, withShared}
 use Rattle.slots.specs.Ancestry.{inAncestry}
 use Rattle.slots.specs.Signatures.{exposedMask}
 use Rattle.steps.specs.declared.View.{View}
@@ -32,6 +35,10 @@ bumpedSlot s entering leaving t x =
 -- one of the two
 unfoldable pub changedSlot : List ℕ → Change → ℕ → Slot → Slot
 changedSlot s c t x = pick (c .mine) (minedSlot s (c .block) (c .leaving) t x) (bumpedSlot s (c .entering) (c .leaving) t x)
+
+-- the slots of the transactions outside the set `there` stay as they are
+pub record Outside (s : List ℕ) (c : Change) (there : ℕ) (l : List Slot) : Type 0 where
+  pub same : (t : ℕ) → t < count s → bit there t ≡ false → changedSlot s c t (getD l t emptySlot) ≡ getD l t emptySlot
 
 -- k waits outside the block and is of a line
 unfoldable pub entersIn : View → ℕ → ℕ → Bool

@@ -23,7 +23,7 @@ pub enum Decoded {
     Refused,
 }
 
-// What the tests read off a position, once for each step: the transactions in the pool, in the block being filled and
+// What the tests read off a position: the transactions in the pool, in the block being filled and
 // confirmed, as masks; the signatures shared of any; the blocks mined; the keys held.
 pub struct View {
     pub pool: u32,

@@ -16,6 +16,8 @@ ghost use Rattle.laws.specs.Failing.{firstFailing};
 ghost use Rattle.sheet.specs.Field.{count, signatures, Sized};
 ghost use Rattle.sheet.specs.LockHeight.{lockHeight};
 ghost use Rattle.slots.specs.Deadline.{deadline};
+ghost use Rattle.slots.specs.Slot.{entryFor, withPool, withShared};
+ghost use Rattle.slots.specs.Signatures.{exposedMask};
 ghost use Rattle.steps.specs.View.{sentSet, placedSet, keysIn, senderIn};
 ghost use Rattle.steps.specs.Sending.{sendTestsIn, poolTestsIn, minerTestsIn, paysIn};
 
@@ -177,6 +179,18 @@ pub fn miner_refusal(
         view.mined,
         t,
     )
+}
+
+// The slot x of t after a send to the pool: it waits there, and what it exposes is shared.
+pub fn sent_slot(sheet: &[u8], t: usize, destination: u8, x: Slot) -> Slot
+    requires { ⌜ Sized (now sheet) ⌝ }
+    requires { ⌜ t < count (now sheet) ⌝ }
+    requires { ⌜ destination < 3 ⌝ }
+    ensures { λ r. ⌜ r ≡ withPool (entryFor destination) (withShared destination (exposedMask (now (sheet .entry)) t) x) ⌝ }
+{
+    let mask = signatures::exposed_mask(sheet, t);
+    let shared = x.with_shared(destination, mask);
+    shared.with_pool(destination + 1)
 }
 
 // Whether t pays the party and can be sent by it, by kind 3 or by kind 4.

@@ -1,2 +1,3 @@
 pub mod SetsBytes
 pub mod EmptyBlocks
+pub mod SingleStep

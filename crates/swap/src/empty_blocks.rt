@@ -106,17 +106,18 @@ fn empty_row(
     position: Position,
     sheet: &[u8],
     setup: &[u8],
+    view: View,
     journal: &[u8],
     k: usize,
     n: usize,
 ) -> usize
     requires { ⌜ length (now setup) ≡ 4 ⌝ }
     requires { ⌜ Fit (now sheet) (now setup) ⌝ }
+    requires { ⌜ view ≡ viewBelow (count (now sheet)) position ⌝ }
     requires { ⌜ k < n ⌝ }
     requires { ⌜ 4 * n ≤ length (now journal) ⌝ }
     ensures { λ r. ⌜ EmptyRow (now (sheet .entry)) (now (setup .entry)) (now (journal .entry)) position k n r ⌝ }
 {
-    let view = position.view(sheet);
     if view.block != 0 {
         return 0;
     }
@@ -137,12 +138,14 @@ pub fn row_at(
     position: Position,
     sheet: &[u8],
     setup: &[u8],
+    view: View,
     journal: &[u8],
     k: usize,
     n: usize,
 ) -> usize
     requires { ⌜ length (now setup) ≡ 4 ⌝ }
     requires { ⌜ Fit (now sheet) (now setup) ⌝ }
+    requires { ⌜ view ≡ viewBelow (count (now sheet)) position ⌝ }
     requires { ⌜ k < n ⌝ }
     requires { ⌜ 4 * n ≤ length (now journal) ⌝ }
     ensures { λ r. ⌜ EmptyRow (now (sheet .entry)) (now (setup .entry)) (now (journal .entry)) position k n r ⌝ }
@@ -156,5 +159,5 @@ pub fn row_at(
     if !is_mine(journal, 4 * k + 4) {
         return 0;
     }
-    empty_row(position, sheet, setup, journal, k, n)
+    empty_row(position, sheet, setup, view, journal, k, n)
 }

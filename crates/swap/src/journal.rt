@@ -1,9 +1,15 @@
 // A journal run from the empty journal's position: what all calls that take one do first.
 use crate::empty_blocks;
+use crate::single_steps::allowed_at;
+use crate::single_steps::moved_at;
+use crate::single_steps::place_above;
+use crate::single_steps::place_at;
+use position::Position;
 use position::Ran;
 use position::journal::start;
-use position::journal::step_at;
+use position::journal::step_in_view;
 use sheet::refusal;
+ghost use Prim.Native.Nat.{_<_};
 ghost use mathlib.Core.Path.{_≡_};
 ghost use Rattle.laws.specs.Failing.{firstFailing};
 ghost use Rattle.position.specs.Position.{start};
@@ -37,34 +43,58 @@ fn call_refusal(sheet: &[u8], setup: &[u8], journal: &[u8]) -> u32
     refusal::ACCEPTED
 }
 
-// The steps of a journal up to the first refused one. Each turn takes the empty blocks of a row but the last at once, then one step.
+// The answer after k accepted steps.
+fn ran_to(refusal: u32, k: usize, position: Position) -> Ran
+    requires { ⌜ k < 4294967296 ⌝ }
+    ensures { λ r. ⌜ r ≡ record { refusal = refusal; accepted = k; position = position } ⌝ }
+{
+    Ran {
+        refusal,
+        accepted: k as u32,
+        position,
+    }
+}
+
+// The steps of a journal up to the first refused one. Each turn takes a send or an inclusion in place; else the empty blocks of a
+// row but the last at once, then one step.
 fn played(sheet: &[u8], setup: &[u8], journal: &[u8]) -> Ran
     requires { ⌜ firstFailing (callTests (now sheet) (now setup) (now journal)) ≡ 0 ⌝ }
     ensures { λ r. ⌜ r ≡ runFrom (now (sheet .entry)) (now (setup .entry)) (journalSteps (now (journal .entry))) 0 (start (now (sheet .entry))) ⌝ }
 {
     let n = journal.len() / 4;
     let mut position = start(sheet);
+    let mut view = position.view(sheet);
     let mut k: usize = 0;
     while k < n {
-        let row = empty_blocks::row_at(position, sheet, setup, journal, k, n);
-        position.mined = position.mined + (row as u16);
+        let t = place_at(journal, 4 * k);
+        let x = position.slots[t];
+        let above = position.slots[place_above(sheet, t)];
+        let allowed = allowed_at(position, sheet, setup, view, journal, 4 * k);
+        let moved = moved_at(sheet, setup, view, allowed, x, above.height, journal, 4 * k);
+        if moved.taken {
+            let y = moved.slot;
+            position.slots[t] = y;
+            let seen = view.add(t, y);
+            view = seen;
+            k += 1;
+            continue;
+        }
+        let row = empty_blocks::row_at(position, sheet, setup, view, journal, k, n);
+        let mined = position.mined + (row as u16);
+        position.mined = mined;
+        view.mined = mined;
         k += row;
-        let stepped = step_at(position, sheet, setup, journal, 4 * k);
+        let stepped = step_in_view(position, sheet, setup, view, journal, 4 * k);
         if stepped.refusal != 0 {
-            return Ran {
-                refusal: stepped.refusal,
-                accepted: k as u32,
-                position,
-            };
+            return ran_to(stepped.refusal, k, position);
         }
         position = stepped.position;
+        let z = position.slots[place_at(journal, 4 * k)];
+        let seen = position.next_view(sheet, view, journal[4 * k], journal[4 * k + 2], z);
+        view = seen;
         k += 1;
     }
-    Ran {
-        refusal: refusal::ACCEPTED,
-        accepted: k as u32,
-        position,
-    }
+    ran_to(refusal::ACCEPTED, k, position)
 }
 
 // The run of a journal: the refusal, the steps accepted, and the position after these.

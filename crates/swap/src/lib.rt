@@ -8,6 +8,7 @@ mod empty_blocks;
 pub mod journal;
 mod listing;
 pub mod report;
+mod single_steps;
 
 // The answer of a list: the refusal, and the steps written.
 pub struct Listed {

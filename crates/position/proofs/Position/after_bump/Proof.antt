@@ -1,5 +1,6 @@
 -- The slots.
 use Rattle.position.proofs.BlockSets.{bumped-right}
+use Rattle.position.proofs.NoEntries.{bumped-outside}
 use Rattle.steps.specs.Blocks.{changedSlot, entersIn}
 use Rattle.position.specs.Effect.{withSlots, changeSlots, afterBump}
 use Rattle.steps.specs.declared.View.{View}
@@ -19,11 +20,11 @@ conflicts-of-requires : tie.Need-conflicts-of-requires
 conflicts-of-requires c κs = search needs
 
 changed-slots-requires : tie.Need-changed-slots-requires
-changed-slots-requires c κs = search needs
+changed-slots-requires c κs = (c .before .before .before .before .before .pre .0, bumped-outside _ _ _ (c .before .before .before .before .before .pre .0 .few) (c .before .before .before .before .before .pre .1 .0) _ _ _ (c .before .before .before .entering .ensures))
 
 returns : tie.Need-returns
 unfolding afterBump changeSlots withSlots changedSlot
-returns c = rw (c .changed-slots .ensures, bumped-right (now (c .before .before .before .before .before .args .sheet)) (c .before .before .before .before .before .args .self) (c .before .before .before .before .before .args .t) (c .before .before .before .entering .result) (c .before .before .conflicts-of .result) (search needs) (search needs) (c .before .before .before .entering .ensures ∙ ap (λ (v : View). setBelow (count (now (c .before .before .before .before .before .args .sheet))) (entersIn v (lineSet (now (c .before .before .before .before .before .args .sheet)) (c .before .before .before .before .before .args .t)))) (c .before .before .before .before .before .pre .1 .0)) (c .before .before .conflicts-of .ensures))
+returns c = rw (c .changed-slots .ensures, bumped-right (now (c .before .before .before .before .before .before .args .sheet)) (c .before .before .before .before .before .before .args .self) (c .before .before .before .before .before .before .args .t) (c .before .before .before .before .entering .result) (c .before .before .before .conflicts-of .result) (search needs) (search needs) (c .before .before .before .before .entering .ensures ∙ ap (λ (v : View). setBelow (count (now (c .before .before .before .before .before .before .args .sheet))) (entersIn v (lineSet (now (c .before .before .before .before .before .before .args .sheet)) (c .before .before .before .before .before .before .args .t)))) (c .before .before .before .before .before .before .pre .1 .0)) (c .before .before .before .conflicts-of .ensures))
 
 pub after-bump-spec : {M : Type 1} → statement M
 after-bump-spec =

@@ -1,5 +1,6 @@
 -- The slots, and one block more.
 use Rattle.position.proofs.BlockSets.{mined-right}
+use Rattle.position.proofs.NoEntries.{mined-outside}
 use Rattle.steps.specs.Blocks.{changedSlot}
 use Rattle.position.specs.Effect.{withSlots, changeSlots, withMined, afterMine}
 use Rattle.steps.specs.declared.View.{View}
@@ -21,11 +22,11 @@ add-block : tie.Need-add-block
 add-block c = search needs
 
 changed-slots-requires : tie.Need-changed-slots-requires
-changed-slots-requires c κs = search needs
+changed-slots-requires c κs = (c .before .before .before .before .before .pre .0, mined-outside _ _ _ (c .before .before .before .before .before .pre .0 .few) (c .before .before .before .before .before .pre .1 .0) _ _)
 
 returns : tie.Need-returns
 unfolding afterMine withMined changeSlots withSlots changedSlot
-returns c = rw (c .changed-slots .ensures, mined-right (now (c .before .before .before .before .before .args .sheet)) (c .before .before .before .before .before .args .self) (c .before .before .before .conflicts-of .result) (search needs) (c .before .before .before .conflicts-of .ensures ∙ ap (λ (v : View). setBelow (count (now (c .before .before .before .before .before .args .sheet))) (foundIn (now (c .before .before .before .before .before .args .sheet)) (bit (v .block)) false)) (c .before .before .before .before .before .pre .1 .0)))
+returns c = rw (c .changed-slots .ensures, mined-right (now (c .before .before .before .before .before .before .args .sheet)) (c .before .before .before .before .before .before .args .self) (c .before .before .before .before .conflicts-of .result) (search needs) (c .before .before .before .before .conflicts-of .ensures ∙ ap (λ (v : View). setBelow (count (now (c .before .before .before .before .before .before .args .sheet))) (foundIn (now (c .before .before .before .before .before .before .args .sheet)) (bit (v .block)) false)) (c .before .before .before .before .before .before .pre .1 .0)))
 
 pub after-entries-spec : {M : Type 1} → statement M
 after-entries-spec =

@@ -6,21 +6,18 @@ use borrow.Author.Needs.{needs}
 use Rattle.position.proofs.Position.bump.Statement.{statement}
 use Rattle.position.proofs.Position.bump.Tie as tie
 
-view-requires : tie.Need-view-requires
-view-requires c κs = search needs
-
 wide-requires : tie.Need-wide-requires
 wide-requires c κs = search needs
 
 bump-refusal-requires : tie.Need-bump-refusal-requires
-bump-refusal-requires c κs = (c .before .before .before .before .pre .0, (c .before .before .before .before .pre .1 .0, (c .before .view .ensures, rw (c .wide .ensures .is) (c .before .before .before .before .pre .1 .1 .1))))
+bump-refusal-requires c κs = let p = c .before .before .before .pre in (p .0, (p .1 .0, (p .1 .1 .1 .0, rw (c .wide .ensures .is) (p .1 .1 .1 .1))))
 
 returns : tie.Need-returns
 unfolding stepRefusal tests
 returns c = refuses _ _ _ _ _ (rw (← (c .before .before .wide .ensures .is)) (c .before .bump-refusal .ensures)) (c .if1 .taken)
 
 after-bump-requires : tie.Need-after-bump-requires
-after-bump-requires c κs = (c .before .before .before .before .before .before .pre .0, (c .before .before .before .view .ensures, rw (c .before .before .wide .ensures .is) (c .before .before .before .before .before .before .pre .1 .1 .1)))
+after-bump-requires c κs = let p = c .before .before .before .before .before .pre in (p .0, (p .1 .1 .1 .0, rw (c .before .before .wide .ensures .is) (p .1 .1 .1 .1)))
 
 returns-2 : tie.Need-returns-2
 unfolding stepRefusal tests effect
@@ -30,7 +27,6 @@ pub bump-spec : {M : Type 1} → statement M
 bump-spec =
     tie.close
     (tie.spec
-    view-requires
     wide-requires
     bump-refusal-requires
     returns

@@ -1,68 +1,82 @@
--- Mark after mark.
-use Rattle.position.specs.FirstShares.{firstShares, firstSharesMade}
-use Rattle.laws.specs.Gather.{every}
-use mathlib.Core.Path.{sym}
-use mathlib.Core.Bool.{and-true}
-use borrow.Author.Tests.{eq-eqb, ne-eqb, not-true, not-false}
+-- They are made where those from t on, the next of the set, are.
+use Rattle.position.proofs.FirstSets.{madeFrom, made-start, made-broken, made-more, made-done}
+use Rattle.position.specs.FirstShares.{firstSharesMade}
+use Rattle.position.specs.Position.{slot, marked}
+use Rattle.laws.specs.Mask.{bit}
+use mathlib.Core.Path.{_≡_, sym, _∙_}
+use mathlib.Core.Bool.{true}
+use Prim.Native.Nat.{_≤_, _<_, _-_}
+use borrow.Author.Tests.{not-true, not-false}
 use borrow.Author.Needs.{needs}
 use Rattle.position.proofs.Position.first_shares_made.Statement.{statement}
 use Rattle.position.proofs.Position.first_shares_made.Tie as tie
 
-marked-requires : tie.Need-marked-requires
-marked-requires c κs = search needs
+abbrev Inv-loop : tie.InvT-loop
+Inv-loop party self set t₀ t = (t ≤ 32) × (t < 32 → bit set t ≡ true) × (madeFrom set self party t ≡ firstSharesMade self party)
 
-returns : tie.Need-returns
-unfolding firstSharesMade firstShares every
-returns c = rw (eq-eqb _ _ (c .before .before .if1 .taken), ← (c .before .marked .ensures), not-true (c .before .marked .result) (c .if2 .taken))
+abbrev μ-loop : tie.MeasureT-loop
+μ-loop party self set t₀ t = 32 - t
 
-marked-requires-2 : tie.Need-marked-requires-2
-marked-requires-2 c κs = search needs
+first-shares-requires : tie.Need-first-shares-requires Inv-loop μ-loop
+first-shares-requires c κs = search needs
 
-returns-2 : tie.Need-returns-2
-unfolding firstSharesMade firstShares every
-returns-2 c = rw (eq-eqb _ _ (c .before .before .before .if1 .taken), ← (c .before .before .marked .ensures), not-false (c .before .before .marked .result) (c .before .if2 .left), ← (c .marked2 .ensures)) (sym (and-true _))
+next-requires : tie.Need-next-requires Inv-loop μ-loop
+next-requires c κs = search needs
 
-marked-requires-3 : tie.Need-marked-requires-3
-marked-requires-3 c κs = search needs
+loop-holds : tie.Need-loop-holds Inv-loop μ-loop
+loop-holds c = (c .next .ensures .high, c .next .ensures .here, made-start _ _ _ _ (c .before .first-shares .ensures) (c .next .ensures))
 
-returns-3 : tie.Need-returns-3
-unfolding firstSharesMade firstShares every
-returns-3 c = rw (ne-eqb _ _ (c .before .before .if1 .left), ← (c .before .marked3 .ensures), not-true (c .before .marked3 .result) (c .if3 .taken))
+mul-x : tie.Need-mul-x Inv-loop μ-loop
+mul-x c = search needs
 
-marked-requires-4 : tie.Need-marked-requires-4
-marked-requires-4 c κs = search needs
+element-copy-out-x : tie.Need-element-copy-out-x Inv-loop μ-loop
+element-copy-out-x c = search needs
 
-returns-4 : tie.Need-returns-4
-unfolding firstSharesMade firstShares every
-returns-4 c = rw (ne-eqb _ _ (c .before .before .before .before .if1 .left), ← (c .before .before .before .marked3 .ensures), not-false (c .before .before .before .marked3 .result) (c .before .before .if3 .left), ← (c .before .marked4 .ensures), not-true (c .before .marked4 .result) (c .if4 .taken))
+marked-for-requires : tie.Need-marked-for-requires Inv-loop μ-loop
+marked-for-requires c κs = search needs
 
-marked-requires-5 : tie.Need-marked-requires-5
-marked-requires-5 c κs = search needs
+returns : tie.Need-returns Inv-loop μ-loop
+unfolding marked slot
+returns c =
+    let l = c .before .before .before .loop-test .taken in
+    made-broken _ _ _ _ _ (c .before .before .before .before .loop .inv .2) l (c .before .before .before .before .loop .inv .1 l) (sym (c .before .marked-for .ensures) ∙ not-true (c .before .marked-for .result) (c .if1 .taken))
 
-returns-5 : tie.Need-returns-5
-unfolding firstSharesMade firstShares every
-returns-5 c = rw (ne-eqb _ _ (c .before .before .before .before .before .before .if1 .left), ← (c .before .before .before .before .before .marked3 .ensures), not-false (c .before .before .before .before .before .marked3 .result) (c .before .before .before .before .if3 .left), ← (c .before .before .before .marked4 .ensures), not-false (c .before .before .before .marked4 .result) (c .before .before .if4 .left), ← (c .before .marked5 .ensures), not-true (c .before .marked5 .result) (c .if5 .taken))
+add-next : tie.Need-add-next Inv-loop μ-loop
+add-next c = search needs
 
-marked-requires-6 : tie.Need-marked-requires-6
-marked-requires-6 c κs = search needs
+next-requires-2 : tie.Need-next-requires-2 Inv-loop μ-loop
+next-requires-2 c κs = search needs
 
-returns-6 : tie.Need-returns-6
-unfolding firstSharesMade firstShares every
-returns-6 c = rw (ne-eqb _ _ (c .before .before .before .before .before .before .before .if1 .left), ← (c .before .before .before .before .before .before .marked3 .ensures), not-false (c .before .before .before .before .before .before .marked3 .result) (c .before .before .before .before .before .if3 .left), ← (c .before .before .before .before .marked4 .ensures), not-false (c .before .before .before .before .marked4 .result) (c .before .before .before .if4 .left), ← (c .before .before .marked5 .ensures), not-false (c .before .before .marked5 .result) (c .before .if5 .left), ← (c .marked6 .ensures)) (sym (and-true _))
+loop-less : tie.Need-loop-less Inv-loop μ-loop
+loop-less c = search needs
+
+loop-again : tie.Need-loop-again Inv-loop μ-loop
+unfolding marked slot
+loop-again c =
+    let l = c .before .before .before .before .loop-test .taken in (
+      c .next2 .ensures .high,
+      c .next2 .ensures .here,
+      made-more _ _ _ _ _ (c .before .before .before .before .before .loop .inv .2) l (c .before .before .before .before .before .loop .inv .1 l) (sym (c .before .before .marked-for .ensures) ∙ not-false (c .before .before .marked-for .result) (c .before .if1 .left)) _ (c .next2 .ensures),
+    )
+
+returns-2 : tie.Need-returns-2 Inv-loop μ-loop
+returns-2 c = made-done _ _ _ _ _ (c .before .loop .inv .2) (c .loop-test .left)
 
 pub first-shares-made-spec : {M : Type 1} → statement M
 first-shares-made-spec =
     tie.close
     (tie.spec
-    marked-requires
+    Inv-loop
+    μ-loop
+    first-shares-requires
+    next-requires
+    loop-holds
+    mul-x
+    element-copy-out-x
+    marked-for-requires
     returns
-    marked-requires-2
-    returns-2
-    marked-requires-3
-    returns-3
-    marked-requires-4
-    returns-4
-    marked-requires-5
-    returns-5
-    marked-requires-6
-    returns-6)
+    add-next
+    next-requires-2
+    loop-less
+    loop-again
+    returns-2)

@@ -7,21 +7,18 @@ use borrow.Author.Needs.{needs}
 use Rattle.position.proofs.Position.give.Statement.{statement}
 use Rattle.position.proofs.Position.give.Tie as tie
 
-view-requires : tie.Need-view-requires
-view-requires c κs = search needs
-
 destination-number-requires : tie.Need-destination-number-requires
 destination-number-requires c κs = search needs
 
 give-refusal-requires : tie.Need-give-refusal-requires
-give-refusal-requires c κs = (c .before .before .before .before .pre .0, (c .before .before .before .before .pre .1 .0, (c .before .before .before .before .pre .1 .1 .0, (c .before .view .ensures, c .before .before .before .before .pre .1 .1 .1 .0))))
+give-refusal-requires c κs = let p = c .before .before .before .pre in (p .0, (p .1 .0, (p .1 .1 .0, (p .1 .1 .1 .0, p .1 .1 .1 .1 .0))))
 
 returns : tie.Need-returns
 unfolding stepRefusal tests conductAllows
 returns c = refuses _ _ _ _ _ (rw (← (c .before .before .destination-number .ensures .0)) (c .before .give-refusal .ensures)) (c .if1 .taken)
 
 with-key-requires : tie.Need-with-key-requires
-with-key-requires c κs = (rw (c .before .before .destination-number .ensures .0) (c .before .before .before .before .before .before .pre .1 .1 .1 .1), c .before .before .before .before .before .before .pre .1 .1 .1 .0)
+with-key-requires c κs = let p = c .before .before .before .before .before .pre in (rw (c .before .before .destination-number .ensures .0) (p .1 .1 .1 .1 .1), p .1 .1 .1 .1 .0)
 
 returns-2 : tie.Need-returns-2
 unfolding stepRefusal tests conductAllows effect afterGive
@@ -31,7 +28,6 @@ pub give-spec : {M : Type 1} → statement M
 give-spec =
     tie.close
     (tie.spec
-    view-requires
     destination-number-requires
     give-refusal-requires
     returns

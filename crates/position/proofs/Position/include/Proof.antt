@@ -7,21 +7,18 @@ use borrow.Author.Needs.{needs}
 use Rattle.position.proofs.Position.include.Statement.{statement}
 use Rattle.position.proofs.Position.include.Tie as tie
 
-view-requires : tie.Need-view-requires
-view-requires c κs = search needs
-
 wide-requires : tie.Need-wide-requires
 wide-requires c κs = search needs
 
 include-refusal-requires : tie.Need-include-refusal-requires
-include-refusal-requires c κs = (c .before .before .before .before .pre .0, (c .before .before .before .before .pre .1 .0, (c .before .before .before .before .pre .1 .1 .0, (c .before .view .ensures, rw (c .wide .ensures .is) (c .before .before .before .before .pre .1 .1 .1)))))
+include-refusal-requires c κs = let p = c .before .before .before .pre in (p .0, (p .1 .0, (p .1 .1 .0, (p .1 .1 .1 .0, rw (c .wide .ensures .is) (p .1 .1 .1 .1)))))
 
 returns : tie.Need-returns
 unfolding stepRefusal tests
 returns c = refuses _ _ _ _ _ (rw (← (c .before .before .wide .ensures .is)) (c .before .include-refusal .ensures)) (c .if1 .taken)
 
 after-include-requires : tie.Need-after-include-requires
-after-include-requires c κs = rw (c .before .before .wide .ensures .is) (omega (arith, c .before .before .before .before .before .before .pre .1 .1 .1, c .before .before .before .before .before .before .pre .0 .few))
+after-include-requires c κs = let p = c .before .before .before .before .before .pre in rw (c .before .before .wide .ensures .is) (omega (arith, p .1 .1 .1 .1, p .0 .few))
 
 returns-2 : tie.Need-returns-2
 unfolding stepRefusal tests effect
@@ -31,7 +28,6 @@ pub include-spec : {M : Type 1} → statement M
 include-spec =
     tie.close
     (tie.spec
-    view-requires
     wide-requires
     include-refusal-requires
     returns

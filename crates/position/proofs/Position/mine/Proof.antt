@@ -10,11 +10,8 @@ use borrow.Author.Needs.{needs}
 use Rattle.position.proofs.Position.mine.Statement.{statement}
 use Rattle.position.proofs.Position.mine.Tie as tie
 
-view-requires : tie.Need-view-requires
-view-requires c κs = search needs
-
 mine-refusal-requires : tie.Need-mine-refusal-requires
-mine-refusal-requires c κs = (c .before .before .before .pre .0, (c .before .before .before .pre .1 .0, (c .before .before .before .pre .1 .1, c .view .ensures)))
+mine-refusal-requires c κs = let p = c .before .before .pre in (p .0, (p .1 .0, (p .1 .1 .0, p .1 .1 .1)))
 
 returns : tie.Need-returns
 unfolding stepRefusal tests
@@ -22,7 +19,7 @@ returns c = refuses _ _ _ _ _ (c .before .mine-refusal .ensures) (c .if1 .taken)
 
 after-mine-requires : tie.Need-after-mine-requires
 unfolding mineTests
-after-mine-requires c κs = (c .before .before .before .before .before .pre .0, (c .before .before .view .ensures, ltb-true _ _ (passed _ refl (sym (c .before .mine-refusal .ensures) ∙ c .if1 .left) 23)))
+after-mine-requires c κs = let p = c .before .before .before .before .pre in (p .0, (p .1 .1 .1, ltb-true _ _ (passed _ refl (sym (c .before .mine-refusal .ensures) ∙ c .if1 .left) 23)))
 
 returns-2 : tie.Need-returns-2
 unfolding stepRefusal tests effect
@@ -32,7 +29,6 @@ pub mine-spec : {M : Type 1} → statement M
 mine-spec =
     tie.close
     (tie.spec
-    view-requires
     mine-refusal-requires
     returns
     after-mine-requires

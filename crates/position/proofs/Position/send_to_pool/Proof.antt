@@ -7,9 +7,6 @@ use borrow.Author.Needs.{needs}
 use Rattle.position.proofs.Position.send_to_pool.Statement.{statement}
 use Rattle.position.proofs.Position.send_to_pool.Tie as tie
 
-view-requires : tie.Need-view-requires
-view-requires c κs = search needs
-
 destination-number-requires : tie.Need-destination-number-requires
 destination-number-requires c κs = search needs
 
@@ -17,14 +14,14 @@ wide-requires : tie.Need-wide-requires
 wide-requires c κs = search needs
 
 pool-refusal-requires : tie.Need-pool-refusal-requires
-pool-refusal-requires c κs = (c .before .before .before .before .before .pre .0, (c .before .before .before .before .before .pre .1 .0, (c .before .before .before .before .before .pre .1 .1 .0, (c .before .before .before .before .before .pre .1 .1 .1 .0, (c .before .before .view .ensures, (c .before .before .before .before .before .pre .1 .1 .1 .1 .0, rw (c .wide .ensures .is) (c .before .before .before .before .before .pre .1 .1 .1 .1 .1)))))))
+pool-refusal-requires c κs = let p = c .before .before .before .before .pre in (p .0, (p .1 .0, (p .1 .1 .0, (p .1 .1 .1 .0, (p .1 .1 .1 .1 .0, (p .1 .1 .1 .1 .1 .0, rw (c .wide .ensures .is) (p .1 .1 .1 .1 .1 .1)))))))
 
 returns : tie.Need-returns
 unfolding stepRefusal tests conductAllows
 returns c = refuses _ _ _ _ _ (rw (← (c .before .before .wide .ensures .is), ← (c .before .before .before .destination-number .ensures .0)) (c .before .pool-refusal .ensures)) (c .if1 .taken)
 
 after-send-requires : tie.Need-after-send-requires
-after-send-requires c κs = (c .before .before .before .before .before .before .before .pre .0, (rw (c .before .before .wide .ensures .is) (c .before .before .before .before .before .before .before .pre .1 .1 .1 .1 .1), c .before .before .before .destination-number .ensures .1))
+after-send-requires c κs = let p = c .before .before .before .before .before .before .pre in (p .0, (rw (c .before .before .wide .ensures .is) (p .1 .1 .1 .1 .1 .1), c .before .before .before .destination-number .ensures .1))
 
 returns-2 : tie.Need-returns-2
 unfolding stepRefusal tests conductAllows effect
@@ -34,7 +31,6 @@ pub send-to-pool-spec : {M : Type 1} → statement M
 send-to-pool-spec =
     tie.close
     (tie.spec
-    view-requires
     destination-number-requires
     wide-requires
     pool-refusal-requires

@@ -1,50 +1,93 @@
--- One share after the other.
-use Rattle.laws.specs.Booleans.{tests}
-use Rattle.position.specs.Effect.{shareEach}
+-- Those from t on, the next of the set, are left to share.
+use Rattle.position.proofs.FirstSets.{membersFrom, first-low, share-start, share-more, share-done}
 use Rattle.position.specs.FirstShares.{firstShares}
-use borrow.Author.Tests.{eq-eqb, ne-eqb}
+use Rattle.position.specs.Effect.{shareEach, withSlots}
+use Rattle.position.specs.Position.{slot, keys}
+use Rattle.laws.specs.Mask.{bit}
+use mathlib.Core.Path.{_≡_}
+use mathlib.Core.Bool.{true}
+use Prim.Native.Nat.{_≤_, _<_, _-_}
 use borrow.Author.Needs.{needs}
 use Rattle.position.proofs.Position.share_first.Statement.{statement}
 use Rattle.position.proofs.Position.share_first.Tie as tie
-use Rattle.position.proofs.Position.share_first.Reads as reads
-use Rattle.position.proofs.Position.share_first.Lts as lts
-use Rattle.position.proofs.Position.share_one.Reads as share-one-reads
 
-share-one-requires : tie.Need-share-one-requires
-share-one-requires c κs = search needs
+abbrev Inv-loop : tie.InvT-loop
+Inv-loop sheet party self₀ set held t₀ self t =
+    (t ≤ 32) × (t < 32 → bit set t ≡ true) × (held ≡ keys self party)
+    × (shareEach sheet party (membersFrom set t) self ≡ shareEach sheet party (firstShares party) self₀)
 
-share-one-requires-2 : tie.Need-share-one-requires-2
-share-one-requires-2 c κs = search needs
+abbrev μ-loop : tie.MeasureT-loop
+μ-loop sheet party self₀ set held t₀ self t = 32 - t
 
-returns : tie.Need-returns
-unfolding shareEach firstShares
-returns c = rw (eq-eqb _ _ (c .before .before .if1 .taken), ← (c .before .share-one .ensures)) (c .share-one2 .ensures)
+first-shares-requires : tie.Need-first-shares-requires Inv-loop μ-loop
+first-shares-requires c κs = search needs
 
-share-one-requires-3 : tie.Need-share-one-requires-3
-share-one-requires-3 c κs = search needs
+keys-requires : tie.Need-keys-requires Inv-loop μ-loop
+keys-requires c κs = search needs
 
-share-one-requires-4 : tie.Need-share-one-requires-4
-share-one-requires-4 c κs = search needs
+next-requires : tie.Need-next-requires Inv-loop μ-loop
+next-requires c κs = search needs
 
-share-one-requires-5 : tie.Need-share-one-requires-5
-share-one-requires-5 c κs = search needs
+loop-holds : tie.Need-loop-holds Inv-loop μ-loop
+loop-holds c = (c .next .ensures .high, c .next .ensures .here, c .before .keys .ensures, share-start _ _ _ _ _ (c .before .before .first-shares .ensures) (c .next .ensures))
 
-share-one-requires-6 : tie.Need-share-one-requires-6
-share-one-requires-6 c κs = search needs
+mul-x : tie.Need-mul-x Inv-loop μ-loop
+mul-x c = search needs
 
-returns-2 : tie.Need-returns-2
-unfolding shareEach firstShares
-returns-2 c = rw (ne-eqb _ _ (c .before .before .before .before .if1 .left), ← (c .before .before .before .share-one3 .ensures), ← (c .before .before .share-one4 .ensures), ← (c .before .share-one5 .ensures)) (c .share-one6 .ensures)
+element-copy-out-x : tie.Need-element-copy-out-x Inv-loop μ-loop
+element-copy-out-x c = search needs
+
+shared-slot-requires : tie.Need-shared-slot-requires Inv-loop μ-loop
+shared-slot-requires c κs =
+    let l = c .before .loop-test .taken in
+    let low = first-low _ _ (c .before .before .before .before .before .first-shares .ensures) _ l (c .before .before .loop .inv .1 l) in
+    search (needs, low)
+
+mul-shared : tie.Need-mul-shared Inv-loop μ-loop
+mul-shared c = search needs
+
+element-set-from-shared : tie.Need-element-set-from-shared Inv-loop μ-loop
+element-set-from-shared c = search needs
+
+add-next : tie.Need-add-next Inv-loop μ-loop
+add-next c = search needs
+
+next-requires-2 : tie.Need-next-requires-2 Inv-loop μ-loop
+next-requires-2 c κs = search needs
+
+loop-less : tie.Need-loop-less Inv-loop μ-loop
+loop-less c = search needs
+
+loop-again : tie.Need-loop-again Inv-loop μ-loop
+unfolding slot keys withSlots
+loop-again c =
+    let l = c .before .before .before .loop-test .taken in (
+      c .next2 .ensures .high,
+      c .next2 .ensures .here,
+      c .before .before .before .before .loop .inv .2,
+      share-more _ _ _ _ _ _ (c .before .before .before .before .loop .inv .3) l (c .before .before .before .before .loop .inv .1 l) _ _ (c .before .before .before .before .loop .inv .2) (c .before .shared-slot .ensures) _ (c .next2 .ensures),
+    )
+
+returns : tie.Need-returns Inv-loop μ-loop
+returns c = share-done _ _ _ _ _ _ (c .before .loop .inv .3) (c .loop-test .left)
 
 pub share-first-spec : {M : Type 1} → statement M
 share-first-spec =
     tie.close
     (tie.spec
-    share-one-requires
-    share-one-requires-2
-    returns
-    share-one-requires-3
-    share-one-requires-4
-    share-one-requires-5
-    share-one-requires-6
-    returns-2)
+    Inv-loop
+    μ-loop
+    first-shares-requires
+    keys-requires
+    next-requires
+    loop-holds
+    mul-x
+    element-copy-out-x
+    shared-slot-requires
+    mul-shared
+    element-set-from-shared
+    add-next
+    next-requires-2
+    loop-less
+    loop-again
+    returns)

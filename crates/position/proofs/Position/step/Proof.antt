@@ -17,7 +17,7 @@ enum-known-x : tie.Need-enum-known-x
 enum-known-x c = search needs
 
 take-requires : tie.Need-take-requires
-take-requires c κs = (c .before .before .before .before .before .before .pre .0, (c .before .before .before .before .before .before .pre .1 .0, (c .before .before .before .before .before .before .pre .1 .1 .0, (c .before .before .before .before .before .before .pre .1 .1 .1, decodes _ _ _ _ _ _ _ (sym (c .before .before .before .decode .ensures) ∙ c .before .x .given .1) .fields))))
+take-requires c κs = let p = c .before .before .before .before .before .before .pre in (p .0, (p .1 .0, (p .1 .1 .0, (p .1 .1 .1 .0, (p .1 .1 .1 .1, decodes _ _ _ _ _ _ _ (sym (c .before .before .before .decode .ensures) ∙ c .before .x .given .1) .fields)))))
 
 enum-told : tie.Need-enum-told
 enum-told c = search needs

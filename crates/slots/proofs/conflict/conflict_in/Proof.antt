@@ -1,17 +1,29 @@
--- None in the empty set; else each is looked at.
-use Rattle.slots.proofs.ConflictSets.{conflictIn-none}
+-- An opening itself, or a child of its parent.
+use Rattle.slots.proofs.ByParents.{answer-opening, answer-child}
+use mathlib.Core.Path.{sym, _∙_}
 use borrow.Author.Needs.{needs}
 use Rattle.slots.proofs.conflict.conflict_in.Statement.{statement}
 use Rattle.slots.proofs.conflict.conflict_in.Tie as tie
 
-returns : tie.Need-returns
-returns c = conflictIn-none _ _ _ (c .if1 .taken)
+opening-requires : tie.Need-opening-requires
+opening-requires c κs = search needs
 
-conflict-among-requires : tie.Need-conflict-among-requires
-conflict-among-requires c κs = search needs
+has-requires : tie.Need-has-requires
+has-requires c κs = search needs
+
+returns : tie.Need-returns
+returns c = c .has .ensures ∙ answer-opening _ _ _ (c .before .before .before .before .pre .1) (sym (c .before .before .opening .ensures) ∙ c .before .if1 .taken)
+
+parent-requires : tie.Need-parent-requires
+parent-requires c κs = search needs
+
+child-in-requires : tie.Need-child-in-requires
+child-in-requires c κs = search needs
 
 returns-2 : tie.Need-returns-2
-returns-2 c = c .conflict-among .ensures
+returns-2 c = c .child-in .ensures ∙ answer-child _ _ _ _ (sym (c .before .before .before .opening .ensures) ∙ c .before .before .if1 .left) (c .before .parent .ensures .is)
 
 pub conflict-in-spec : {M : Type 1} → statement M
-conflict-in-spec = tie.close (tie.spec returns conflict-among-requires returns-2)
+conflict-in-spec =
+    tie.close
+    (tie.spec opening-requires has-requires returns parent-requires child-in-requires returns-2)

@@ -1,64 +1,22 @@
--- The least lock height of a rival above the own one. The best of those below k.
-use Rattle.slots.specs.Deadline.{deadline}
-use Rattle.slots.specs.Conflict.{conflict}
-use Rattle.sheet.specs.LockHeight.{never, lockHeight}
-use Rattle.laws.specs.Least.{leastBelow, least-start, least-more, least-done}
-use lib.Dec.{ltb}
-use mathlib.Core.Bool.{_&&_}
-use mathlib.Core.Path.{_≡_}
-use native.Mathlib.Omega.{arith}
-use native.Mathlib.Nat.{min-le-left}
-use Prim.Native.Nat.{_≤_, _-_}
+-- None for an opening; else the least of its rivals' that are above the own one.
+use Rattle.slots.proofs.Deadlines.{deadline-opening}
+use mathlib.Core.Path.{sym, _∙_}
 use borrow.Author.Needs.{needs}
 use Rattle.slots.proofs.deadline.deadline.Statement.{statement}
 use Rattle.slots.proofs.deadline.deadline.Tie as tie
 
-abbrev Inv-loop : tie.InvT-loop
-Inv-loop sheet per-day since t own n best₀ k₀ best k = (k ≤ n) × (best ≡ leastBelow k (λ j. conflict sheet j t && ltb own (lockHeight sheet per-day (λ i. since) j)) (lockHeight sheet per-day (λ i. since)) never) × (best ≤ never)
+opening-requires : tie.Need-opening-requires
+opening-requires c κs = search needs
 
-abbrev μ-loop : tie.MeasureT-loop
-μ-loop sheet per-day since t own n best₀ k₀ best k = n - k
+returns : tie.Need-returns
+returns c = record { is = deadline-opening _ _ _ _ (sym (c .before .opening .ensures) ∙ c .if1 .taken); small = search needs }
 
-lock-height-requires : tie.Need-lock-height-requires Inv-loop μ-loop
-lock-height-requires c κs = search needs
+deadline-among-requires : tie.Need-deadline-among-requires
+deadline-among-requires c κs = let h = sym (c .before .opening .ensures) ∙ c .if1 .left in search needs
 
-count-requires : tie.Need-count-requires Inv-loop μ-loop
-count-requires c κs = search needs
-
-loop-holds : tie.Need-loop-holds Inv-loop μ-loop
-loop-holds c = (search needs, least-start _ _ _, search needs)
-
-rival-height-requires : tie.Need-rival-height-requires Inv-loop μ-loop
-rival-height-requires c κs = search needs
-
-lower-requires : tie.Need-lower-requires Inv-loop μ-loop
-lower-requires c κs = search needs
-
-add-k : tie.Need-add-k Inv-loop μ-loop
-add-k c = search needs
-
-loop-less : tie.Need-loop-less Inv-loop μ-loop
-loop-less c = search needs
-
-loop-again : tie.Need-loop-again Inv-loop μ-loop
-loop-again c = (search needs, least-more _ _ _ _ _ _ _ (c .before .before .before .loop .inv .1) (c .before .rival-height .ensures .is) (c .lower .ensures), omega (arith, c .before .before .before .loop .inv .2, c .lower .ensures, min-le-left (c .before .before .before .loop .best) (c .before .rival-height .result)))
-
-returns : tie.Need-returns Inv-loop μ-loop
-unfolding deadline
-returns c = record { is = rw (← (c .before .before .count .ensures .is), ← (c .before .before .before .lock-height .ensures .is)) (least-done _ _ _ _ _ _ (c .before .loop .inv .0) (c .loop-test .left) (c .before .loop .inv .1)); small = c .before .loop .inv .2 }
+returns-2 : tie.Need-returns-2
+returns-2 c = c .deadline-among .ensures
 
 pub deadline-spec : {M : Type 1} → statement M
 deadline-spec =
-    tie.close
-    (tie.spec
-    Inv-loop
-    μ-loop
-    lock-height-requires
-    count-requires
-    loop-holds
-    rival-height-requires
-    lower-requires
-    add-k
-    loop-less
-    loop-again
-    returns)
+    tie.close (tie.spec opening-requires returns deadline-among-requires returns-2)

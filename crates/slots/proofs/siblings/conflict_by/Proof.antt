@@ -18,7 +18,7 @@ has-requires-2 : tie.Need-has-requires-2
 has-requires-2 c κs = search needs
 
 returns-2 : tie.Need-returns-2
-returns-2 c = c .has2 .ensures ∙ answer-parent _ _ _ _ _ (sym (c .before .before .before .before .has .ensures) ∙ c .before .before .before .if1 .left) (c .before .before .before .before .before .before .pre .1 .1) (c .before .before .parent .ensures .is) (c .before .if2 .taken)
+returns-2 c = c .has2 .ensures ∙ answer-parent _ _ _ _ _ (c .before .before .before .before .before .before .pre .1 .1) (c .before .before .parent .ensures .is) (c .before .if2 .taken)
 
 returns-3 : tie.Need-returns-3
 returns-3 c = by-opening _ _ _ (sym (c .before .before .before .before .has .ensures) ∙ c .before .before .before .if1 .left) (sym (c .before .before .parent .ensures .is) ∙ c .if3 .taken)

@@ -4,26 +4,23 @@ use borrow.Author.Needs.{needs}
 use Rattle.swap.proofs.empty_blocks.empty_row.Statement.{statement}
 use Rattle.swap.proofs.empty_blocks.empty_row.Tie as tie
 
-view-requires : tie.Need-view-requires
-view-requires c κs = c .before .before .before .pre .1 .0 .checked .sized
-
 returns : tie.Need-returns
-returns c = row-none _ _ _ _ _ _ (c .before .before .before .before .before .before .pre .1 .1 .0) (search needs)
+returns c = row-none _ _ _ _ _ _ (c .before .before .before .before .before .pre .1 .1 .1 .0) (search needs)
 
 has-requires : tie.Need-has-requires
 has-requires c κs = search needs
 
 returns-2 : tie.Need-returns-2
-returns-2 c = row-none _ _ _ _ _ _ (c .before .before .before .before .before .before .before .before .pre .1 .1 .0) (search needs)
+returns-2 c = row-none _ _ _ _ _ _ (c .before .before .before .before .before .before .before .pre .1 .1 .1 .0) (search needs)
 
 last-unowed-requires : tie.Need-last-unowed-requires
-last-unowed-requires c κs = let p = c .before .before .before .before .before .before .before .before .pre in (p .1 .0 .checked .sized, (p .0, c .before .before .before .before .view .ensures))
+last-unowed-requires c κs = let p = c .before .before .before .before .before .before .before .pre in (p .1 .0 .checked .sized, (p .0, p .1 .1 .0))
 
 wide-requires : tie.Need-wide-requires
 wide-requires c κs = search needs
 
 returns-3 : tie.Need-returns-3
-returns-3 c = row-none _ _ _ _ _ _ (c .before .before .before .before .before .before .before .before .before .before .before .pre .1 .1 .0) (search needs)
+returns-3 c = row-none _ _ _ _ _ _ (c .before .before .before .before .before .before .before .before .before .before .pre .1 .1 .1 .0) (search needs)
 
 sub-row-stop : tie.Need-sub-row-stop
 sub-row-stop c = search needs
@@ -42,14 +39,13 @@ sub-result c = search needs
 
 returns-4 : tie.Need-returns-4
 returns-4 c =
-    let p = c .before .before .before .before .before .before .before .before .before .before .before .before .before .pre in
-    row-some _ _ (p .1 .0 .checked .sized .few) _ _ _ _ _ _ _ _ _ _ (p .1 .0 .checked .some) (c .before .before .before .before .before .before .before .before .before .view .ensures) (c .before .before .before .before .before .before .before .if1 .left) (c .before .before .before .before .before .before .has .ensures) (c .before .before .before .before .before .if2 .left) (c .before .before .before .before .last-unowed .ensures) (c .before .before .before .wide .ensures .0) (c .before .before .if3 .left) (c .before .row-stop .ensures .1) (c .before .row-stop .ensures .2) (p .1 .1 .1) (c .row-end .ensures)
+    let p = c .before .before .before .before .before .before .before .before .before .before .before .before .pre in
+    row-some _ _ (p .1 .0 .checked .sized .few) _ _ _ _ _ _ _ _ _ _ (p .1 .0 .checked .some) (p .1 .1 .0) (c .before .before .before .before .before .before .before .if1 .left) (c .before .before .before .before .before .before .has .ensures) (c .before .before .before .before .before .if2 .left) (c .before .before .before .before .last-unowed .ensures) (c .before .before .before .wide .ensures .0) (c .before .before .if3 .left) (c .before .row-stop .ensures .1) (c .before .row-stop .ensures .2) (p .1 .1 .1 .1) (c .row-end .ensures)
 
 pub empty-row-spec : {M : Type 1} → statement M
 empty-row-spec =
     tie.close
     (tie.spec
-    view-requires
     returns
     has-requires
     returns-2

@@ -8,7 +8,7 @@ sub-if1 : tie.Need-sub-if1
 sub-if1 c = search needs
 
 returns : tie.Need-returns
-returns c = row-none _ _ _ _ _ _ (c .before .before .before .before .pre .1 .1 .0) (search needs)
+returns c = row-none _ _ _ _ _ _ (c .before .before .before .before .pre .1 .1 .1 .0) (search needs)
 
 mul-is-mine : tie.Need-mul-is-mine
 mul-is-mine c = search needs
@@ -17,7 +17,7 @@ is-mine-requires : tie.Need-is-mine-requires
 is-mine-requires c κs = search needs
 
 returns-2 : tie.Need-returns-2
-returns-2 c = row-none _ _ _ _ _ _ (c .before .before .before .before .before .before .pre .1 .1 .0) (search needs)
+returns-2 c = row-none _ _ _ _ _ _ (c .before .before .before .before .before .before .pre .1 .1 .1 .0) (search needs)
 
 mul-is-mine-2 : tie.Need-mul-is-mine-2
 mul-is-mine-2 c = search needs
@@ -29,7 +29,7 @@ is-mine-requires-2 : tie.Need-is-mine-requires-2
 is-mine-requires-2 c κs = search needs
 
 returns-3 : tie.Need-returns-3
-returns-3 c = row-none _ _ _ _ _ _ (c .before .before .before .before .before .before .before .before .pre .1 .1 .0) (search needs)
+returns-3 c = row-none _ _ _ _ _ _ (c .before .before .before .before .before .before .before .before .pre .1 .1 .1 .0) (search needs)
 
 empty-row-requires : tie.Need-empty-row-requires
 empty-row-requires c κs = c .before .before .before .before .before .before .before .before .pre

@@ -1,8 +1,8 @@
 -- The four bytes from place i on.
 use Rattle.position.specs.Journal.{stepAt}
 use borrow.Author.Needs.{needs}
-use Rattle.position.proofs.journal.step_at.Statement.{statement}
-use Rattle.position.proofs.journal.step_at.Tie as tie
+use Rattle.position.proofs.journal.step_in_view.Statement.{statement}
+use Rattle.position.proofs.journal.step_in_view.Tie as tie
 
 shared-slice-read-step : tie.Need-shared-slice-read-step
 shared-slice-read-step c = search needs
@@ -29,14 +29,14 @@ step-requires : tie.Need-step-requires
 step-requires c κs =
     let p = c .before .before .before .before .before .before .before .pre in
     let f = p .1 .0 in
-    (f .checked .sized, (f .checked .signatures-few, (p .0, f)))
+    (f .checked .sized, (f .checked .signatures-few, (p .0, (f, p .1 .1 .0))))
 
 returns : tie.Need-returns
 unfolding stepAt
 returns c = c .step .ensures
 
-pub step-at-spec : {M : Type 1} → statement M
-step-at-spec =
+pub step-in-view-spec : {M : Type 1} → statement M
+step-in-view-spec =
     tie.close
     (tie.spec
     shared-slice-read-step

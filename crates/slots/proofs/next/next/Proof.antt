@@ -1,13 +1,13 @@
 -- Past the end, no member, or the lowest bit that is left.
-use Rattle.readings.proofs.Trailing.{next-past, next-none, next-some}
+use Rattle.slots.proofs.Trailing.{next-past, next-none, next-some}
 use lib.Count.{trailing-le}
 use mathlib.Core.Path.{refl}
 use Prim.Native.Nat.{_/_, _^_}
 use borrow.Author.Needs.{needs}
-use Rattle.readings.proofs.next.next.Statement.{statement}
-use Rattle.readings.proofs.next.next.Tie as tie
-use Rattle.readings.proofs.next.next.Reads as reads
-use Rattle.readings.proofs.next.next.Lts as lts
+use Rattle.slots.proofs.next.next.Statement.{statement}
+use Rattle.slots.proofs.next.next.Tie as tie
+use Rattle.slots.proofs.next.next.Reads as reads
+use Rattle.slots.proofs.next.next.Lts as lts
 
 returns : tie.Need-returns
 returns c = next-past _ _ _ (c .before .pre .0) (c .if1 .taken)

@@ -1,0 +1,63 @@
+-- A transaction that is neither in the pool nor in the block: a mined block and a bump leave its slot as it is.
+-- Assumes nothing.
+use Prim.Native.Nat.{ℕ, _≤_, _<_}
+use native.Mathlib.Omega.{arith}
+use mathlib.Core.Path.{_≡_, sym, ap, _∙_}
+use mathlib.Core.Bool.{true, false}
+use mathlib.Core.List.{List}
+use lib.Bits.{bitOr}
+use borrow.Author.Tests.{ltb-false}
+use Rattle.laws.specs.Booleans.{or-neither}
+use Rattle.laws.specs.Mask.{bit}
+use Rattle.laws.specs.Bits.{bit-or}
+use Rattle.laws.specs.Sets.{setBelow, set-bit}
+use Rattle.sheet.specs.Field.{count}
+use Rattle.slots.specs.declared.Slot.{Slot}
+use Rattle.slots.specs.Slot.{standing}
+use Rattle.slots.specs.Ancestry.{inAncestry}
+use Rattle.slots.specs.Line.{lineSet}
+use Rattle.steps.specs.declared.View.{View}
+use Rattle.steps.specs.Blocks.{confirmEntry, minedSlot, bumpedSlot, changedSlot, entersIn, Outside}
+use Rattle.steps.proofs.Unmoved.{pool-out, block-out}
+use Rattle.position.specs.declared.Position.{Position}
+use Rattle.position.specs.Position.{slot, inPool, inBlock}
+use Rattle.position.specs.View.{viewBelow}
+
+no-entry : (n : ℕ) → standing n ≡ false → n ≡ 0
+unfolding standing
+no-entry n h = omega (arith, ltb-false 0 n h)
+
+pub confirm-none : (s : List ℕ) (b t : ℕ) (x : Slot) → x .block ≡ 0 → confirmEntry s b t x ≡ x
+unfolding confirmEntry standing
+confirm-none s b t x e = rw e
+
+-- where v is the view of a position
+module _ (s : List ℕ) (p : Position) (v : View) (few : count s ≤ 32) (e : v ≡ viewBelow (count s) p) where
+  pub outside : (t : ℕ) → t < count s → bit (bitOr (v .pool) (v .block)) t ≡ false → (bit (v .pool) t ≡ false) × (slot p t .pool ≡ 0) × (slot p t .block ≡ 0)
+  unfolding viewBelow inPool inBlock
+  outside t l h =
+      let w = or-neither (bit (v .pool) t) (bit (v .block) t) (sym (bit-or (v .pool) (v .block) t) ∙ h) in (
+        w .0,
+        no-entry (slot p t .pool) (sym (set-bit (count s) (inPool p) few t l) ∙ ap (λ (x : View). bit (x .pool) t) (sym e) ∙ w .0),
+        no-entry (slot p t .block) (sym (set-bit (count s) (inBlock p) few t l) ∙ ap (λ (x : View). bit (x .block) t) (sym e) ∙ w .1),
+      )
+
+  pub mined-outside : (b m : ℕ) → Outside s (record { mine = true; block = b; entering = 0; leaving = m }) (bitOr (v .pool) (v .block)) (p .slots)
+  unfolding changedSlot minedSlot slot
+  mined-outside b m =
+      record {
+        same = λ t l h.
+            let w = outside t l h in
+            rw (confirm-none s b t (slot p t) (w .2)) (sym (pool-out (inAncestry s (bit m) t) (slot p t) (w .1)));
+      }
+
+  pub bumped-outside : (t n m : ℕ) → n ≡ setBelow (count s) (entersIn v (lineSet s t))
+      → Outside s (record { mine = false; block = 0; entering = n; leaving = m }) (bitOr (v .pool) (v .block)) (p .slots)
+  unfolding changedSlot bumpedSlot slot entersIn
+  bumped-outside t n m f =
+      record {
+        same = λ k l h.
+            let w = outside k l h in
+            let stays : bit n k ≡ false = ap (λ x. bit x k) f ∙ set-bit (count s) (entersIn v (lineSet s t)) few k l ∙ rw (w .0) in
+            rw stays (sym (block-out (inAncestry s (bit m) k) (slot p k) (w .2)));
+      }

@@ -1,0 +1,65 @@
+-- None below k, the next of the set, is a child.
+use Rattle.slots.proofs.Children.{child-first, child-next, child-found}
+use Rattle.sheet.specs.Parents.{isParentBelow}
+use Rattle.laws.specs.Below.{any-done}
+use Rattle.laws.specs.Mask.{bit}
+use mathlib.Core.Bool.{true, false}
+use mathlib.Core.Path.{_≡_}
+use Prim.Native.Nat.{_≤_, _<_, _-_}
+use borrow.Author.Needs.{needs}
+use Rattle.slots.proofs.conflict.child_in.Statement.{statement}
+use Rattle.slots.proofs.conflict.child_in.Tie as tie
+
+abbrev Inv-loop : tie.InvT-loop
+Inv-loop sheet there up n k₀ k = (k ≤ n) × (k < n → bit there k ≡ true) × (isParentBelow sheet (bit there) k up ≡ false)
+
+abbrev μ-loop : tie.MeasureT-loop
+μ-loop sheet there up n k₀ k = n - k
+
+count-requires : tie.Need-count-requires Inv-loop μ-loop
+count-requires c κs = search needs
+
+next-requires : tie.Need-next-requires Inv-loop μ-loop
+next-requires c κs = search needs
+
+loop-holds : tie.Need-loop-holds Inv-loop μ-loop
+loop-holds c = (c .next .ensures .high, c .next .ensures .here, child-first _ _ _ _ _ (c .next .ensures))
+
+parent-requires : tie.Need-parent-requires Inv-loop μ-loop
+parent-requires c κs = search needs
+
+returns : tie.Need-returns Inv-loop μ-loop
+returns c = rw (← (c .before .before .before .before .before .count .ensures .is)) (child-found _ _ _ _ _ _ (c .before .before .loop-test .taken) (c .before .before .before .loop .inv .1 (c .before .before .loop-test .taken)) (c .before .parent .ensures .is) (c .if1 .taken))
+
+add-next : tie.Need-add-next Inv-loop μ-loop
+add-next c = search needs
+
+next-requires-2 : tie.Need-next-requires-2 Inv-loop μ-loop
+next-requires-2 c κs = search needs
+
+loop-less : tie.Need-loop-less Inv-loop μ-loop
+loop-less c = search needs
+
+loop-again : tie.Need-loop-again Inv-loop μ-loop
+loop-again c = (c .next2 .ensures .high, c .next2 .ensures .here, child-next _ _ _ _ _ _ _ (c .next2 .ensures) (c .before .before .before .before .loop .inv .2) (c .before .before .parent .ensures .is) (c .before .if1 .left))
+
+returns-2 : tie.Need-returns-2 Inv-loop μ-loop
+unfolding isParentBelow
+returns-2 c = rw (← (c .before .before .before .count .ensures .is)) (any-done _ _ _ _ (c .before .loop .inv .0) (c .loop-test .left) (c .before .loop .inv .2))
+
+pub child-in-spec : {M : Type 1} → statement M
+child-in-spec =
+    tie.close
+    (tie.spec
+    Inv-loop
+    μ-loop
+    count-requires
+    next-requires
+    loop-holds
+    parent-requires
+    returns
+    add-next
+    next-requires-2
+    loop-less
+    loop-again
+    returns-2)
