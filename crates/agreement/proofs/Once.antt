@@ -15,7 +15,7 @@ use Rattle.sheet.specs.Field.{count, parent, opening}
 use Rattle.sheet.specs.Checked.{Checked}
 use Rattle.slots.specs.Conflict.{conflict}
 use Rattle.slots.proofs.Parents.{parent-lower}
-use Rattle.slots.proofs.Conflicts.{conflict-parts, conflict-sym, same-opening}
+use Rattle.slots.proofs.Conflicts.{conflict-parts, conflict-parent, conflict-sym, same-opening}
 use Rattle.ledger.specs.Entry.{Entry}
 use Rattle.ledger.specs.Coin.{coinOf}
 use Rattle.ledger.specs.Ledger.{noneKept, ledger}
@@ -30,15 +30,12 @@ module _ (s : List ℕ) (perDay : ℕ) (ok : Checked s) where
       (λ q. ap (coinOf s) q)
       (λ w. coin-spend s ok f lf (w .0) ∙ ap (coinOf s) (w .1) ∙ sym (coin-spend s ok e le (sym (same-opening s f e (w .1)) ∙ w .0)))
 
-  same-parent : (e f : ℕ) → conflict s f e ≡ true → parent s f ≡ parent s e
-  same-parent e f c = either (conflict-parts s f e c) (λ q. ap (parent s) q) (λ w. w .1)
-
   -- a rival of f whose coin's kept entry has no lower number leaves f no fit
   no-fit : (e f : Entry) (last : Option Entry) (g : Entry) → e .transaction < count s → conflict s (f .transaction) (e .transaction) ≡ true
       → last ≡ some g → e .transaction ≤ g .transaction → Fit s perDay last f → ⊥
   no-fit e f last g le c k b (opens n o m) = none-some (sym n ∙ k)
   no-fit e f last g le c k b (spends a n o p m) =
-      let q = same-parent (e .transaction) (f .transaction) c in
+      let q = conflict-parent s (f .transaction) (e .transaction) c in
       let r : g .transaction ≡ parent s (f .transaction) = rw (some-same (sym n ∙ k)) at p in
       let d = parent-lower ok (e .transaction) le (sym (same-opening s (f .transaction) (e .transaction) q) ∙ o) in
       omega arith

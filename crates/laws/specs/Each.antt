@@ -64,3 +64,21 @@ rewrite-same (suc n) f g (x ∷ l) h = rw (h 0 x (omega arith), rewrite-same n (
 -- a list as long as what a map makes of it
 pub length-of-map : {A B : Type 0} (f : A → B) (l : List A) (n : ℕ) → length (map f l) ≡ n → length l ≡ n
 length-of-map f l n e = sym (length-map l f) ∙ e
+
+-- a rule that keeps what stands at each place below n
+pub rewrite-kept : {A : Type 0} (n : ℕ) (f : ℕ → A → A) (l : List A) (d : A) → ((i : ℕ) → i < n → f i (getD l i d) ≡ getD l i d) → rewriteFirst n f l ≡ l
+unfolding rewriteFirst
+rewrite-kept zero f l d h = refl
+rewrite-kept (suc n) f [] d h = refl
+rewrite-kept (suc n) f (x ∷ l) d h =
+    rw (h 0 (omega arith), rewrite-kept n (λ i. f (suc i)) l d (λ i m. h (suc i) (omega arith)))
+
+-- a rule that keeps what stands at each place from m up to n
+pub rewrite-upto : {A : Type 0} (m n : ℕ) (f : ℕ → A → A) (l : List A) (d : A) → m ≤ n → ((i : ℕ) → m ≤ i → i < n → f i (getD l i d) ≡ getD l i d)
+    → rewriteFirst m f l ≡ rewriteFirst n f l
+unfolding rewriteFirst
+rewrite-upto zero n f l d h k = sym (rewrite-kept n f l d (λ i b. k i (omega arith) b))
+rewrite-upto (suc m) zero f l d h k = absurd (omega (arith, h))
+rewrite-upto (suc m) (suc n) f [] d h k = refl
+rewrite-upto (suc m) (suc n) f (x ∷ l) d h k =
+    ap (λ r. f 0 x ∷ r) (rewrite-upto m n (λ i. f (suc i)) l d (omega (arith, h)) (λ i a b. k (suc i) (omega (arith, a)) (omega (arith, b))))

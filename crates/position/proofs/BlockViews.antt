@@ -30,7 +30,7 @@ use Rattle.position.specs.View.{viewBelow}
 use Rattle.position.specs.NextView.{AfterBlock}
 use Rattle.position.proofs.Changed.{all-length, all-slot}
 use Rattle.position.proofs.Views.{viewOf, view-of, view-same}
-use Rattle.position.proofs.Unions.{union-same}
+use Rattle.laws.specs.Unions.{union-same}
 use Rattle.position.proofs.NextViews.{Grows, grown-view, sharing-grows, any-pool, any-block}
 use Rattle.position.proofs.NoEntries.{confirm-none, outside}
 

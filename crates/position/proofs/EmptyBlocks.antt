@@ -4,6 +4,7 @@ use Prim.Native.Nat.{ℕ, _+_, _≤_, _<_}
 use mathlib.Core.Path.{_≡_, sym, _∙_}
 use mathlib.Core.Bool.{false}
 use mathlib.Core.List.{List}
+use Rattle.laws.specs.Each.{rewrite-kept}
 use Rattle.laws.specs.Booleans.{clash, fails-by}
 use Rattle.laws.specs.Below.{any-all-false}
 use Rattle.laws.specs.Bits.{no-bit}
@@ -14,7 +15,6 @@ use Rattle.slots.specs.Ancestry.{meetsConflict}
 use Rattle.slots.proofs.Ancestors.{meets-find}
 use Rattle.steps.specs.declared.View.{View}
 use Rattle.steps.specs.Blocks.{confirmEntry}
-use Rattle.steps.proofs.Kept.{rewrite-kept}
 use Rattle.position.specs.declared.Position.{Position}
 use Rattle.position.specs.Position.{slot, inPool, inBlock}
 use Rattle.position.specs.Owed.{waiting, owed, anyOwed}

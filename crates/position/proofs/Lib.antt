@@ -2,7 +2,6 @@ pub mod Opened
 pub mod Decoding
 pub mod StepCases
 pub mod Changed
-pub mod Unions
 pub mod Views
 pub mod NextViews
 pub mod Fits

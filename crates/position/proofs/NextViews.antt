@@ -34,7 +34,7 @@ use Rattle.position.specs.Play.{FourBytes, decodeBytes, step}
 use Rattle.position.specs.View.{viewBelow}
 use Rattle.position.specs.NextView.{changesOne, ChangedAt}
 use Rattle.position.proofs.Views.{viewOf, view-of}
-use Rattle.position.proofs.Unions.{or-has, union-grown, set-grown}
+use Rattle.laws.specs.Unions.{or-has, union-grown, set-grown}
 use Rattle.position.proofs.Changed.{one-other, one-slot}
 use Rattle.position.proofs.Decoding.{decodes}
 use Rattle.position.proofs.StepCases.{StepCase, taken, turned-down, step-case}

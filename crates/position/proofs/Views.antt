@@ -14,7 +14,7 @@ use Rattle.steps.specs.declared.View.{View}
 use Rattle.position.specs.Position.{slot, inPool, inBlock, blockOf, isConfirmed}
 use Rattle.steps.specs.View.{viewWith}
 use Rattle.position.specs.View.{viewBelow}
-use Rattle.position.proofs.Unions.{union-same, set-same}
+use Rattle.laws.specs.Unions.{union-same, set-same}
 
 -- the view of n slots, with the blocks mined and the keys held
 unfoldable pub viewOf : ℕ → (ℕ → Slot) → ℕ → ℕ → ℕ → View
