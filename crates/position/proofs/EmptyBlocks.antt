@@ -1,14 +1,16 @@
 -- A mined block with nothing in it alters nothing but the number of blocks.
 -- Assumes nothing.
 use Prim.Native.Nat.{ℕ, _+_, _≤_, _<_}
-use mathlib.Core.Path.{_≡_, sym, _∙_}
-use mathlib.Core.Bool.{false}
+use mathlib.Core.Path.{_≡_, sym, ap, _∙_}
+use mathlib.Core.Bool.{true, false, _||_}
 use mathlib.Core.List.{List}
 use Rattle.laws.specs.Each.{rewrite-kept}
-use Rattle.laws.specs.Booleans.{clash, fails-by}
+use lib.Bits.{bitOr}
+use Rattle.laws.specs.Booleans.{split, clash, fails-by}
+use Rattle.laws.specs.Mask.{bit}
 use Rattle.laws.specs.Below.{any-all-false}
-use Rattle.laws.specs.Bits.{no-bit}
-use Rattle.laws.specs.Sets.{set-bit}
+use Rattle.laws.specs.Bits.{no-bit, bit-or}
+use Rattle.laws.specs.Sets.{setBelow, set-bit}
 use Rattle.sheet.specs.Field.{count}
 use Rattle.slots.specs.Slot.{emptySlot, standing}
 use Rattle.slots.specs.Ancestry.{meetsConflict}
@@ -52,11 +54,18 @@ module _ (s u : List ℕ) (p : Position) (v : View) (few : count s ≤ 32) (e : 
   pub answer-empty : v .block ≡ 0 → withMined (p .mined + 1) p ≡ afterMine s p
   answer-empty h = sym (mine-empty s p few (rw e at h))
 
-  -- nothing waits in an empty pool
-  none-in-pool : v .pool ≡ 0 → (k : ℕ) → k < count s → inPool p k ≡ false
-  unfolding viewBelow
-  none-in-pool h k l = sym (set-bit (count s) (inPool p) few k l) ∙ rw (rw e at h) (no-bit k)
+  -- nothing waits outside the block that has the whole pool
+  none-waits : bitOr (v .pool) (v .block) ≡ v .block → (k : ℕ) → k < count s → waiting p k ≡ false
+  unfolding viewBelow waiting
+  none-waits h k l =
+      let pool = setBelow (count s) (inPool p) in
+      let block = setBelow (count s) (inBlock p) in
+      let w : bitOr pool block ≡ block = rw e at h in
+      let b : inBlock p k ≡ (inPool p k || inBlock p k) =
+      sym (set-bit (count s) (inBlock p) few k l) ∙ ap (λ (m : ℕ). bit m k) (sym w) ∙ bit-or pool block k
+      ∙ rw (set-bit (count s) (inPool p) few k l, set-bit (count s) (inBlock p) few k l) in
+      split (inPool p k) (λ a. let c : inBlock p k ≡ true = b ∙ rw a in rw (a, c)) (λ a. rw a)
 
-  pub answer-none-owed : v .pool ≡ 0 → false ≡ anyOwed s u p
-  unfolding anyOwed owed waiting
-  answer-none-owed h = sym (any-all-false (count s) (owed s u p) (λ k l. rw (none-in-pool h k l)))
+  pub answer-none-owed : bitOr (v .pool) (v .block) ≡ v .block → false ≡ anyOwed s u p
+  unfolding anyOwed owed
+  answer-none-owed h = sym (any-all-false (count s) (owed s u p) (λ k l. rw (none-waits h k l)))

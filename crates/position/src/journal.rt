@@ -46,6 +46,21 @@ pub fn start(sheet: &[u8]) -> Position
     }
 }
 
+// The view of the empty journal's position.
+pub fn start_view(sheet: &[u8]) -> View
+    ensures { λ r. ⌜ r ≡ viewBelow (count (now (sheet .entry))) (start (now (sheet .entry))) ⌝ }
+{
+    View {
+        pool: 0,
+        block: 0,
+        confirmed: 0,
+        mined: 0,
+        shared: 0,
+        alice: byte_or_zero(sheet, 3),
+        bob: byte_or_zero(sheet, 4),
+    }
+}
+
 // The step that starts at byte i of any bytes, where the view is at hand.
 pub fn step_in_view(
     position: Position,

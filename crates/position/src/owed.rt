@@ -46,14 +46,14 @@ impl Position {
         false
     }
 
-    // Whether any is. None is with an empty pool.
+    // Whether any is. None is where the whole pool is in the block.
     pub fn any_owed(self, sheet: &[u8], setup: &[u8], view: View) -> bool
         requires { ⌜ Sized (now sheet) ⌝ }
         requires { ⌜ length (now setup) ≡ 4 ⌝ }
         requires { ⌜ view ≡ viewBelow (count (now sheet)) self ⌝ }
         ensures { λ r. ⌜ r ≡ anyOwed (now (sheet .entry)) (now (setup .entry)) self ⌝ }
     {
-        if view.pool == 0 {
+        if view.pool | view.block == view.block {
             return false;
         }
         self.any_owed_among(sheet, setup, view)

@@ -7,6 +7,7 @@ use crate::single_steps::place_at;
 use position::Position;
 use position::Ran;
 use position::journal::start;
+use position::journal::start_view;
 use position::journal::step_in_view;
 use sheet::refusal;
 ghost use Prim.Native.Nat.{_<_};
@@ -63,7 +64,7 @@ fn played(sheet: &[u8], setup: &[u8], journal: &[u8]) -> Ran
 {
     let n = journal.len() / 4;
     let mut position = start(sheet);
-    let mut view = position.view(sheet);
+    let mut view = start_view(sheet);
     let mut k: usize = 0;
     while k < n {
         let t = place_at(journal, 4 * k);

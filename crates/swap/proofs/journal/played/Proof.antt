@@ -26,11 +26,11 @@ abbrev μ-loop : tie.MeasureT-loop
 start-requires : tie.Need-start-requires Inv-loop μ-loop
 start-requires c κs = search needs
 
-view-requires : tie.Need-view-requires Inv-loop μ-loop
-view-requires c κs = call-fit _ _ _ (c .before .before .before .before .pre) .checked .sized
+start-view-requires : tie.Need-start-view-requires Inv-loop μ-loop
+start-view-requires c κs = search needs
 
 loop-holds : tie.Need-loop-holds Inv-loop μ-loop
-loop-holds c = (search needs, c .view .ensures, rw (c .before .start .ensures), rw (c .before .start .ensures) (start-long _))
+loop-holds c = (search needs, rw (c .before .start .ensures) (c .start-view .ensures), rw (c .before .start .ensures), rw (c .before .start .ensures) (start-long _))
 
 mul-place-at : tie.Need-mul-place-at Inv-loop μ-loop
 mul-place-at c = search needs
@@ -176,7 +176,7 @@ played-spec =
     Inv-loop
     μ-loop
     start-requires
-    view-requires
+    start-view-requires
     loop-holds
     mul-place-at
     place-at-requires
