@@ -6,6 +6,7 @@ use crate::compare::{Game, Tally};
 use crate::model::journal;
 use crate::model::step::MOST_BLOCKS;
 use crate::random::{self, Manner, Random, MINE, SHAPES};
+use crate::samples::{FIRST_SHARES, LOCK_A};
 use std::ops::Range;
 
 /// The blocks per day of the SASwap sheets.
@@ -106,8 +107,7 @@ fn last_block(tally: &mut Tally, random: &mut Random, number: usize) {
         _ => Game::new((OWED.to_vec(), vec![137, 0, 0, 1])),
     };
     // both first shares where the conduct knows them, 0 confirmed, and 1 sent where it pays
-    let mut steps = vec![[1, 0, 255, 2], [1, 1, 255, 2], [3, 0, 0, 2], [5, 2, 0, 2]];
-    steps.extend([MINE, [3, 0, 1, 0]]);
+    let mut steps = [&FIRST_SHARES[..], &LOCK_A, &[[3, 0, 1, 0]]].concat();
     steps.extend(vec![MINE; MOST_BLOCKS as usize - 2]);
     let mut course = journal::play(&game.sheet, &game.setup, &steps);
     for blocks in [MOST_BLOCKS - 1, MOST_BLOCKS] {

@@ -34,9 +34,12 @@ pub type Sample = (&'static str, Files);
 type Steps = Vec<[u8; 4]>;
 
 /// The sheet of P10.
-const P10: [u8; 17] = [2, 2, 0, 1, 2, 255, 0, 1, 0, 0, 2, 2, 0, 0, 0, 1, 1];
+pub const P10: [u8; 17] = [2, 2, 0, 1, 2, 255, 0, 1, 0, 0, 2, 2, 0, 0, 0, 1, 1];
 /// Both first shares.
-const FIRST_SHARES: [[u8; 4]; 2] = [[1, 0, 255, 2], [1, 1, 255, 2]];
+pub const FIRST_SHARES: [[u8; 4]; 2] = [[1, 0, 255, 2], [1, 1, 255, 2]];
+/// lock_A into a block of its own, and lock_B.
+pub const LOCK_A: [[u8; 4]; 3] = [[3, 0, 0, 2], [5, 2, 0, 2], MINE];
+pub const LOCK_B: [[u8; 4]; 3] = [[3, 1, 1, 2], [5, 2, 1, 2], MINE];
 
 /// A transaction to the pool, included and mined; or with more blocks mined after it.
 fn confirmed(party: u8, t: u8, destination: u8, blocks: usize) -> Steps {
@@ -45,15 +48,10 @@ fn confirmed(party: u8, t: u8, destination: u8, blocks: usize) -> Steps {
     steps
 }
 
-/// lock_A confirmed in block 1.
-fn lock_a() -> Steps {
-    confirmed(0, 0, 2, 1)
-}
-
 /// Both first shares, lock_A confirmed in block 1, lock_B in block 2, and so many blocks mined.
 fn both_locked(blocks: usize) -> Steps {
     let lock_b = confirmed(1, 1, 2, blocks - 1);
-    [FIRST_SHARES.to_vec(), lock_a(), lock_b].concat()
+    [&FIRST_SHARES[..], &LOCK_A, &lock_b].concat()
 }
 
 fn files(sheet: &[u8], setup: [u8; 4], steps: &[[u8; 4]]) -> Files {
@@ -85,7 +83,7 @@ fn locked() -> Files {
 
 /// Another sheet: P10's, after its first block.
 fn numbers() -> Files {
-    files(&P10, [1, 0, 0, 0], &lock_a())
+    files(&P10, [1, 0, 0, 0], &LOCK_A)
 }
 
 /// A swap that succeeded: Bob has coin A by success, Alice coin B. Success is bumped into its last block.
@@ -98,7 +96,7 @@ fn paid() -> Files {
 /// Success waits in the pool, with a bump owed.
 fn pool() -> Files {
     let success = vec![[2, 0, 0, 1], [3, 1, 2, 2], MINE];
-    saswap([3, 0, 0], &[lock_a(), success].concat())
+    saswap([3, 0, 0], &[&LOCK_A[..], &success].concat())
 }
 
 /// Alice took refund_1, Bob coin B with her secret.
@@ -125,7 +123,7 @@ const WAITING: [u8; 47] = [
 
 /// The opening is confirmed, transaction 1 is not.
 fn waiting() -> Files {
-    files(&WAITING, [1, 0, 0, 0], &lock_a())
+    files(&WAITING, [1, 0, 0, 0], &LOCK_A)
 }
 
 /// P10's sheet and a setup, and a journal that is not there.
@@ -150,7 +148,7 @@ fn long_setup() -> Files {
 /// Success at 3 blocks, 3 a day: its deadline is reached.
 fn late_step() -> Files {
     let late = vec![[2, 0, 0, 1], MINE, MINE, [3, 1, 2, 2], MINE];
-    saswap([3, 0, 0], &[lock_a(), late].concat())
+    saswap([3, 0, 0], &[&LOCK_A[..], &late].concat())
 }
 
 /// A journal of three bytes.

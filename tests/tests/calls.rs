@@ -7,6 +7,7 @@ use swap_tests::model::journal::{self, MOST_BYTES};
 use swap_tests::model::sheet;
 use swap_tests::random::{self, Random, MINE};
 use swap_tests::rounds;
+use swap_tests::samples::{FIRST_SHARES, LOCK_A, LOCK_B};
 
 /// Journals whose length is at or near the most: accepted steps, then the same ones again, which are refused.
 fn lengths(tally: &mut Tally, random: &mut Random) {
@@ -78,16 +79,7 @@ fn every_setup() {
 fn bytes_of_steps() {
     let mut random = Random::new(23);
     let mut tally = Tally::of(ENGINE);
-    let locks = [
-        [3, 0, 0, 2],
-        [5, 2, 0, 2],
-        MINE,
-        [3, 1, 1, 2],
-        [5, 2, 1, 2],
-        MINE,
-    ];
-    let first_shares = [[1, 0, 255, 2], [1, 1, 255, 2]];
-    let steps = [&first_shares[..], &locks].concat();
+    let steps = [&FIRST_SHARES[..], &LOCK_A, &LOCK_B].concat();
     let games = [
         Game::saswap(3, 0, 1),
         Game::saswap(3, 1, 0),

@@ -11,17 +11,12 @@ use swap_tests::model::setup::Setup;
 use swap_tests::model::sheet::{self, Lock, Sheet};
 use swap_tests::model::{calls, claims, open, step, swapreport, ALICE, BOB};
 use swap_tests::random::{self, read, Case, Manner, Random, Shape, MINE};
+use swap_tests::samples::{FIRST_SHARES, LOCK_A, LOCK_B, P10};
 
-/// lock_A to pool, included and mined.
-const LOCK_A: [[u8; 4]; 3] = [[3, 0, 0, 2], [5, 2, 0, 2], MINE];
-/// lock_B to pool, included and mined.
-const LOCK_B: [[u8; 4]; 3] = [[3, 1, 1, 2], [5, 2, 1, 2], MINE];
 /// Alice gives sigAlice to Bob.
 const GIVE_SIG_ALICE: [u8; 4] = [2, 0, 0, 1];
 /// Bob gives secretBob to Alice.
 const GIVE_SECRET_BOB: [u8; 4] = [2, 1, 3, 0];
-/// Both first shares.
-const FIRST_SHARES: [[u8; 4]; 2] = [[1, 0, 255, 2], [1, 1, 255, 2]];
 
 /// A sheet, a setup and the journal so far, all as bytes.
 #[derive(Clone)]
@@ -191,9 +186,6 @@ fn p9_saswap_sheet() {
     ];
     assert_eq!(sheet::saswap(3), three_a_day);
 }
-
-/// The sheet of P10.
-const P10: [u8; 17] = [2, 2, 0, 1, 2, 255, 0, 1, 0, 0, 2, 2, 0, 0, 0, 1, 1];
 
 #[test]
 fn p10_report() {

@@ -2,15 +2,10 @@
 
 use swap_tests::compare::Game;
 use swap_tests::random::{Case, MINE};
+use swap_tests::samples::{FIRST_SHARES, LOCK_A, LOCK_B};
 
-/// lock_A and lock_B confirmed, success shared by Alice, sent by Bob and bumped at its deadline, then both payouts.
-const SWAP: [[u8; 4]; 16] = [
-    [3, 0, 0, 2],
-    [5, 2, 0, 2],
-    MINE,
-    [3, 1, 1, 2],
-    [5, 2, 1, 2],
-    MINE,
+/// After both locks: success shared by Alice, sent by Bob and bumped at its deadline, then both payouts.
+const SWAP: [[u8; 4]; 10] = [
     [1, 0, 2, 2],
     [3, 1, 2, 2],
     [7, 2, 2, 2],
@@ -22,8 +17,6 @@ const SWAP: [[u8; 4]; 16] = [
     [5, 2, 8, 2],
     MINE,
 ];
-/// The first shares of both parties, which conduct 1 and 2 ask for.
-const FIRST_SHARES: [[u8; 4]; 2] = [[1, 0, 255, 2], [1, 1, 255, 2]];
 /// The most blocks of a journal.
 const MOST_BLOCKS: usize = 10_000;
 
@@ -38,7 +31,7 @@ pub fn swap(conduct: u8, steps: usize) -> Case {
         0 => &[],
         _ => &FIRST_SHARES[..],
     };
-    let mut journal = [first_shares, &SWAP].concat();
+    let mut journal = [first_shares, &LOCK_A, &LOCK_B, &SWAP].concat();
     journal.resize(steps.max(journal.len()), MINE);
     Game::saswap(3, conduct, 1).case(&journal)
 }

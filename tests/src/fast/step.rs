@@ -107,13 +107,16 @@ fn sends_to(contract: &Contract, party: u8, t: u8, to: u8) -> bool {
         }
 }
 
+/// 13 for a send.
+fn check_conduct(contract: &Contract, position: &Position, party: u8, t: usize) -> Checked {
+    let sendable = conduct::sendable(contract, position, party);
+    require(sendable >> t & 1 == 1, 13)
+}
+
 fn take_send(contract: &Contract, position: &mut Position, party: u8, t: u8, to: u8) -> Checked {
     require(sends_to(contract, party, t, to), 11)?;
     let t = usize::from(t);
-    require(
-        conduct::sendable(contract, position, party) >> t & 1 == 1,
-        13,
-    )?;
+    check_conduct(contract, position, party, t)?;
     check_send(contract, position, party, t, to)?;
     position.pool |= 1 << t;
     position.pool_to[t] = to;
@@ -156,10 +159,7 @@ fn take_hand_in(contract: &Contract, position: &mut Position, party: u8, t: u8, 
     require(sends_to(contract, party, t, to), 11)?;
     require(contract.stealth, 12)?;
     let t = usize::from(t);
-    require(
-        conduct::sendable(contract, position, party) >> t & 1 == 1,
-        13,
-    )?;
+    check_conduct(contract, position, party, t)?;
     check_hand_in(contract, position, party, t, to)?;
     position.block |= 1 << t;
     position.block_to[t] = to;
