@@ -7,6 +7,7 @@ pub mod engine;
 pub mod every;
 pub mod fast;
 pub mod model;
+pub mod older;
 pub mod random;
 pub mod rounds;
 pub mod samples;

@@ -12,10 +12,10 @@ fn positions(stealth: u8) -> usize {
 
 #[test]
 fn without_stealth() {
-    assert_eq!(positions(0), 6_700);
+    assert_eq!(positions(0), 5_628);
 }
 
 #[test]
 fn with_stealth() {
-    assert_eq!(positions(1), 14_854);
+    assert_eq!(positions(1), 13_418);
 }

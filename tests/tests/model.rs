@@ -325,17 +325,18 @@ fn desk_error_bump_without_parent() {
     assert_eq!(statuses, [3, 3, 0, 3, 0, 0]);
 }
 
-/// "every pool entry whose line meets a rival of a mined one leaves".
+/// Slip 1: "a mined transaction leaves the pool itself. Others leave exactly if
+/// their line meets a different rival of a mined one."
 #[test]
 fn mining_clears_the_pool() {
     let statuses = |game: &Game| (0..6).map(|t| game.row(t).status).collect::<Vec<u8>>();
     let game = Game::other(&CHAIN, [10, 0, 0, 1]);
     let game = game.after(&[[3, 0, 0, 2], [3, 0, 1, 2], [3, 0, 3, 0]]);
-    // A mined one leaves, and its waiting descendants with it.
+    // A mined one leaves, and its waiting descendants stay.
     let mined = game.after(&[[5, 2, 0, 2], MINE]);
-    assert_eq!(statuses(&mined), [4, 0, 0, 0, 0, 0]);
-    // So do a rival and the rival's descendants; an empty block clears nothing.
-    let waiting = mined.after(&[[3, 0, 1, 2], [3, 0, 3, 0], MINE]);
+    assert_eq!(statuses(&mined), [4, 1, 0, 1, 0, 0]);
+    // So they do at an empty block; a rival and the rival's descendants leave.
+    let waiting = mined.after(&[MINE]);
     assert_eq!(statuses(&waiting), [4, 1, 0, 1, 0, 0]);
     let mined = waiting.after(&[[4, 0, 2, 2], MINE]);
     assert_eq!(statuses(&mined), [4, 8, 4, 8, 8, 0]);

@@ -20,6 +20,14 @@ use Rattle.agreement.proofs.Sound.{Settled, Waits}
 pub settled-up : {s : List ℕ} {perDay : ℕ} {block : ℕ → ℕ} {mined : ℕ} → Checked s → Settled s perDay block mined → {x k : ℕ} → Above s x k → k < count s → 0 < block k → 0 < block x
 settled-up {block = block} ok st = holds-above (λ k. 0 < block k) (λ k l h c. st .parents k l c (parent-has ok k l h) .0)
 
+-- what is above one that waits waits too, or is settled
+pub waits-up : {s : List ℕ} {perDay : ℕ} {there : ℕ → Bool} {block : ℕ → ℕ} {mined : ℕ} → Checked s → Settled s perDay block mined → Waits s perDay there block mined
+    → {x k : ℕ} → Above s x k → k < count s → there k ≡ true → (there x ≡ true) ⊎ (0 < block x)
+waits-up {there = there} {block = block} ok st w r lk b =
+    holds-above (λ k. (there k ≡ true) ⊎ (0 < block k))
+    (λ k lk h c. either c (λ y. w .parents k lk y (parent-has ok k lk h)) (λ y. inr (st .parents k lk y (parent-has ok k lk h) .0)))
+    r lk (inl b)
+
 module _ (s : List ℕ) (perDay : ℕ) (ok : Checked s) (pool there : ℕ → Bool) (block : ℕ → ℕ) (mined : ℕ)
     (st : Settled s perDay block mined) (wb : Waits s perDay there block mined) (wp : Waits s perDay pool block mined) (t : ℕ) (l : t < count s) where
   abbrev enter : ℕ → Bool
@@ -35,13 +43,6 @@ module _ (s : List ℕ) (perDay : ℕ) (ok : Checked s) (pool there : ℕ → Bo
   enters-by : (k : ℕ) → pool k ≡ true → there k ≡ false → Above s k t → enter k ≡ true
   enters-by k a b r = rw (a, b, above-ancestor s r)
 
-  -- above a block entry all is in the block or settled
-  held-up : {x k : ℕ} → Above s x k → k < count s → there k ≡ true → (there x ≡ true) ⊎ (0 < block x)
-  held-up r lk b =
-      holds-above (λ k. (there k ≡ true) ⊎ (0 < block k))
-      (λ k lk h c. either c (λ y. wb .parents k lk y (parent-has ok k lk h)) (λ y. inr (st .parents k lk y (parent-has ok k lk h) .0)))
-      r lk (inl b)
-
   -- what is in the block on t's line stays
   stays : (q : ℕ) → q < count s → there q ≡ true → Above s q t → meetsConflict s enter q ≡ false
   stays q lq b r =
@@ -50,7 +51,7 @@ module _ (s : List ℕ) (perDay : ℕ) (ok : Checked s) (pool there : ℕ → Bo
       let u = enters-says (g .1) (g .5) in
       let e = line-conflict ok (u .2) (above-all (g .2) r) l (g .4) in
       let free = wp .free (g .1) (g .1) (g .3) (g .3) (u .0) (conflict-self s (g .1)) in
-      either (held-up (g .2) lq b) (λ y. clash (rw (← e) at y) (u .1)) (λ c. let z = rw (← e) at c in omega arith))
+      either (waits-up ok st wb (g .2) lq b) (λ y. clash (rw (← e) at y) (u .1)) (λ c. let z = rw (← e) at c in omega arith))
 
   kept : (k : ℕ) → (there k && not (meetsConflict s enter k)) ≡ true → (there k ≡ true) × (meetsConflict s enter k ≡ false)
   kept k h = let g = and-parts (there k) (not (meetsConflict s enter k)) h in (g .0, not-true (meetsConflict s enter k) (g .1))

@@ -26,7 +26,7 @@ use Rattle.steps.specs.Decode.{noTransaction, sendsTo, sharesTo, firstShareFiel
 use Rattle.position.specs.FirstShares.{firstShares}
 use Rattle.position.specs.Owed.{waiting, enters}
 use Rattle.position.specs.Tests.{blockLimit}
-use Rattle.position.specs.Effect.{afterShare, afterGive, afterSend, afterHandIn, afterInclude, afterMine, afterBump}
+use Rattle.position.specs.Effect.{afterShare, afterGive, afterSend, afterHandIn, afterInclude, leavesPool, afterMine, afterBump}
 use Rattle.position.proofs.Changed.{one-length, one-other}
 use Rattle.moves.proofs.Untouched.{SamePool, SameBlock, SameConfirmed}
 use Rattle.moves.proofs.AfterShares.{share-length, share-beyond, share-pool, share-block, share-confirmed, give-slots, give-slot, give-pool, give-block, give-confirmed}
@@ -250,8 +250,8 @@ module _ (s u : List ℕ) (ok : Checked s) (p : Position) (g : Sound s u p) wher
   -- 6
   mine-pool-right : (t : ℕ) → t < count s → inPool (afterMine s p) t ≡ true → sharesTo s t (poolTo (afterMine s p) t) ≡ true
   mine-pool-right t l h =
-      let w = and-parts (inPool p t) (not (meetsConflict s (inBlock p) t)) (rw (mine-pool s p wide (g .beyond)) at h) in
-      rw (mine-pool-to s p wide (g .beyond) t (not-true (meetsConflict s (inBlock p) t) (w .1))) (g .pool-to t l (w .0))
+      let w = and-parts (inPool p t) (not (leavesPool s (inBlock p) t)) (rw (mine-pool s p wide (g .beyond)) at h) in
+      rw (mine-pool-to s p wide (g .beyond) t (not-true (leavesPool s (inBlock p) t) (w .1))) (g .pool-to t l (w .0))
 
   mine-right : (t : ℕ) → t < count s → isConfirmed (afterMine s p) t ≡ true → sharesTo s t (confirmedTo (afterMine s p) t) ≡ true
   unfolding isConfirmed

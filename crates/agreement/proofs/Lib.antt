@@ -4,6 +4,7 @@ pub mod MinedBlock
 pub mod BumpedBlock
 pub mod EachKind
 pub mod SoundSteps
+pub mod PoolLeft
 pub mod Coins
 pub mod Linked
 pub mod OneEntry

@@ -3,20 +3,22 @@
 use Prim.Native.Nat.{ℕ, _+_, _≤_, _<_}
 use native.Mathlib.Omega.{arith}
 use mathlib.Core.Path.{_≡_, sym, _∙_}
-use mathlib.Core.Bool.{Bool, true, false, not, _&&_}
-use mathlib.Core.Logic.{inl, inr}
+use mathlib.Core.Bool.{Bool, true, false, not, _&&_, _||_}
+use mathlib.Core.Logic.{_⊎_, inl, inr}
 use mathlib.Core.List.{List}
 use lib.Dec.{eqb}
-use borrow.Author.Tests.{eqb-false, eq-eqb, ne-eqb, not-true}
-use Rattle.laws.specs.Booleans.{pick, split, either, and-parts}
+use borrow.Author.Tests.{eqb-true, eqb-false, eq-eqb, ne-eqb, not-true}
+use Rattle.laws.specs.Booleans.{pick, split, either, and-parts, or-neither}
 use Rattle.sheet.specs.Field.{count, parent, opening, lockType}
 use Rattle.sheet.specs.LockHeight.{lockBlocks, sinceParent, lockHeight}
 use Rattle.sheet.specs.Checked.{Checked, LockPair, none, absolute, since}
-use Rattle.slots.specs.Ancestry.{meetsConflict}
+use Rattle.slots.specs.Ancestry.{meetsOther}
 use Rattle.slots.proofs.Parents.{parent-lower, parent-below}
+use Rattle.slots.specs.Conflict.{conflict}
 use Rattle.slots.proofs.Conflicts.{conflict-self, conflict-sym}
-use Rattle.slots.proofs.Ancestors.{meets-none, meets-none-up}
+use Rattle.slots.proofs.Ancestors.{other-none, other-none-up}
 use Rattle.position.specs.Tests.{blockLimit}
+use Rattle.position.specs.Effect.{leavesPool}
 use Rattle.agreement.proofs.Sound.{Settled, Waits}
 
 -- a lock height hangs on no block, or on the parent's alone
@@ -81,20 +83,36 @@ module _ (s : List ℕ) (perDay : ℕ) (ok : Checked s) (there : ℕ → Bool) (
             (λ f. st .alone t k lt lk c (rw f at ck) h));
       }
 
-  -- the pool, without those whose line meets a rival of a mined one
+  -- the pool, without the mined ones and those whose line meets a different rival of one
   module _ (pool : ℕ → Bool) where
-    both : (t : ℕ) → (pool t && not (meetsConflict s there t)) ≡ true → (pool t ≡ true) × (meetsConflict s there t ≡ false)
-    both t x = let g = and-parts (pool t) (not (meetsConflict s there t)) x in (g .0, not-true (meetsConflict s there t) (g .1))
+    both : (t : ℕ) → (pool t && not (leavesPool s there t)) ≡ true → (pool t ≡ true) × (there t ≡ false) × (meetsOther s there t ≡ false)
+    unfolding leavesPool
+    both t x =
+        let g = and-parts (pool t) (not (there t || meetsOther s there t)) x in
+        let w = or-neither (there t) (meetsOther s there t) (not-true (there t || meetsOther s there t) (g .1)) in
+        (g .0, w .0, w .1)
 
-    pub waits-mined : Waits s perDay pool block mined → Waits s perDay (λ k. pool k && not (meetsConflict s there k)) after (mined + 1)
+    out : (t k : ℕ) → (there t ≡ false) × (meetsOther s there t ≡ false) → k < count s → conflict s k t ≡ true → there k ≡ false
+    out t k g lk h = split (eqb k t) (λ e. rw (eqb-true k t e) (g .0)) (λ e. other-none s there t (g .1) k lk h (eqb-false k t e))
+
+    -- a parent that waits is mined, or waits on
+    up-stays : (t : ℕ) → t < count s → opening s t ≡ false → pool (parent s t) ≡ true → meetsOther s there t ≡ false
+        → ((pool (parent s t) && not (leavesPool s there (parent s t))) ≡ true) ⊎ (0 < after (parent s t))
+    unfolding leavesPool
+    up-stays t l o y m =
+        split (there (parent s t))
+        (λ e. inr (rw e (omega arith)))
+        (λ e. inl (rw (y, e, other-none-up s there t (parent-lower ok t l o) m)))
+
+    pub waits-mined : Waits s perDay pool block mined → Waits s perDay (λ k. pool k && not (leavesPool s there k)) after (mined + 1)
     waits-mined wp =
         record {
-          free = λ t k lt lk x h. let g = both t x in rw (meets-none s there t (g .1) k lk h) (wp .free t k lt lk (g .0) h);
+          free = λ t k lt lk x h. let g = both t x in rw (out t k (g .1, g .2) lk h) (wp .free t k lt lk (g .0) h);
           alone = λ t k lt lk x y h. wp .alone t k lt lk (both t x .0) (both k y .0) h;
           parents = λ t l x o.
               let g = both t x in
               either (wp .parents t l (g .0) o)
-              (λ y. inl (rw (y, meets-none-up s there t (parent-lower ok t l o) (g .1))))
+              (λ y. up-stays t l o y (g .2))
               (λ c. inr (rw (kept (parent s t) (parent-below ok t l o) c) c));
           locks = λ t l x. let h = wp .locks t l (both t x .0) in rw (lock-same t l h) (omega arith);
         }

@@ -23,7 +23,9 @@ use Rattle.position.specs.Play.{FourBytes, journalBytes, step, runFrom, run, pl
 use Rattle.position.proofs.StepCases.{refused-same}
 use Rattle.moves.proofs.Journals
 use Rattle.agreement.specs.Claim.{entriesOf, positionOf, Agreement}
+use Rattle.agreement.specs.PoolClaim.{LeavesPool}
 use Rattle.agreement.proofs.SoundSteps.{sound-start, sound-play}
+use Rattle.agreement.proofs.PoolLeft.{pool-left}
 use Rattle.agreement.proofs.Coins.{coin-opening}
 use Rattle.agreement.proofs.Once.{one-place, parent-before}
 use Rattle.agreement.proofs.Agreed.{entries-low, agrees}
@@ -32,6 +34,10 @@ use Rattle.agreement.proofs.Agreed.{entries-low, agrees}
 -- steps confirm, and its holders and payouts are those read from the position and from the report of the accepted steps.
 pub agreement : Agreement
 agreement = agrees
+
+-- After every such list, at a mined block: an entry of the pool leaves it exactly if it is mined or is dead afterwards.
+pub leaves-pool : LeavesPool
+leaves-pool = pool-left
 
 module _ (s u : List ℕ) (h : sheetRefusal s ≡ accepted) (k : setupRefusal s u ≡ accepted) (bs : List FourBytes) where
   -- entry e stands at place i of what the accepted kind 6 steps confirm

@@ -13,15 +13,15 @@ use Rattle.sheet.specs.Field.{count, parent}
 use Rattle.sheet.specs.Checked.{Checked}
 use Rattle.slots.specs.declared.Step.{Step}
 use Rattle.slots.specs.Conflict.{conflict}
-use Rattle.slots.specs.Ancestry.{meetsConflict}
+use Rattle.slots.specs.Ancestry.{meetsOther}
 use Rattle.slots.proofs.Conflicts.{conflict-self, conflict-sym}
-use Rattle.slots.proofs.Ancestors.{Above, here, up, above-le, meets-find}
+use Rattle.slots.proofs.Ancestors.{Above, here, up, above-le, other-find}
 use Rattle.position.specs.declared.Position.{Position}
 use Rattle.position.specs.Position.{inPool, inBlock, blockOf, deadlineIn}
 use Rattle.steps.specs.Decode.{fieldsRight}
 use Rattle.position.specs.Owed.{waiting, owed, anyOwed}
 use Rattle.position.specs.StepRefusal.{stepRefusal}
-use Rattle.position.specs.Effect.{afterMine, effect}
+use Rattle.position.specs.Effect.{leavesPool, afterMine, effect}
 use Rattle.moves.proofs.AfterBlocks.{mine-blocks, mine-pool, mine-mined}
 use Rattle.moves.proofs.Quiet.{Quiet, lasting}
 use Rattle.agreement.proofs.Sound.{Sound}
@@ -67,15 +67,16 @@ module _ (s u : List ℕ) (ok : Checked s) (p : Position) (g : Sound s u p) wher
       clash {b = owed s u p t} (rw (i, b, eq-eqb (p .mined + 1) (deadlineIn s u p t) e)) (any-none (count s) (owed s u p) none t l)
 
   mined-fate : anyOwed s u p ≡ false → (t : ℕ) → t < count s → 0 < blockOf p (parent s t) → inPool p t ≡ true → Fate s u p (afterMine s p) t
+  unfolding leavesPool
   mined-fate none t l c i =
       split (inBlock p t)
       (λ b. done (mined-block t b))
       (λ b.
-      split (meetsConflict s (inBlock p) t)
+      split (meetsOther s (inBlock p) t)
       (λ h.
-      let w = meets-find s (inBlock p) t h in
+      let w = other-find s (inBlock p) t h in
       ousted (w .1) (w .3) (met-at (w .2) l c (w .1) (w .3) (w .4) (w .5)) (w .5) (mined-block (w .1) (w .5)))
-      (λ h. waits (rw (mine-pool s p few (g .beyond), i, h)) (mine-mined s p few (g .beyond)) (not-owed none t l i b)))
+      (λ h. waits (rw (mine-pool s p few (g .beyond), i, b, h)) (mine-mined s p few (g .beyond)) (not-owed none t l i b)))
 
   lasts-mine : anyOwed s u p ≡ false → Lasts s u p (afterMine s p)
   lasts-mine none = record { time = omega (arith, mine-mined s p few (g .beyond)); confirmed = mined-kept; pool = mined-fate none }

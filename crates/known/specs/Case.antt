@@ -40,6 +40,8 @@ pub data Case : Type 0 where
   sharedIs : (setup journal : List ℕ) (t destination mask : ℕ) → Case
   -- after this journal: the status of this transaction
   statusIs : (sheet setup journal : List ℕ) (t is : ℕ) → Case
+  -- after this journal: this step gets this number
+  stepGets : (sheet setup journal step : List ℕ) (number : ℕ) → Case
   -- the lines that swapreport prints
   prints : (sheet setup journal : List ℕ) (lines : List (List ℕ)) → Case
 
@@ -88,4 +90,5 @@ holds (sharedIs u j t destination mask) =
 holds (statusIs s u j t is) =
     let r = run s u j in
     passes r j && eqb (status s (r .position) t) is
+holds (stepGets s u j step number) = passes (run s u j) j && eqb (run s u (j ++ step) .refusal) number
 holds (prints s u j lines) = sameLines (printed s u j) lines

@@ -14,7 +14,7 @@ use Rattle.sheet.specs.LockHeight.{lockHeight, never}
 use Rattle.slots.specs.declared.Slot.{Slot}
 use Rattle.slots.specs.Slot.{emptySlot, standing}
 use Rattle.slots.specs.Conflict.{conflict, conflictIn, otherConflictIn}
-use Rattle.slots.specs.Ancestry.{inAncestry}
+use Rattle.slots.specs.Ancestry.{inAncestry, meetsOther}
 use Rattle.slots.specs.Invalidated.{invalidated}
 use Rattle.slots.specs.Deadline.{deadline}
 use Rattle.steps.specs.Names.{revoke, refund2, timeout, spendRevoke}
@@ -60,7 +60,7 @@ no-conflict s t =
     none-below (count s) (λ k. conflict s k t && (not (eqb k t) && false)) (λ k. rw (and-false (not (eqb k t))) (and-false (conflict s k t)))
 
 none-invalidated : (s : List ℕ) (t : ℕ) → invalidated s (λ k. false) t ≡ false
-unfolding invalidated inAncestry
+unfolding invalidated meetsOther inAncestry
 none-invalidated s t = climb-still (parent s) (λ k above. otherConflictIn s (λ j. false) k || above) false (λ k. rw no-conflict) t
 
 -- P8, for every sheet

@@ -1,4 +1,5 @@
--- Document 01's known positions P1 to P10 and its desk errors as one table, and the one fact that every row holds.
+-- Document 01's known positions P1 to P10 and its desk errors, and positions that tell document 02's rules from the older ones, as one table,
+-- and the one fact that every row holds.
 -- Assumes nothing.
 use Prim.Native.Nat.{ℕ, _<_}
 use mathlib.Core.Path.{_≡_, refl}
@@ -10,7 +11,7 @@ use Rattle.sheet.specs.LockHeight.{never}
 use Rattle.slots.specs.Destination.{alice, contract}
 use Rattle.steps.specs.Names.{lockA, success, refund1, revoke, refund2, timeout, spendB, spendRevoke}
 use Rattle.position.proofs.Opened.{opened}
-use Rattle.known.specs.Case.{Case, lockIs, deadlineIs, sheetLength, statusesZero, sendGets, sharedIs, statusIs, prints, revokedIn, swapSheet, passes, sendPlace, sameLines, holds}
+use Rattle.known.specs.Case.{Case, lockIs, deadlineIs, sheetLength, statusesZero, sendGets, sharedIs, statusIs, stepGets, prints, revokedIn, swapSheet, passes, sendPlace, sameLines, holds}
 
 -- "3 a day, open, stealth 1"
 abbrev setup3 : List ℕ
@@ -83,6 +84,24 @@ rivalBumped =
     ∷ 7 ∷ 2 ∷ 1 ∷ 2
     ∷ []
 
+-- the opening is confirmed; the second rival and its child wait while the first rival is mined
+abbrev rivalMined : List ℕ
+rivalMined = lockedA ++ (3 ∷ 0 ∷ 2 ∷ 2 ∷ 3 ∷ 0 ∷ 4 ∷ 0 ∷ 4 ∷ 0 ∷ 1 ∷ 0 ∷ mine)
+
+-- an opening and two rivals below it, the second locked for a day since the opening
+abbrev heirSheet : List ℕ
+heirSheet =
+    3 ∷ 1 ∷ 0 ∷ 1 ∷ 1
+    ∷ 255 ∷ 0 ∷ 1 ∷ 0
+    ∷ 0 ∷ 1 ∷ 1 ∷ 0
+    ∷ 0 ∷ 2 ∷ 1 ∷ 0
+    ∷ 0 ∷ 0 ∷ 0 ∷ 0 ∷ 2 ∷ 1
+    ∷ []
+
+-- the opening and the first rival are sent, and the opening is mined
+abbrev heirWaits : List ℕ
+heirWaits = 3 ∷ 0 ∷ 0 ∷ 2 ∷ 3 ∷ 0 ∷ 1 ∷ 0 ∷ 5 ∷ 2 ∷ 0 ∷ 2 ∷ mine
+
 -- the table
 unfoldable pub known : List Case
 known =
@@ -140,6 +159,15 @@ known =
     ∷ statusIs rivalSheet (1 ∷ 0 ∷ 0 ∷ 1 ∷ []) rivalBumped 1 3
     ∷ statusIs rivalSheet (1 ∷ 0 ∷ 0 ∷ 1 ∷ []) rivalBumped 2 0
     ∷ statusIs rivalSheet (1 ∷ 0 ∷ 0 ∷ 1 ∷ []) rivalBumped 4 0
+    -- Slip 1: a child that waits while its parent is mined stays in the pool, and at 1 block a day its bump is owed in the very next block
+    ∷ statusIs heirSheet (1 ∷ 0 ∷ 0 ∷ 0 ∷ []) heirWaits 0 4
+    ∷ statusIs heirSheet (1 ∷ 0 ∷ 0 ∷ 0 ∷ []) heirWaits 1 1
+    ∷ stepGets heirSheet (1 ∷ 0 ∷ 0 ∷ 0 ∷ []) heirWaits mine 20
+    ∷ stepGets heirSheet (1 ∷ 0 ∷ 0 ∷ 0 ∷ []) heirWaits (7 ∷ 2 ∷ 1 ∷ 2 ∷ []) 0
+    ∷ statusIs heirSheet (1 ∷ 0 ∷ 0 ∷ 0 ∷ []) (heirWaits ++ (7 ∷ 2 ∷ 1 ∷ 2 ∷ mine)) 1 4
+    -- the same: who meets a different rival of a mined one leaves, and its child with it
+    ∷ statusIs rivalSheet (3 ∷ 0 ∷ 0 ∷ 1 ∷ []) rivalMined 2 8
+    ∷ statusIs rivalSheet (3 ∷ 0 ∷ 0 ∷ 1 ∷ []) rivalMined 4 8
     ∷ []
 
 -- the one fact

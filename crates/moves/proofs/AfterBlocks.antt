@@ -59,10 +59,10 @@ module _ (s : List ℕ) (p : Position) (t : ℕ) (x : Slot) where
       (λ y. split (standing (x .block)) (λ z. rw (y, z) none-stands) (λ z. rw (y, z) z))
       (λ y. split (standing (x .block)) (λ z. rw (y, z) none-stands) (λ z. rw (y, z) z))
 
-  mine-slot-pool : mineSlot s p t x .pool ≡ pick (meetsConflict s (inBlock p) t) 0 (x .pool)
-  unfolding mineSlot leavesPool confirmEntry withPool withBlock withConfirmed withShared
+  mine-slot-pool : mineSlot s p t x .pool ≡ pick (leavesPool s (inBlock p) t) 0 (x .pool)
+  unfolding mineSlot confirmEntry withPool withBlock withConfirmed withShared
   mine-slot-pool =
-      split (meetsConflict s (inBlock p) t)
+      split (leavesPool s (inBlock p) t)
       (λ y. rw y)
       (λ y. split (standing (x .block)) (λ z. rw (y, z)) (λ z. rw (y, z)))
 
@@ -95,19 +95,19 @@ module _ (s : List ℕ) (p : Position) (few : count s ≤ length (p .slots)) (be
   mine-block =
       fun-ext (all-seen s (mineSlot s p) p few (λ (x : Slot). standing (x .block)) (λ k. false) (λ k. mine-slot-block s p k (slot p k)) out-block)
 
-  mine-pool-entry : (k : ℕ) → slot (afterMine s p) k .pool ≡ pick (meetsConflict s (inBlock p) k) 0 (slot p k .pool)
+  mine-pool-entry : (k : ℕ) → slot (afterMine s p) k .pool ≡ pick (leavesPool s (inBlock p) k) 0 (slot p k .pool)
   unfolding afterMine withMined slot
   mine-pool-entry =
-      all-seen s (mineSlot s p) p few (λ (x : Slot). x .pool) (λ k. pick (meetsConflict s (inBlock p) k) 0 (slot p k .pool))
+      all-seen s (mineSlot s p) p few (λ (x : Slot). x .pool) (λ k. pick (leavesPool s (inBlock p) k) 0 (slot p k .pool))
       (λ k. mine-slot-pool s p k (slot p k))
-      (λ k h. rw (beyond k h) (split (meetsConflict s (inBlock p) k) (λ y. rw y) (λ y. rw y)))
+      (λ k h. rw (beyond k h) (split (leavesPool s (inBlock p) k) (λ y. rw y) (λ y. rw y)))
 
-  -- "every pool entry whose line meets a rival of a mined one leaves"
-  pub mine-pool : inPool (afterMine s p) ≡ (λ k. inPool p k && not (meetsConflict s (inBlock p) k))
+  -- who leaves the pool
+  pub mine-pool : inPool (afterMine s p) ≡ (λ k. inPool p k && not (leavesPool s (inBlock p) k))
   unfolding inPool
-  mine-pool = fun-ext (λ k. rw (mine-pool-entry k) (stays (standing (slot p k .pool)) (meetsConflict s (inBlock p) k) (slot p k .pool) refl))
+  mine-pool = fun-ext (λ k. rw (mine-pool-entry k) (stays (standing (slot p k .pool)) (leavesPool s (inBlock p) k) (slot p k .pool) refl))
 
-  pub mine-pool-to : (k : ℕ) → meetsConflict s (inBlock p) k ≡ false → poolTo (afterMine s p) k ≡ poolTo p k
+  pub mine-pool-to : (k : ℕ) → leavesPool s (inBlock p) k ≡ false → poolTo (afterMine s p) k ≡ poolTo p k
   unfolding poolTo
   mine-pool-to k h = rw (mine-pool-entry k, h)
 

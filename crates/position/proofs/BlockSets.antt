@@ -3,14 +3,15 @@
 use Prim.Native.Nat.{ℕ, _+_, _≤_, _<_}
 use native.Mathlib.Omega.{arith}
 use mathlib.Core.Path.{_≡_, sym, ap, _∙_}
-use mathlib.Core.Bool.{Bool, false, not, and-assoc}
+use mathlib.Core.Bool.{Bool, true, false, not, _&&_, and-assoc}
 use mathlib.Core.List.{List}
+use lib.Dec.{eqb}
 use Rattle.laws.specs.Each.{rewriteFirst, rewrite-same}
 use Rattle.laws.specs.Mask.{bit}
 use Rattle.laws.specs.Sets.{setBelow, set-bit}
 use Rattle.sheet.specs.Field.{count}
-use Rattle.slots.specs.Conflict.{conflictIn, foundIn}
-use Rattle.slots.specs.Ancestry.{inAncestry, isSelfOrAncestor, meetsConflict}
+use Rattle.slots.specs.Conflict.{conflictIn, otherConflictIn, foundIn}
+use Rattle.slots.specs.Ancestry.{inAncestry, isSelfOrAncestor, meetsConflict, meetsOther}
 use Rattle.slots.specs.Line.{lineSet}
 use Rattle.slots.proofs.ConflictSets.{conflictIn-same}
 use Rattle.slots.proofs.AncestrySets.{inAncestry-same}
@@ -30,12 +31,22 @@ set-meets s e member t few l h =
     inAncestry-same s (bit (setBelow (count s) (foundIn s (bit e) false))) (conflictIn s member) t
     (λ k m. set-bit (count s) (foundIn s (bit e) false) few k (omega arith) ∙ conflictIn-same s (bit e) member k h)
 
-pub mined-right : (s : List ℕ) (p : Position) (m : ℕ) → count s ≤ 32 → m ≡ setBelow (count s) (foundIn s (bit (viewBelow (count s) p .block)) false)
-    → rewriteFirst (count s) (minedSlot s (p .mined + 1) m) (p .slots) ≡ rewriteFirst (count s) (mineSlot s p) (p .slots)
+-- the same with a rival other than the member
+pub set-meets-other : (s : List ℕ) (e : ℕ) (member : ℕ → Bool) (t : ℕ) → count s ≤ 32 → t < count s → ((k : ℕ) → k < count s → bit e k ≡ member k)
+    → inAncestry s (bit (setBelow (count s) (foundIn s (bit e) true))) t ≡ meetsOther s member t
+unfolding foundIn meetsOther otherConflictIn
+set-meets-other s e member t few l h =
+    inAncestry-same s (bit (setBelow (count s) (foundIn s (bit e) true))) (otherConflictIn s member) t
+    (λ k m. set-bit (count s) (foundIn s (bit e) true) few k (omega arith)
+    ∙ conflictIn-same s (λ j. not (eqb j k) && bit e j) (λ j. not (eqb j k) && member j) k (λ j i. ap (λ b. not (eqb j k) && b) (h j i)))
+
+pub mined-right : (s : List ℕ) (p : Position) (b m : ℕ) → count s ≤ 32 → b ≡ viewBelow (count s) p .block
+    → m ≡ setBelow (count s) (foundIn s (bit (viewBelow (count s) p .block)) true)
+    → rewriteFirst (count s) (minedSlot s (p .mined + 1) b m) (p .slots) ≡ rewriteFirst (count s) (mineSlot s p) (p .slots)
 unfolding minedSlot mineSlot leavesPool viewBelow
-mined-right s p m few e =
-    rewrite-same (count s) (minedSlot s (p .mined + 1) m) (mineSlot s p) (p .slots)
-    (λ t x l. rw (e, set-meets s (setBelow (count s) (inBlock p)) (inBlock p) t few l (set-bit (count s) (inBlock p) few)))
+mined-right s p b m few f e =
+    rewrite-same (count s) (minedSlot s (p .mined + 1) b m) (mineSlot s p) (p .slots)
+    (λ t x l. rw (f, e, set-bit (count s) (inBlock p) few t l, set-meets-other s (setBelow (count s) (inBlock p)) (inBlock p) t few l (set-bit (count s) (inBlock p) few)))
 
 -- those that enter
 enters-bit : (s : List ℕ) (p : Position) (t k : ℕ) → count s ≤ 32 → t < count s → k < count s

@@ -13,8 +13,8 @@ use Rattle.laws.specs.Bits.{no-bit, bit-or}
 use Rattle.laws.specs.Sets.{setBelow, set-bit}
 use Rattle.sheet.specs.Field.{count}
 use Rattle.slots.specs.Slot.{emptySlot, standing}
-use Rattle.slots.specs.Ancestry.{meetsConflict}
-use Rattle.slots.proofs.Ancestors.{meets-find}
+use Rattle.slots.specs.Ancestry.{meetsOther}
+use Rattle.slots.proofs.Ancestors.{other-find}
 use Rattle.steps.specs.declared.View.{View}
 use Rattle.steps.specs.Blocks.{confirmEntry}
 use Rattle.position.specs.declared.Position.{Position}
@@ -24,10 +24,10 @@ use Rattle.position.specs.View.{viewBelow}
 use Rattle.position.specs.Effect.{withSlots, changeSlots, leavesPool, mineSlot, withMined, afterMine}
 
 module _ (s : List ℕ) (p : Position) (none : (k : ℕ) → k < count s → inBlock p k ≡ false) where
-  none-leaves : (t : ℕ) → leavesPool s (inBlock p) t ≡ false
+  none-leaves : (t : ℕ) → t < count s → leavesPool s (inBlock p) t ≡ false
   unfolding leavesPool
-  none-leaves t =
-      fails-by (meetsConflict s (inBlock p) t) (λ y. let w = meets-find s (inBlock p) t y in clash (w .5) (none (w .1) (w .3)))
+  none-leaves t l =
+      rw (none t l) (fails-by (meetsOther s (inBlock p) t) (λ y. let w = other-find s (inBlock p) t y in clash (w .5) (none (w .1) (w .3))))
 
   no-entry : (t : ℕ) → t < count s → standing (slot p t .block) ≡ false
   unfolding inBlock
@@ -35,7 +35,7 @@ module _ (s : List ℕ) (p : Position) (none : (k : ℕ) → k < count s → inB
 
   kept : (t : ℕ) → t < count s → mineSlot s p t (slot p t) ≡ slot p t
   unfolding mineSlot confirmEntry
-  kept t l = rw (none-leaves t, no-entry t l)
+  kept t l = rw (none-leaves t l, no-entry t l)
 
   mine-none : afterMine s p ≡ withMined (p .mined + 1) p
   unfolding afterMine withMined changeSlots withSlots slot

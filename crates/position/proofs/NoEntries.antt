@@ -3,7 +3,7 @@
 use Prim.Native.Nat.{ℕ, _≤_, _<_}
 use native.Mathlib.Omega.{arith}
 use mathlib.Core.Path.{_≡_, sym, ap, _∙_}
-use mathlib.Core.Bool.{true, false}
+use mathlib.Core.Bool.{true, false, _||_}
 use mathlib.Core.List.{List}
 use lib.Bits.{bitOr}
 use borrow.Author.Tests.{ltb-false}
@@ -42,13 +42,13 @@ module _ (s : List ℕ) (p : Position) (v : View) (few : count s ≤ 32) (e : v 
         no-entry (slot p t .block) (sym (set-bit (count s) (inBlock p) few t l) ∙ ap (λ (x : View). bit (x .block) t) (sym e) ∙ w .1),
       )
 
-  pub mined-outside : (b m : ℕ) → Outside s (record { mine = true; block = b; entering = 0; leaving = m }) (bitOr (v .pool) (v .block)) (p .slots)
+  pub mined-outside : (b n m : ℕ) → Outside s (record { mine = true; block = b; entering = n; leaving = m }) (bitOr (v .pool) (v .block)) (p .slots)
   unfolding changedSlot minedSlot slot
-  mined-outside b m =
+  mined-outside b n m =
       record {
         same = λ t l h.
             let w = outside t l h in
-            rw (confirm-none s b t (slot p t) (w .2)) (sym (pool-out (inAncestry s (bit m) t) (slot p t) (w .1)));
+            rw (confirm-none s b t (slot p t) (w .2)) (sym (pool-out (bit n t || inAncestry s (bit m) t) (slot p t) (w .1)));
       }
 
   pub bumped-outside : (t n m : ℕ) → n ≡ setBelow (count s) (entersIn v (lineSet s t))

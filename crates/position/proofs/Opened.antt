@@ -15,7 +15,7 @@ use Rattle.ledger.specs.Ledger.{noneKept, lockFrom, fits, keep, enter, ledger, 
 use Rattle.slots.specs.Destination.{destinationNumber, isParty, isPayee, isContract}
 use Rattle.slots.specs.Slot.{standing, entryFor, entryTo, withPool, withBlock, withConfirmed, sharedFor, withShared, sharedAny, marksOf, markedFor, withMark}
 use Rattle.slots.specs.Conflict.{conflict, conflictIn, otherConflictIn, noConflict}
-use Rattle.slots.specs.Ancestry.{inAncestry, isSelfOrAncestor, meetsConflict, hasParent}
+use Rattle.slots.specs.Ancestry.{inAncestry, isSelfOrAncestor, meetsConflict, meetsOther, hasParent}
 use Rattle.slots.specs.Invalidated.{invalidated}
 use Rattle.slots.specs.Deadline.{deadline}
 use Rattle.slots.specs.Signatures.{sharedSecrets, senderMask, signed, shareMask, exposedMask}
@@ -39,5 +39,5 @@ use Rattle.position.specs.Answers.{packed, runPart, fitted, passOn, list
 use Rattle.position.specs.Printed.{printedLines, printed}
 
 unfoldable pub opened : Unit {0}
-unfolding sheet.opened flatMap climbIn climb rewriteFirst leastBelow bit subset without unionBelow gather every bytesOf numberAt over before inOrder coinOf noneKept lockFrom fits keep enter ledger entryHolder ledgerHolder destinationNumber isParty isPayee isContract standing entryFor entryTo withPool withBlock withConfirmed sharedFor withShared sharedAny marksOf markedFor withMark conflict conflictIn otherConflictIn noConflict inAncestry isSelfOrAncestor meetsConflict hasParent invalidated deadline sharedSecrets senderMask signed shareMask exposedMask start slot inPool poolTo inBlock blockTo blockOf isConfirmed confirmedTo sent placed shared keys holds marked senderHas lockHeightIn deadlineIn sendsTo sharesTo isOther firstShareFields fieldsRight ofKind spelled rangeChecked decode stepBytes firstShares firstSharesMade waiting owed anyOwed enters shareMet shareTests giveMet giveTests sendTests poolTests minerTests includeTests blockMet mineTests bumpTests isOpen isCareful phase late aliceShares mayShare aliceGives bobGives mayGive maySend successUnshared secretSafe safeToSend sendAllowed payingPasses canPay payingFirst conductAllows tests stepRefusal withSlots changeSlot changeSlots withKey shareOne shareEach afterShare afterGive afterSend afterHandIn afterInclude leavesPool confirmEntry mineSlot withMined afterMine leavesBlock bumpSlot afterBump effect journalSteps journalBytes decodeBytes takeStep takeDecoded step runFrom journalRight callTests run play acceptedOf blockEntries confirms confirmedEntries actors ifAccepted openAt openOf actorSteps openSteps listBytes status payee row reportBytes reportedStatus reportedPayee reportedConfirmed reportedLine confirmedChild endsCoin payeeBelow holder holderIn reportedHolder isPayout isPayoutTo packed runPart fitted passOn listAnswer reportAnswer printedLines printed
+unfolding sheet.opened flatMap climbIn climb rewriteFirst leastBelow bit subset without unionBelow gather every bytesOf numberAt over before inOrder coinOf noneKept lockFrom fits keep enter ledger entryHolder ledgerHolder destinationNumber isParty isPayee isContract standing entryFor entryTo withPool withBlock withConfirmed sharedFor withShared sharedAny marksOf markedFor withMark conflict conflictIn otherConflictIn noConflict inAncestry isSelfOrAncestor meetsConflict meetsOther hasParent invalidated deadline sharedSecrets senderMask signed shareMask exposedMask start slot inPool poolTo inBlock blockTo blockOf isConfirmed confirmedTo sent placed shared keys holds marked senderHas lockHeightIn deadlineIn sendsTo sharesTo isOther firstShareFields fieldsRight ofKind spelled rangeChecked decode stepBytes firstShares firstSharesMade waiting owed anyOwed enters shareMet shareTests giveMet giveTests sendTests poolTests minerTests includeTests blockMet mineTests bumpTests isOpen isCareful phase late aliceShares mayShare aliceGives bobGives mayGive maySend successUnshared secretSafe safeToSend sendAllowed payingPasses canPay payingFirst conductAllows tests stepRefusal withSlots changeSlot changeSlots withKey shareOne shareEach afterShare afterGive afterSend afterHandIn afterInclude leavesPool confirmEntry mineSlot withMined afterMine leavesBlock bumpSlot afterBump effect journalSteps journalBytes decodeBytes takeStep takeDecoded step runFrom journalRight callTests run play acceptedOf blockEntries confirms confirmedEntries actors ifAccepted openAt openOf actorSteps openSteps listBytes status payee row reportBytes reportedStatus reportedPayee reportedConfirmed reportedLine confirmedChild endsCoin payeeBelow holder holderIn reportedHolder isPayout isPayoutTo packed runPart fitted passOn listAnswer reportAnswer printedLines printed
 opened = tt

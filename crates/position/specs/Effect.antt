@@ -1,7 +1,7 @@
 -- What an accepted step of each kind does to a position.
 -- Assumes nothing.
 use Prim.Native.Nat.{ℕ, _+_, _^_}
-use mathlib.Core.Bool.{Bool}
+use mathlib.Core.Bool.{Bool, _||_}
 use mathlib.Core.List.{List, [], _∷_}
 use lib.Dec.{eqb}
 use lib.Bits.{bitOr}
@@ -14,7 +14,7 @@ use Rattle.slots.specs.declared.Step.{Step}
 use Rattle.slots.specs.declared.Step.the-variants.{Share, Give, SendToPool, HandToMiner, Include, Mine, Bump}
 use Rattle.slots.specs.Destination.{alice, bob, contract, destinationNumber}
 use Rattle.slots.specs.Slot.{entryFor, withPool, withBlock, withShared, withMark}
-use Rattle.slots.specs.Ancestry.{meetsConflict}
+use Rattle.slots.specs.Ancestry.{meetsConflict, meetsOther}
 use Rattle.slots.specs.Signatures.{shareMask, exposedMask}
 use Rattle.position.specs.declared.Position.{Position}
 use Rattle.position.specs.Position.{slot, inBlock, keys}
@@ -76,9 +76,10 @@ afterHandIn t destination p = changeSlot t (withBlock (entryFor destination)) p
 unfoldable pub afterInclude : ℕ → Position → Position
 afterInclude t p = changeSlot t (λ x. withBlock (x .pool) x) p
 
--- "every pool entry whose line meets a rival of a mined one leaves": who leaves the pool, where `mined` tells the mined ones
+-- Who leaves the pool, where `mined` tells the mined ones. Document 02, Slip 1: "a mined transaction leaves the pool itself. Others leave
+-- exactly if their line meets a different rival of a mined one."
 unfoldable pub leavesPool : List ℕ → (ℕ → Bool) → ℕ → Bool
-leavesPool s mined t = meetsConflict s mined t
+leavesPool s mined t = mined t || meetsOther s mined t
 
 -- what a mined block makes of t's slot: confirmed if it was in the block, out of the pool if it leaves
 unfoldable pub mineSlot : List ℕ → Position → ℕ → Slot → Slot

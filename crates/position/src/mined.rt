@@ -11,20 +11,20 @@ ghost use Rattle.position.specs.View.{viewBelow};
 ghost use Rattle.position.specs.Effect.{withMined, afterMine};
 
 impl Position {
-    // A mined block: its entries are confirmed, and who conflicts with them leaves the pool.
+    // A mined block: its entries are confirmed and leave the pool, and who conflicts with another of them leaves it too.
     fn after_entries(mut self, sheet: &[u8], view: View) -> Position
         requires { ⌜ Sized (now sheet) ⌝ }
         requires { ⌜ view ≡ viewBelow (count (now sheet)) self ⌝ }
         requires { ⌜ self .mined < 10000 ⌝ }
         ensures { λ r. ⌜ r ≡ afterMine (now (sheet .entry)) self ⌝ }
     {
-        let leaving = conflict::conflicts_of(sheet, view.block, false);
+        let leaving = conflict::conflicts_of(sheet, view.block, true);
         let slots = self.slots;
         let block = self.mined + 1;
         let change = Change {
             mine: true,
             block,
-            entering: 0,
+            entering: view.block,
             leaving,
         };
         let mined = blocks::changed_slots(slots, sheet, change, view.pool | view.block);

@@ -13,10 +13,8 @@ use Rattle.output.specs.Row.{rowBytes}
 use Rattle.sheet.specs.Field.{count, parent}
 use Rattle.sheet.specs.Setup.{perDay}
 use Rattle.slots.specs.declared.Slot.{Slot}
-use Rattle.slots.specs.Conflict.{otherConflictIn, foundIn}
+use Rattle.slots.specs.Conflict.{foundIn}
 use Rattle.slots.specs.Invalidated.{invalidated}
-use Rattle.slots.proofs.ConflictSets.{conflictIn-same}
-use Rattle.slots.proofs.AncestrySets.{inAncestry-same}
 use Rattle.slots.proofs.Since.{lockHeight-since, deadline-since}
 use Rattle.readings.specs.declared.Row.{Row}
 use Rattle.steps.specs.declared.View.{View}
@@ -25,24 +23,14 @@ use Rattle.position.specs.declared.Position.{Position}
 use Rattle.position.specs.Position.{slot, inPool, inBlock, blockOf, isConfirmed, confirmedTo, lockHeightIn, deadlineIn}
 use Rattle.position.specs.View.{viewBelow, sinceIn}
 use Rattle.position.specs.Report.{status, payee, row}
+use Rattle.position.proofs.BlockSets.{set-meets-other}
 use Rattle.position.proofs.SendTests.{since-parent}
-
--- those whose other rival is a member, over the set e of the members
-other-same : (s : List ℕ) (e : ℕ) (member : ℕ → Bool) (t : ℕ) → ((k : ℕ) → k < count s → bit e k ≡ member k) → otherConflictIn s (bit e) t ≡ otherConflictIn s member t
-unfolding otherConflictIn
-other-same s e member t h =
-    conflictIn-same s (λ k. not (eqb k t) && bit e k) (λ k. not (eqb k t) && member k) t (λ k l. ap (λ x. not (eqb k t) && x) (h k l))
 
 -- dead over the set e of the confirmed and the set of those whose other rival is confirmed
 dead-right : (s : List ℕ) (e : ℕ) (member : ℕ → Bool) (t : ℕ) → count s ≤ 32 → t < count s → ((k : ℕ) → k < count s → bit e k ≡ member k)
     → deadIn s e (setBelow (count s) (foundIn s (bit e) true)) t ≡ invalidated s member t
-unfolding deadIn invalidated foundIn
-dead-right s e member t few l h =
-    rw (
-      h t l,
-      inAncestry-same s (bit (setBelow (count s) (foundIn s (bit e) true))) (otherConflictIn s member) t
-          (λ k m. set-bit (count s) (foundIn s (bit e) true) few k (omega arith) ∙ other-same s e member k h),
-    )
+unfolding deadIn invalidated
+dead-right s e member t few l h = rw (h t l, set-meets-other s e member t few l h)
 
 pub payee-right : (p : Position) (t : ℕ) → payeeIn (slot p t) ≡ payee p t
 unfolding payeeIn payee isConfirmed blockOf confirmedTo

@@ -3,16 +3,17 @@
 use Prim.Native.Nat.{ℕ, zero, suc, _≤_, _<_}
 use native.Mathlib.Omega.{arith}
 use mathlib.Core.Path.{_≡_, refl, sym, _∙_}
-use mathlib.Core.Bool.{Bool, true, false, _||_, false≢true}
+use mathlib.Core.Bool.{Bool, true, false, not, _&&_, _||_, false≢true}
 use mathlib.Core.List.{List}
 use lib.Dec.{eqb, ltb}
-use borrow.Author.Tests.{eqb-true, eq-eqb, ltb-true, lt-ltb}
-use Rattle.laws.specs.Booleans.{pick, split, either, or-right, or-neither}
+use borrow.Author.Tests.{eqb-true, eq-eqb, ne-eqb, ltb-true, lt-ltb, not-true}
+use Rattle.laws.specs.Booleans.{pick, split, either, and-parts, or-right, or-neither}
+use Rattle.laws.specs.Below.{any-found}
 use Rattle.laws.specs.Climb.{climbIn, climb}
 use Rattle.sheet.specs.Field.{count, parent}
 use Rattle.sheet.specs.Checked.{Checked}
-use Rattle.slots.specs.Conflict.{conflict, conflictIn}
-use Rattle.slots.specs.Ancestry.{inAncestry, isSelfOrAncestor, meetsConflict}
+use Rattle.slots.specs.Conflict.{conflict, conflictIn, otherConflictIn}
+use Rattle.slots.specs.Ancestry.{inAncestry, isSelfOrAncestor, meetsConflict, meetsOther}
 use Rattle.slots.proofs.AncestrySets.{line-step}
 use Rattle.slots.proofs.Parents.{parent-lower}
 use Rattle.slots.proofs.Conflicts.{conflict-parts, same-opening, none-in, some-in}
@@ -91,6 +92,33 @@ meets-none s member t h = none-in s member t (off-here s (conflictIn s member) t
 pub meets-none-up : (s : List ℕ) (member : ℕ → Bool) (t : ℕ) → parent s t < t → meetsConflict s member t ≡ false → meetsConflict s member (parent s t) ≡ false
 unfolding meetsConflict
 meets-none-up s member t l h = off-up s (conflictIn s member) t l h
+
+-- the same with a rival other than the member
+pub other-find : (s : List ℕ) (member : ℕ → Bool) (t : ℕ) → meetsOther s member t ≡ true
+    → (x : ℕ) × (k : ℕ) × Above s x t × (k < count s) × (conflict s k x ≡ true) × (member k ≡ true) × (eqb k x ≡ false)
+unfolding meetsOther otherConflictIn
+other-find s member t h =
+    let r = line-find s (otherConflictIn s member) t h in
+    let w = some-in s (λ k. not (eqb k (r .0)) && member k) (r .0) (r .2) in
+    let g = and-parts (not (eqb (w .0) (r .0))) (member (w .0)) (w .3) in
+    (r .0, w .0, r .1, w .1, w .2, g .1, not-true (eqb (w .0) (r .0)) (g .0))
+
+-- such a rival above t is met
+pub other-met : (s : List ℕ) (member : ℕ → Bool) {x t : ℕ} (k : ℕ) → Above s x t → k < count s → conflict s k x ≡ true → member k ≡ true → eqb k x ≡ false
+    → meetsOther s member t ≡ true
+unfolding meetsOther otherConflictIn conflictIn
+other-met s member {x} k a l c m e =
+    line-at s (otherConflictIn s member) a (any-found (count s) k (λ j. conflict s j x && (not (eqb j x) && member j)) l (rw (c, e, m)))
+
+pub other-none : (s : List ℕ) (member : ℕ → Bool) (t : ℕ) → meetsOther s member t ≡ false → (k : ℕ) → k < count s → conflict s k t ≡ true → (k ≡ t → ⊥) → member k ≡ false
+unfolding meetsOther otherConflictIn
+other-none s member t h k l c n =
+    let g = none-in s (λ j. not (eqb j t) && member j) t (off-here s (otherConflictIn s member) t h) k l c in
+    rw (ne-eqb k t n) at g
+
+pub other-none-up : (s : List ℕ) (member : ℕ → Bool) (t : ℕ) → parent s t < t → meetsOther s member t ≡ false → meetsOther s member (parent s t) ≡ false
+unfolding meetsOther
+other-none-up s member t l h = off-up s (otherConflictIn s member) t l h
 
 -- two of one line with one parent are one
 siblings : {s : List ℕ} {x y t : ℕ} → Above s x t → Above s y t → parent s x < x → parent s y < y → parent s x ≡ parent s y → x ≡ y

@@ -3,9 +3,8 @@
 use Prim.Native.Nat.{ℕ}
 use mathlib.Core.Bool.{Bool, not, _&&_}
 use mathlib.Core.List.{List}
-use Rattle.slots.specs.Conflict.{otherConflictIn}
-use Rattle.slots.specs.Ancestry.{inAncestry}
+use Rattle.slots.specs.Ancestry.{meetsOther}
 
 -- "Dead: not confirmed, with a member of its line whose other rival is confirmed."
 unfoldable pub invalidated : List ℕ → (ℕ → Bool) → ℕ → Bool
-invalidated s confirmed t = not (confirmed t) && inAncestry s (otherConflictIn s confirmed) t
+invalidated s confirmed t = not (confirmed t) && meetsOther s confirmed t

@@ -1,9 +1,9 @@
--- A mined block and a bump over sets: what they make of a slot, where `leaving` has those with a rival in the block or among those that
--- enter.
+-- A mined block and a bump over sets: what they make of a slot, where `entering` has those that enter the chain or the block, and `leaving`
+-- those with a rival among them, another one for a mined block.
 -- Assumes nothing.
 use Prim.Native.Nat.{ℕ, _<_}
 use mathlib.Core.Path.{_≡_}
-use mathlib.Core.Bool.{Bool, false, not, _&&_}
+use mathlib.Core.Bool.{Bool, false, not, _&&_, _||_}
 use mathlib.Core.List.{List}
 use lib.ListN.{getD}
 use Rattle.laws.specs.Booleans.{pick}
@@ -23,9 +23,9 @@ confirmEntry s b t x =
     (withBlock 0 (withConfirmed (x .block) b (withShared (entryTo (x .block)) (exposedMask s t) x)))
     x
 
--- confirmed in block b if it was in the block, out of the pool if its line meets the set
-unfoldable pub minedSlot : List ℕ → ℕ → ℕ → ℕ → Slot → Slot
-minedSlot s b leaving t x = pick (inAncestry s (bit leaving) t) (withPool 0 (confirmEntry s b t x)) (confirmEntry s b t x)
+-- confirmed in block b if it was in the block, out of the pool if it enters the chain or its line meets the set
+unfoldable pub minedSlot : List ℕ → ℕ → ℕ → ℕ → ℕ → Slot → Slot
+minedSlot s b entering leaving t x = pick (bit entering t || inAncestry s (bit leaving) t) (withPool 0 (confirmEntry s b t x)) (confirmEntry s b t x)
 
 -- into the block if it enters, out of it if its line meets the set
 unfoldable pub bumpedSlot : List ℕ → ℕ → ℕ → ℕ → Slot → Slot
@@ -34,7 +34,7 @@ bumpedSlot s entering leaving t x =
 
 -- one of the two
 unfoldable pub changedSlot : List ℕ → Change → ℕ → Slot → Slot
-changedSlot s c t x = pick (c .mine) (minedSlot s (c .block) (c .leaving) t x) (bumpedSlot s (c .entering) (c .leaving) t x)
+changedSlot s c t x = pick (c .mine) (minedSlot s (c .block) (c .entering) (c .leaving) t x) (bumpedSlot s (c .entering) (c .leaving) t x)
 
 -- the slots of the transactions outside the set `there` stay as they are
 pub record Outside (s : List ℕ) (c : Change) (there : ℕ) (l : List Slot) : Type 0 where

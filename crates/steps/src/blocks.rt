@@ -17,7 +17,7 @@ fn changed_slot(sheet: &[u8], change: Change, t: usize, x: Slot) -> Slot
     ensures { λ r. ⌜ r ≡ changedSlot (now (sheet .entry)) change t x ⌝ }
 {
     if change.mine {
-        return mined::mined_slot(sheet, change.block, change.leaving, t, x);
+        return mined::mined_slot(sheet, change.block, change.entering, change.leaving, t, x);
     }
     bumped::bumped_slot(sheet, change.entering, change.leaving, t, x)
 }

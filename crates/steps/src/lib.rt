@@ -52,8 +52,8 @@ pub struct Outlook {
     pub bobhas: u8,
 }
 
-// A change of the slots of all transactions: a mined block, with its number and those with a rival in it; or a bump, with
-// those that enter the block and those with a rival among them.
+// A change of the slots of all transactions: a mined block, with its number, its entries, which enter the chain, and those
+// with another rival among them; or a bump, with those that enter the block and those with a rival among them.
 pub struct Change {
     pub mine: bool,
     pub block: u16,

@@ -1,4 +1,5 @@
 // What a mined block makes of a slot: kind 6.
+use sheet::set;
 use slots::Slot;
 use slots::ancestry;
 use slots::signatures;
@@ -23,15 +24,18 @@ fn confirm_entry(sheet: &[u8], block: u16, t: usize, x: Slot) -> Slot
     confirmed.with_block(0)
 }
 
-// What a mined block makes of one slot.
-pub fn mined_slot(sheet: &[u8], block: u16, leaving: u32, t: usize, x: Slot) -> Slot
+// What a mined block makes of one slot: who enters the chain leaves the pool, and so does who conflicts with another there.
+pub fn mined_slot(sheet: &[u8], block: u16, entering: u32, leaving: u32, t: usize, x: Slot) -> Slot
     requires { ⌜ Sized (now sheet) ⌝ }
     requires { ⌜ t < count (now sheet) ⌝ }
-    ensures { λ r. ⌜ r ≡ minedSlot (now (sheet .entry)) block leaving t x ⌝ }
+    ensures { λ r. ⌜ r ≡ minedSlot (now (sheet .entry)) block entering leaving t x ⌝ }
 {
     let y = confirm_entry(sheet, block, t, x);
     if y.pool == 0 {
         return y;
+    }
+    if set::has(entering, t) {
+        return y.with_pool(0);
     }
     if ancestry::in_ancestry(sheet, leaving, t) {
         return y.with_pool(0);

@@ -216,8 +216,8 @@ pub fn check_mine(position: &Position, owed: bool) -> Checked {
     require(position.mined < MOST_BLOCKS, 23)
 }
 
-/// "the block is confirmed and its entries shared as in 3; every pool entry whose line meets a rival of a mined one
-/// leaves".
+/// "the block is confirmed and its entries shared as in 3"; Slip 1: "a mined transaction leaves the pool itself. Others
+/// leave exactly if their line meets a different rival of a mined one."
 fn mine(contract: &Contract, position: &mut Position) {
     position.mined += 1;
     for t in bits(position.block) {
@@ -227,15 +227,17 @@ fn mine(contract: &Contract, position: &mut Position) {
         position.share(t, to, contract.transactions[t].exposes);
     }
     position.confirmed |= position.block;
-    position.pool &= !conflicting(contract, position.pool, position.block);
+    let rivals = bits(position.block).fold(0, |all, t| {
+        all | contract.transactions[t].rivals & !(1 << t)
+    });
+    position.pool &= !(position.block | meeting(contract, position.pool, rivals));
     position.block = 0;
 }
 
-/// The entries whose line meets a rival of a member of the set.
-fn conflicting(contract: &Contract, entries: u32, set: u32) -> u32 {
-    let rivals = bits(set).fold(0, |all, t| all | contract.transactions[t].rivals);
+/// The entries whose line meets the set.
+fn meeting(contract: &Contract, entries: u32, set: u32) -> u32 {
     bits(entries)
-        .filter(|&t| contract.transactions[t].line & rivals != 0)
+        .filter(|&t| contract.transactions[t].line & set != 0)
         .fold(0, |all, t| all | 1 << t)
 }
 
@@ -253,7 +255,8 @@ fn take_bump(contract: &Contract, position: &mut Position, party: u8, t: u8, to:
 /// leave first."
 fn bump(contract: &Contract, position: &mut Position, t: usize) {
     let entering = contract.transactions[t].line & position.pool & !position.block;
-    position.block &= !conflicting(contract, position.block, entering);
+    let rivals = bits(entering).fold(0, |all, t| all | contract.transactions[t].rivals);
+    position.block &= !meeting(contract, position.block, rivals);
     position.block |= entering;
     for t in bits(entering) {
         position.block_to[t] = position.pool_to[t];

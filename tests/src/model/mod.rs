@@ -1,7 +1,7 @@
 //! The reference model, one file for each idea of document 01. In its order:
 //! sheet, setup, heights, report (holders and payouts), ledger, position, step,
-//! conduct, journal, open, calls, swapreport; and claims, what demand 3 says of
-//! them.
+//! conduct, journal, open, calls, swapreport; slips, document 02's changes of
+//! them; and claims, what demand 3 says of them.
 
 pub mod calls;
 pub mod claims;
@@ -14,6 +14,7 @@ pub mod position;
 pub mod report;
 pub mod setup;
 pub mod sheet;
+pub mod slips;
 pub mod step;
 pub mod swapreport;
 

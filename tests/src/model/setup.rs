@@ -1,6 +1,7 @@
 //! The setup: blocks per day, conduct, stealth; checks 9 and 10.
 
 use super::sheet;
+use super::slips::Slips;
 
 /// "conduct (0 open, 1 loose, 2 careful)".
 #[derive(Clone, Copy, Debug, PartialEq, Eq)]
@@ -17,6 +18,8 @@ pub struct Setup {
     pub conduct: Conduct,
     /// Whether a hand-in to the miner is possible.
     pub stealth: bool,
+    /// The rules that the game goes by; no byte of the setup tells.
+    pub slips: Slips,
 }
 
 /// "blocks per day (2 bytes, 1 to 1,000)", little-endian.
@@ -62,6 +65,7 @@ pub fn read(sheet_bytes: &[u8], bytes: &[u8]) -> Result<Setup, u32> {
                 _ => Conduct::Careful,
             },
             stealth: bytes[3] == 1,
+            slips: Slips::ALL,
         }),
         number => Err(number),
     }

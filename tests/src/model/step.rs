@@ -5,6 +5,7 @@ use super::heights;
 use super::position::{within, Confirmation, Position};
 use super::setup::{Conduct, Setup};
 use super::sheet::Sheet;
+use super::slips::Slips;
 use super::{ALICE, BOB, CONTRACT, MINER};
 use std::collections::BTreeSet;
 
@@ -331,7 +332,7 @@ pub fn refusal(sheet: &Sheet, setup: &Setup, position: &Position, bytes: &[u8; 4
 }
 
 /// The effect of an accepted step.
-pub fn effect(sheet: &Sheet, position: &mut Position, step: &Step) {
+pub fn effect(sheet: &Sheet, slips: Slips, position: &mut Position, step: &Step) {
     let (t, destination) = (step.transaction, step.destination);
     match step.kind {
         Kind::Share if t == ALL => {
@@ -352,7 +353,7 @@ pub fn effect(sheet: &Sheet, position: &mut Position, step: &Step) {
             let entry = position.pool[&t];
             position.block.insert(t, entry);
         }
-        Kind::Mine => mine(sheet, position),
+        Kind::Mine => mine(sheet, slips, position),
         Kind::Bump => bump(sheet, position, t),
     }
 }
@@ -385,8 +386,8 @@ fn line_meets(sheet: &Sheet, t: u8, set: &BTreeSet<u8>) -> bool {
 }
 
 /// "Mine (transaction 255): the block is confirmed and its entries shared as in
-/// 3; every pool entry whose line meets a rival of a mined one leaves."
-fn mine(sheet: &Sheet, position: &mut Position) {
+/// 3"; some entries leave the pool.
+fn mine(sheet: &Sheet, slips: Slips, position: &mut Position) {
     let entries = std::mem::take(&mut position.block);
     position.mined += 1;
     for (&t, &destination) in &entries {
@@ -395,10 +396,27 @@ fn mine(sheet: &Sheet, position: &mut Position) {
         position.confirmed.insert(t, confirmation);
         expose(sheet, position, t, destination);
     }
-    let leaving = rivals_of(sheet, &entries.into_keys().collect());
-    position
-        .pool
-        .retain(|&t, _| !line_meets(sheet, t, &leaving));
+    let mined = entries.into_keys().collect();
+    let leaves = match slips.waiting_children_stay {
+        true => leaves_pool,
+        false => left_pool_in_document_01,
+    };
+    position.pool.retain(|&t, _| !leaves(sheet, &mined, t));
+}
+
+/// Slip 1: "a mined transaction leaves the pool itself. Others leave exactly if
+/// their line meets a different rival of a mined one."
+fn leaves_pool(sheet: &Sheet, mined: &BTreeSet<u8>, t: u8) -> bool {
+    let different_rival = |member: u8| {
+        let mut rivals = sheet.rivals(member).iter();
+        rivals.any(|rival| *rival != member && mined.contains(rival))
+    };
+    mined.contains(&t) || sheet.line(t).iter().any(|&member| different_rival(member))
+}
+
+/// Document 01: "every pool entry whose line meets a rival of a mined one leaves".
+fn left_pool_in_document_01(sheet: &Sheet, mined: &BTreeSet<u8>, t: u8) -> bool {
+    line_meets(sheet, t, &rivals_of(sheet, mined))
 }
 
 /// "It and, here, all its waiting ancestors outside the block enter; block

@@ -8,7 +8,7 @@ use Rattle.slots.specs.Conflict.{foundIn}
 use Rattle.sheet.specs.Field.{count}
 use Rattle.laws.specs.Sets.{setBelow}
 use Rattle.laws.specs.Mask.{bit}
-use mathlib.Core.Bool.{false}
+use mathlib.Core.Bool.{true}
 use mathlib.Core.Path.{ap, _∙_}
 use denote.Ref.{now}
 use borrow.Author.Needs.{needs}
@@ -22,11 +22,11 @@ add-block : tie.Need-add-block
 add-block c = search needs
 
 changed-slots-requires : tie.Need-changed-slots-requires
-changed-slots-requires c κs = (c .before .before .before .before .before .pre .0, mined-outside _ _ _ (c .before .before .before .before .before .pre .0 .few) (c .before .before .before .before .before .pre .1 .0) _ _)
+changed-slots-requires c κs = (c .before .before .before .before .before .pre .0, mined-outside _ _ _ (c .before .before .before .before .before .pre .0 .few) (c .before .before .before .before .before .pre .1 .0) _ _ _)
 
 returns : tie.Need-returns
 unfolding afterMine withMined changeSlots withSlots changedSlot
-returns c = rw (c .changed-slots .ensures, mined-right (now (c .before .before .before .before .before .before .args .sheet)) (c .before .before .before .before .before .before .args .self) (c .before .before .before .before .conflicts-of .result) (search needs) (c .before .before .before .before .conflicts-of .ensures ∙ ap (λ (v : View). setBelow (count (now (c .before .before .before .before .before .before .args .sheet))) (foundIn (now (c .before .before .before .before .before .before .args .sheet)) (bit (v .block)) false)) (c .before .before .before .before .before .before .pre .1 .0)))
+returns c = rw (c .changed-slots .ensures, mined-right (now (c .before .before .before .before .before .before .args .sheet)) (c .before .before .before .before .before .before .args .self) (c .before .before .before .before .before .before .args .view .block) (c .before .before .before .before .conflicts-of .result) (search needs) (ap (λ (v : View). v .block) (c .before .before .before .before .before .before .pre .1 .0)) (c .before .before .before .before .conflicts-of .ensures ∙ ap (λ (v : View). setBelow (count (now (c .before .before .before .before .before .before .args .sheet))) (foundIn (now (c .before .before .before .before .before .before .args .sheet)) (bit (v .block)) true)) (c .before .before .before .before .before .before .pre .1 .0)))
 
 pub after-entries-spec : {M : Type 1} → statement M
 after-entries-spec =
