@@ -9,7 +9,7 @@
  * An output buffer overlaps no other slice of its call.
  *
  * The first refusal is answered, in this order: the sheet's 1 to 8, the setup's 9 and 10, the journal's 24, then 11 to 23
- * step by step, and 25 last.
+ * step by step, with 17 before 16, and 25 last.
  */
 #ifndef SWAP_H
 #define SWAP_H

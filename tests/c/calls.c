@@ -79,6 +79,7 @@ static const struct refused table[] = {
     {"revoke before lock_A", 15, 0, {WHOLE(saswap), OPEN, SLICE(3, 0, 4, 2)}},
     {"success without sigBob", 16, 3, {WHOLE(saswap), OPEN, SLICE(LOCK_A, 3, 0, 2, 2)}},
     {"revoke at 5 blocks", 17, 8, {WHOLE(saswap), OPEN, SLICE(LOCK_A, GIVE_SIG_ALICE, MINE, MINE, MINE, MINE, 3, 1, 4, 2)}},
+    {"revoke at 5 blocks without sigAlice", 17, 7, {WHOLE(saswap), OPEN, SLICE(LOCK_A, MINE, MINE, MINE, MINE, 3, 1, 4, 2)}},
     {"success at 3 blocks", 18, 6, {WHOLE(saswap), OPEN, SLICE(LOCK_A, GIVE_SIG_ALICE, MINE, MINE, SEND_SUCCESS)}},
     {"lock_A not in pool", 19, 0, {WHOLE(saswap), OPEN, SLICE(5, 2, 0, 2)}},
     {"mine, success waits", 20, 6, {WHOLE(saswap), OPEN, SLICE(LOCK_A, GIVE_SIG_ALICE, SEND_SUCCESS, MINE, MINE)}},

@@ -563,11 +563,11 @@ fn row_15() {
     assert_eq!(game.next([5, 2, 4, 2]), 15);
     // In pool it is there for a pool send, in the block for a hand-in.
     let pool = game.clone().after(&[[3, 0, 0, 2]]);
-    assert_eq!(pool.next([3, 0, 4, 2]), 16);
+    assert_eq!(pool.next([3, 0, 4, 2]), 17);
     assert_eq!(pool.next([4, 0, 4, 2]), 15);
     let block = game.after(&[[4, 0, 0, 2]]);
     assert_eq!(block.next([3, 0, 4, 2]), 15);
-    assert_eq!(block.next([4, 0, 4, 2]), 16);
+    assert_eq!(block.next([4, 0, 4, 2]), 17);
     // An included child needs the parent in the block.
     let children = pool.after(&[GIVE_SIG_ALICE, [3, 1, 2, 2]]);
     assert_eq!(children.next([5, 2, 2, 2]), 15);
@@ -596,9 +596,12 @@ fn row_17() {
     let game = game.after(&[GIVE_SIG_ALICE]);
     assert_eq!(game.clone().at_blocks(5).next([3, 1, 4, 2]), 17);
     assert_eq!(game.at_blocks(6).next([3, 1, 4, 2]), 0);
-    // 16 stands before 17.
-    let game = Game::saswap(3, 0, 0).after(&LOCK_A);
-    assert_eq!(game.next([3, 1, 4, 2]), 16);
+    // 17 stands before 16: Bob lacks a signature too.
+    let game = Game::saswap(3, 0, 1).after(&LOCK_A);
+    for kind in [3, 4] {
+        assert_eq!(game.clone().at_blocks(5).next([kind, 1, 4, 2]), 17);
+        assert_eq!(game.clone().at_blocks(6).next([kind, 1, 4, 2]), 16);
+    }
 }
 
 #[test]

@@ -1,7 +1,7 @@
 -- The kinds of row of the table of known positions, and what each says of the rules.
 -- Assumes nothing.
 use Prim.Native.Nat.{ℕ, _*_}
-use mathlib.Core.Bool.{Bool, true, false, _&&_, _||_}
+use mathlib.Core.Bool.{Bool, true, false, _&&_, _||_, Bool·beq}
 use mathlib.Core.List.{List, [], _∷_, _++_}
 use lib.Dec.{eqb}
 use lib.ListN.{length, getD}
@@ -36,6 +36,8 @@ pub data Case : Type 0 where
   -- on the SASwap sheet, after this journal: this many blocks, lock_A confirmed, signatures at hand for this send, no rival in pool, block or confirmed; the
   -- send gets this number
   sendGets : (setup journal : List ℕ) (blocks : ℕ) (send : List ℕ) (number : ℕ) → Case
+  -- the same, but a signature is missing for this send
+  unsignedGets : (setup journal : List ℕ) (blocks : ℕ) (send : List ℕ) (number : ℕ) → Case
   -- on the SASwap sheet, after this journal: the mask shared for this transaction and destination
   sharedIs : (setup journal : List ℕ) (t destination mask : ℕ) → Case
   -- after this journal: the status of this transaction
@@ -57,11 +59,20 @@ swapSheet u = saswap (perDay u)
 unfoldable pub passes : Ran → List ℕ → Bool
 passes r j = eqb (r .refusal) accepted && eqb (r .accepted * 4) (length j)
 
--- P6 and P7's place for a send by this party of this transaction to this destination
-unfoldable pub sendPlace : List ℕ → Position → ℕ → ℕ → ℕ → Bool
-sendPlace s p party t destination =
+-- P6 and P7's place for a send by this party of this transaction to this destination, with signatures at hand or without
+unfoldable pub sendPlace : Bool → List ℕ → Position → ℕ → ℕ → ℕ → Bool
+sendPlace atHand s p party t destination =
     isConfirmed p lockA
-    && (signed s (senderHas s p party t destination) t && noConflict s (λ k. sent p k || inBlock p k) t)
+    && (Bool·beq (signed s (senderHas s p party t destination) t) atHand && noConflict s (λ k. sent p k || inBlock p k) t)
+
+-- in that place the send gets this number
+unfoldable pub getsThere : Bool → List ℕ → List ℕ → ℕ → List ℕ → ℕ → Bool
+getsThere atHand u j blocks send number =
+    let r = run (swapSheet u) u j in
+    passes r j
+    && (eqb (r .position .mined) blocks
+    && (sendPlace atHand (swapSheet u) (r .position) (getD send 1 0) (getD send 2 0) (getD send 3 0)
+    && eqb (run (swapSheet u) u (j ++ send) .refusal) number))
 
 -- the same lines, each with the same numbers
 unfoldable pub sameLines : List (List ℕ) → List (List ℕ) → Bool
@@ -78,12 +89,8 @@ holds (sheetLength d bytes) = eqb (length (saswap d)) bytes
 holds (statusesZero u j) =
     let r = run (swapSheet u) u j in
     passes r j && allBelow (count (swapSheet u)) (λ t. eqb (status (swapSheet u) (r .position) t) 0)
-holds (sendGets u j blocks send number) =
-    let r = run (swapSheet u) u j in
-    passes r j
-    && (eqb (r .position .mined) blocks
-    && (sendPlace (swapSheet u) (r .position) (getD send 1 0) (getD send 2 0) (getD send 3 0)
-    && eqb (run (swapSheet u) u (j ++ send) .refusal) number))
+holds (sendGets u j blocks send number) = getsThere true u j blocks send number
+holds (unsignedGets u j blocks send number) = getsThere false u j blocks send number
 holds (sharedIs u j t destination mask) =
     let r = run (swapSheet u) u j in
     passes r j && eqb (shared (r .position) t destination) mask

@@ -11,7 +11,7 @@ use Rattle.sheet.specs.LockHeight.{never}
 use Rattle.slots.specs.Destination.{alice, contract}
 use Rattle.steps.specs.Names.{lockA, success, refund1, revoke, refund2, timeout, spendB, spendRevoke}
 use Rattle.position.proofs.Opened.{opened}
-use Rattle.known.specs.Case.{Case, lockIs, deadlineIs, sheetLength, statusesZero, sendGets, sharedIs, statusIs, stepGets, prints, revokedIn, swapSheet, passes, sendPlace, sameLines, holds}
+use Rattle.known.specs.Case.{Case, lockIs, deadlineIs, sheetLength, statusesZero, sendGets, unsignedGets, sharedIs, statusIs, stepGets, prints, revokedIn, swapSheet, passes, sendPlace, getsThere, sameLines, holds}
 
 -- "3 a day, open, stealth 1"
 abbrev setup3 : List ℕ
@@ -36,6 +36,10 @@ successAt2 = lockedA ++ (1 ∷ 0 ∷ 2 ∷ 2 ∷ mine)
 -- Alice shares revoke; Bob can sign it then
 abbrev revokeAt5 : List ℕ
 revokeAt5 = lockedA ++ (1 ∷ 0 ∷ 4 ∷ 2 ∷ mine) ++ mine ++ mine ++ mine
+
+-- nothing is shared; Bob cannot sign revoke
+abbrev unsharedAt5 : List ℕ
+unsharedAt5 = lockedA ++ mine ++ mine ++ mine ++ mine
 
 -- Bob shares refund_1; Alice can sign it then
 abbrev refundAt3 : List ℕ
@@ -168,11 +172,18 @@ known =
     -- the same: who meets a different rival of a mined one leaves, and its child with it
     ∷ statusIs rivalSheet (3 ∷ 0 ∷ 0 ∷ 1 ∷ []) rivalMined 2 8
     ∷ statusIs rivalSheet (3 ∷ 0 ∷ 0 ∷ 1 ∷ []) rivalMined 4 8
+    -- Slip 3: "kinds 3 and 4 that met both 16 and 17 got 16 and now get 17", at 5 blocks; at 6 only 16 is met
+    ∷ unsignedGets setup3 unsharedAt5 5 (3 ∷ 1 ∷ 4 ∷ 2 ∷ []) 17
+    ∷ unsignedGets setup3 unsharedAt5 5 (4 ∷ 1 ∷ 4 ∷ 2 ∷ []) 17
+    ∷ unsignedGets setup3 (unsharedAt5 ++ mine) 6 (3 ∷ 1 ∷ 4 ∷ 2 ∷ []) 16
+    ∷ unsignedGets setup3 (unsharedAt5 ++ mine) 6 (4 ∷ 1 ∷ 4 ∷ 2 ∷ []) 16
+    -- the same: 18 stays behind 16, for success at 3 blocks
+    ∷ unsignedGets setup3 (lockedA ++ mine ++ mine) 3 (3 ∷ 1 ∷ 2 ∷ 2 ∷ []) 16
     ∷ []
 
 -- the one fact
 pub all-hold : every holds known ≡ true
-unfolding opened revokedIn swapSheet passes sendPlace sameLines holds known
+unfolding opened revokedIn swapSheet passes sendPlace getsThere sameLines holds known
 all-hold = refl
 
 -- the row at each place holds

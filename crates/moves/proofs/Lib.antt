@@ -19,4 +19,8 @@ pub mod Quiet
 pub mod Starts
 pub mod WellformedSlots
 pub mod Wellformeds
+pub mod TurnedTests
+pub mod OlderOrders
+pub mod OlderRuns
+pub mod OlderExamples
 pub mod Theorems

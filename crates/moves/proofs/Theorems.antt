@@ -1,4 +1,4 @@
--- What is proved of the open steps, and of every position that steps lead to.
+-- What is proved of the open steps, of every position that steps lead to, and of the order of a send's tests.
 -- Assumes nothing.
 use Prim.Native.Nat.{ℕ}
 use mathlib.Core.Path.{_≡_}
@@ -7,13 +7,18 @@ use Rattle.laws.specs.Members.{Rising}
 use Rattle.sheet.specs.Refusal.{accepted}
 use Rattle.sheet.specs.Check.{sheetRefusal}
 use Rattle.sheet.proofs.Theorems.{sheet-checked}
+use Rattle.slots.specs.declared.Step.{Step}
 use Rattle.position.specs.declared.Position.{Position}
 use Rattle.position.specs.Position.{start}
 use Rattle.position.specs.Play.{FourBytes, step, run, play}
 use Rattle.position.specs.Open.{listSteps, listedBefore}
+use Rattle.position.specs.Conduct.{payingFirst}
 use Rattle.moves.specs.Wellformed.{Wellformed}
+use Rattle.moves.specs.OlderOrder.{olderPayingFirst, SameButBoth, olderRun, SameRun}
 use Rattle.moves.proofs.ListedBytes
 use Rattle.moves.proofs.Wellformeds
+use Rattle.moves.proofs.OlderOrders
+use Rattle.moves.proofs.OlderRuns
 
 -- Four bytes are accepted as a step on a position if and only if they stand in the list for that position.
 pub open-exact : (s u : List ℕ) (p : Position) (b : FourBytes) → sheetRefusal s ≡ 0 → (step s u p b .refusal ≡ accepted → List·Memᴰ b (listSteps s u p)) × (List·Memᴰ b (listSteps s u p) → step s u p b .refusal ≡ accepted)
@@ -38,3 +43,16 @@ wellformed-play s u bs p h = Wellformeds.wellformed-play s u (sheet-checked s h)
 -- The position after a journal, refused or not, is well formed on a checked sheet.
 pub wellformed-run : (s u j : List ℕ) → sheetRefusal s ≡ 0 → Wellformed s (run s u j .position)
 wellformed-run s u j h = Wellformeds.wellformed-run s u (sheet-checked s h) j
+
+-- Slip 3: for every sheet, setup, position and step the answer by document 01's order and the present one are the same, but for a send
+-- that met both 16 and 17, which got 16 and gets 17.
+pub lock-before-signature : (s u : List ℕ) (p : Position) (x : Step) → SameButBoth s u p x
+lock-before-signature = OlderOrders.same-but-both
+
+-- Paying first, which asks whether a send would pass, says what it said.
+pub paying-first-kept : (s u : List ℕ) (p : Position) (party t : ℕ) → olderPayingFirst s u p party t ≡ payingFirst s u p party t
+paying-first-kept = OlderOrders.paying-first
+
+-- A journal runs as far as it did and to the same position; its number is the one it got, or 17 for 16.
+pub runs-as-far : (s u j : List ℕ) → SameRun (olderRun s u j) (run s u j)
+runs-as-far = OlderRuns.same-run

@@ -21,6 +21,6 @@ tests s u p (Include party t to) = includeTests s u p t
 tests s u p (Mine party t to) = mineTests s u p
 tests s u p (Bump party t to) = bumpTests s u p t
 
--- "Checks go by rising number": the first that fails, 0 if none
+-- "Checks go by rising number", but for Slip 3: the first in the order of the tests that fails, 0 if none
 unfoldable pub stepRefusal : List ℕ → List ℕ → Position → Step → ℕ
 stepRefusal s u p x = firstFailing (tests s u p x)

@@ -1,4 +1,5 @@
--- The tests of each kind of step whose fields are right, by rising refusal number. Those of kinds 1 to 4 take what conduct says of the step.
+-- The tests of each kind of step whose fields are right, by rising refusal number but for kinds 3 and 4, where 17 stands before 16.
+-- Those of kinds 1 to 4 take what conduct says of the step.
 -- Assumes nothing.
 use Prim.Native.Nat.{ℕ}
 use mathlib.Core.Bool.{Bool, not, _&&_, _||_}
@@ -37,14 +38,15 @@ giveMet p party i receiver = holds p party i && not (holds p receiver i)
 unfoldable pub giveTests : Bool → Position → ℕ → ℕ → ℕ → List (ℕ × Bool)
 giveTests allowed p party i receiver = (stepConduct, allowed && giveMet p party i receiver) ∷ []
 
--- what kinds 3 and 4 share, against a set of transactions: "no rival .., parent there, signatures, lock height ≤ blocks mined"
+-- what kinds 3 and 4 share, against a set of transactions: "no rival .., parent there, signatures, lock height ≤ blocks mined";
+-- Slip 3: "The lock is now tested first.", before the signatures
 unfoldable pub sendTests : Bool → List ℕ → List ℕ → Position → (ℕ → Bool) → ℕ → ℕ → ℕ → List (ℕ × Bool)
 sendTests allowed s u p there party t destination =
     (stepConduct, allowed)
     ∷ (stepConflict, noConflict s there t)
     ∷ (stepParent, hasParent s there t)
-    ∷ (stepSignatures, signed s (senderHas s p party t destination) t)
     ∷ (stepLock, leb (lockHeightIn s u p t) (p .mined))
+    ∷ (stepSignatures, signed s (senderHas s p party t destination) t)
     ∷ []
 
 -- 3 "Send to pool: no rival in pool or confirmed, parent there, signatures, lock height ≤ blocks mined, blocks mined < deadline."

@@ -18,14 +18,14 @@ use Rattle.slots.specs.Signatures.{signed}
 use Rattle.steps.specs.declared.View.{View}
 use Rattle.steps.specs.View.{sentSet, placedSet, senderIn}
 
--- what kinds 3 and 4 share, against the set `there`, for a sender who has `have`
+-- what kinds 3 and 4 share, against the set `there`, for a sender who has `have`; Slip 3: "The lock is now tested first."
 unfoldable pub sendTestsIn : Bool → List ℕ → ℕ → ℕ → ℕ → ℕ → ℕ → ℕ → List (ℕ × Bool)
 sendTestsIn allowed s d there have since mined t =
     (stepConduct, allowed)
     ∷ (stepConflict, noConflict s (bit there) t)
     ∷ (stepParent, hasParent s (bit there) t)
-    ∷ (stepSignatures, signed s have t)
     ∷ (stepLock, leb (lockHeight s d (λ k. since) t) mined)
+    ∷ (stepSignatures, signed s have t)
     ∷ []
 
 -- 3 "Send to pool"

@@ -74,7 +74,7 @@ fn in_time(sheet: &[u8], per_day: u16, since: u16, mined: u16, t: usize) -> bool
     lock_height::wide(mined) < deadline::deadline(sheet, per_day, since, t)
 }
 
-// The first that fails of the tests that kinds 3 and 4 share.
+// The first that fails of the tests that kinds 3 and 4 share, the lock before the signatures.
 fn send_refusal(
     sheet: &[u8],
     per_day: u16,
@@ -99,11 +99,11 @@ fn send_refusal(
     if !parent::parent_there(sheet, there, t) {
         return refusal::STEP_PARENT;
     }
-    if !signatures::signed(sheet, have, t) {
-        return refusal::STEP_SIGNATURES;
-    }
     if !unlocked(sheet, per_day, since, mined, t) {
         return refusal::STEP_LOCK;
+    }
+    if !signatures::signed(sheet, have, t) {
+        return refusal::STEP_SIGNATURES;
     }
     refusal::ACCEPTED
 }

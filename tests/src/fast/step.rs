@@ -124,7 +124,7 @@ fn take_send(contract: &Contract, position: &mut Position, party: u8, t: u8, to:
     Ok(())
 }
 
-/// 14 to 18 of a send to the pool.
+/// 14, 15, 17, 16 and 18 of a send to the pool.
 pub fn check_send(
     contract: &Contract,
     position: &Position,
@@ -138,7 +138,7 @@ pub fn check_send(
     require(position.mined < deadline, 18)
 }
 
-/// 14 to 17, which are the same for kinds 3 and 4 but for what is there.
+/// 14, 15, 17 and 16, which are the same for kinds 3 and 4 but for what is there.
 fn check_both(
     contract: &Contract,
     position: &Position,
@@ -150,9 +150,9 @@ fn check_both(
     let x = &contract.transactions[t];
     require(x.rivals & there == 0, 14)?;
     require(x.parent_mask & !there == 0, 15)?;
+    require(position.lock_height(x) <= position.mined, 17)?;
     let signatures = position.signatures(contract, party, t, to);
-    require(x.needs & !signatures == 0, 16)?;
-    require(position.lock_height(x) <= position.mined, 17)
+    require(x.needs & !signatures == 0, 16)
 }
 
 fn take_hand_in(contract: &Contract, position: &mut Position, party: u8, t: u8, to: u8) -> Checked {
@@ -166,7 +166,7 @@ fn take_hand_in(contract: &Contract, position: &mut Position, party: u8, t: u8, 
     Ok(())
 }
 
-/// 12 and 14 to 17 of a hand-in.
+/// 12, 14, 15, 17 and 16 of a hand-in.
 pub fn check_hand_in(
     contract: &Contract,
     position: &Position,

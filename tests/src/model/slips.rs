@@ -7,10 +7,13 @@
 pub struct Slips {
     /// Slip 1: "Waiting children stay in the pool."
     pub waiting_children_stay: bool,
+    /// Slip 3: "Lock before signature."
+    pub lock_before_signature: bool,
 }
 
 impl Slips {
     pub const ALL: Slips = Slips {
         waiting_children_stay: true,
+        lock_before_signature: true,
     };
 }

@@ -144,27 +144,12 @@ pub fn other(party: u8) -> u8 {
 /// The number of a test and whether a step fails it.
 type Test = (u32, fn(&Case) -> bool);
 
-/// The tests of each kind after 11: "Checks go by rising number".
-fn tests(kind: Kind) -> &'static [Test] {
+/// The tests of each kind after 11: "Checks go by rising number", but for sends.
+fn tests(kind: Kind, slips: Slips) -> &'static [Test] {
     match kind {
         Kind::Share => &[(13, conduct::breaks), (13, share_unmet)],
         Kind::Give => &[(13, conduct::breaks), (13, give_unmet)],
-        Kind::SendToPool => &[
-            (13, conduct::breaks),
-            (14, rival_in_pool_or_confirmed),
-            (15, parent_not_in_pool_or_confirmed),
-            (16, signatures_missing),
-            (17, lock_not_reached),
-            (18, deadline_reached),
-        ],
-        Kind::HandToMiner => &[
-            (12, stealth_missing),
-            (13, conduct::breaks),
-            (14, rival_in_block_or_confirmed),
-            (15, parent_not_in_block_or_confirmed),
-            (16, signatures_missing),
-            (17, lock_not_reached),
-        ],
+        Kind::SendToPool | Kind::HandToMiner => send_tests(kind, slips),
         Kind::Include => &[
             (14, rival_in_block_or_confirmed),
             (15, parent_not_in_block_or_confirmed),
@@ -177,6 +162,52 @@ fn tests(kind: Kind) -> &'static [Test] {
             (23, blocks_used_up),
         ],
         Kind::Bump => &[(21, bump_not_owed)],
+    }
+}
+
+/// The tests of kinds 3 and 4. Slip 3: "A step can fail for missing signatures and
+/// for an unreached lock together ... The lock is now tested first."
+fn send_tests(kind: Kind, slips: Slips) -> &'static [Test] {
+    match (kind, slips.lock_before_signature) {
+        (Kind::SendToPool, true) => &[
+            (13, conduct::breaks),
+            (14, rival_in_pool_or_confirmed),
+            (15, parent_not_in_pool_or_confirmed),
+            (17, lock_not_reached),
+            (16, signatures_missing),
+            (18, deadline_reached),
+        ],
+        (_, true) => &[
+            (12, stealth_missing),
+            (13, conduct::breaks),
+            (14, rival_in_block_or_confirmed),
+            (15, parent_not_in_block_or_confirmed),
+            (17, lock_not_reached),
+            (16, signatures_missing),
+        ],
+        (_, false) => older_send_tests(kind),
+    }
+}
+
+/// Document 01's order of them, by rising number.
+fn older_send_tests(kind: Kind) -> &'static [Test] {
+    match kind {
+        Kind::SendToPool => &[
+            (13, conduct::breaks),
+            (14, rival_in_pool_or_confirmed),
+            (15, parent_not_in_pool_or_confirmed),
+            (16, signatures_missing),
+            (17, lock_not_reached),
+            (18, deadline_reached),
+        ],
+        _ => &[
+            (12, stealth_missing),
+            (13, conduct::breaks),
+            (14, rival_in_block_or_confirmed),
+            (15, parent_not_in_block_or_confirmed),
+            (16, signatures_missing),
+            (17, lock_not_reached),
+        ],
     }
 }
 
@@ -312,7 +343,7 @@ fn blocks_used_up(case: &Case) -> bool {
 
 /// The number of the first test after 11 that a step fails, 0 if none.
 pub fn first_failed(case: &Case) -> u32 {
-    tests(case.step.kind)
+    tests(case.step.kind, case.setup.slips)
         .iter()
         .find(|(_, fails)| fails(case))
         .map_or(0, |(number, _)| *number)

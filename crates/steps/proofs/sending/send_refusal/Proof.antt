@@ -31,23 +31,23 @@ returns-3 : tie.Need-returns-3
 unfolding sendTestsIn noConflict
 returns-3 c = passes _ _ _ _ _ refl (c .before .before .before .before .if1 .left) (passes-not _ _ _ _ _ (c .before .before .before .conflict-in .ensures) (c .before .before .if2 .left) (fails _ _ _ _ (c .before .parent-there .ensures) (c .if3 .taken)))
 
-signed-requires : tie.Need-signed-requires
-signed-requires c κs = search needs
-
-returns-4 : tie.Need-returns-4
-unfolding sendTestsIn noConflict
-returns-4 c = passes _ _ _ _ _ refl (c .before .before .before .before .before .before .if1 .left) (passes-not _ _ _ _ _ (c .before .before .before .before .before .conflict-in .ensures) (c .before .before .before .before .if2 .left) (passes _ _ _ _ _ (c .before .before .before .parent-there .ensures) (c .before .before .if3 .left) (fails _ _ _ _ (c .before .signed .ensures) (c .if4 .taken))))
-
 unlocked-requires : tie.Need-unlocked-requires
 unlocked-requires c κs = search needs
 
+returns-4 : tie.Need-returns-4
+unfolding sendTestsIn noConflict
+returns-4 c = passes _ _ _ _ _ refl (c .before .before .before .before .before .before .if1 .left) (passes-not _ _ _ _ _ (c .before .before .before .before .before .conflict-in .ensures) (c .before .before .before .before .if2 .left) (passes _ _ _ _ _ (c .before .before .before .parent-there .ensures) (c .before .before .if3 .left) (fails _ _ _ _ (c .before .unlocked .ensures) (c .if4 .taken))))
+
+signed-requires : tie.Need-signed-requires
+signed-requires c κs = search needs
+
 returns-5 : tie.Need-returns-5
 unfolding sendTestsIn noConflict
-returns-5 c = passes _ _ _ _ _ refl (c .before .before .before .before .before .before .before .before .if1 .left) (passes-not _ _ _ _ _ (c .before .before .before .before .before .before .before .conflict-in .ensures) (c .before .before .before .before .before .before .if2 .left) (passes _ _ _ _ _ (c .before .before .before .before .before .parent-there .ensures) (c .before .before .before .before .if3 .left) (passes _ _ _ _ _ (c .before .before .before .signed .ensures) (c .before .before .if4 .left) (fails _ _ _ _ (c .before .unlocked .ensures) (c .if5 .taken)))))
+returns-5 c = passes _ _ _ _ _ refl (c .before .before .before .before .before .before .before .before .if1 .left) (passes-not _ _ _ _ _ (c .before .before .before .before .before .before .before .conflict-in .ensures) (c .before .before .before .before .before .before .if2 .left) (passes _ _ _ _ _ (c .before .before .before .before .before .parent-there .ensures) (c .before .before .before .before .if3 .left) (passes _ _ _ _ _ (c .before .before .before .unlocked .ensures) (c .before .before .if4 .left) (fails _ _ _ _ (c .before .signed .ensures) (c .if5 .taken)))))
 
 returns-6 : tie.Need-returns-6
 unfolding sendTestsIn noConflict
-returns-6 c = passes _ _ _ _ _ refl (c .before .before .before .before .before .before .before .before .if1 .left) (passes-not _ _ _ _ _ (c .before .before .before .before .before .before .before .conflict-in .ensures) (c .before .before .before .before .before .before .if2 .left) (passes _ _ _ _ _ (c .before .before .before .before .before .parent-there .ensures) (c .before .before .before .before .if3 .left) (passes _ _ _ _ _ (c .before .before .before .signed .ensures) (c .before .before .if4 .left) (passes _ _ _ _ _ (c .before .unlocked .ensures) (c .if5 .left) none-left))))
+returns-6 c = passes _ _ _ _ _ refl (c .before .before .before .before .before .before .before .before .if1 .left) (passes-not _ _ _ _ _ (c .before .before .before .before .before .before .before .conflict-in .ensures) (c .before .before .before .before .before .before .if2 .left) (passes _ _ _ _ _ (c .before .before .before .before .before .parent-there .ensures) (c .before .before .before .before .if3 .left) (passes _ _ _ _ _ (c .before .before .before .unlocked .ensures) (c .before .before .if4 .left) (passes _ _ _ _ _ (c .before .signed .ensures) (c .if5 .left) none-left))))
 
 pub send-refusal-spec : {M : Type 1} → statement M
 send-refusal-spec =
@@ -58,8 +58,8 @@ send-refusal-spec =
     returns-2
     parent-there-requires
     returns-3
-    signed-requires
-    returns-4
     unlocked-requires
+    returns-4
+    signed-requires
     returns-5
     returns-6)
