@@ -41,10 +41,17 @@ const char *saswap_signature(uint8_t number)
     return names[number];
 }
 
-/* "Offset is 3 less the blocks per day, never below zero." */
+/* "1 gives 2, 2 gives 1, anything else 0" */
 static uint8_t offset(unsigned blocks_per_day)
 {
-    return blocks_per_day < 3 ? (uint8_t)(3 - blocks_per_day) : 0;
+    switch (blocks_per_day) {
+    case 1:
+        return 2;
+    case 2:
+        return 1;
+    default:
+        return 0;
+    }
 }
 
 /* The SASwap sheet for a number of blocks per day. */

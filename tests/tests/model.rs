@@ -115,6 +115,16 @@ fn p1_to_p3_lock_heights() {
     }
 }
 
+/// Slip 5: "It is proved equal to document 01's for each of these".
+#[test]
+fn offset_is_document_01_s() {
+    for blocks_per_day in 1..=1000 {
+        let offset = sheet::offset(blocks_per_day);
+        assert_eq!(offset, sheet::offset_in_document_01(blocks_per_day));
+    }
+    assert_eq!([0, 1, 2, 3].map(sheet::offset), [0, 2, 1, 0]);
+}
+
 /// 3 a day, open, stealth 1, lock_A confirmed, Bob has sigAlice.
 fn p6_game() -> Game {
     Game::saswap(3, 0, 1)

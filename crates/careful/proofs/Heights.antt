@@ -9,6 +9,7 @@ use borrow.Author.Tests.{lt-ltb, le-ltb, ne-eqb, eqb-false}
 use Rattle.laws.specs.Booleans.{split}
 use Rattle.sheet.specs.Saswap.{offset, saswap}
 use Rattle.sheet.specs.LockHeight.{lockHeight, never}
+use Rattle.sheet.proofs.Offset.{offset-small}
 use Rattle.sheet.proofs.Theorems.{refund-lock-height, revoke-lock-height}
 use Rattle.slots.specs.Deadline.{deadline}
 use Rattle.steps.specs.Names.{success, refund1, revoke, refund2, timeout}
@@ -55,19 +56,19 @@ more-le n m k h = omega arith
 pub success-deadline : (d : ℕ) (block : ℕ → ℕ) → 0 < d → d ≤ 1000 → deadline (saswap d) d block success ≡ refund1Height d
 unfolding opened refund1Height
 success-deadline d block h k =
-    let a : 0 < (3 - d + 1) * d = omega (arith, mul-le-mul-right d (one-le (3 - d))) in
-    let b : (3 - d + 1) * d ≤ (3 - d + 2) * d = mul-le-mul-right d (omega arith) in
-    let c : (3 - d + 1) * d ≤ 2147483647 = omega (arith, mul-le-mul-right d (more-le (3 - d) 3 1 (omega arith))) in
-    rw (lt-ltb 0 ((3 - d + 1) * d) a, lt-ltb 0 ((3 - d + 2) * d) (omega arith)) (simp (min-eq-left, min-eq-right))
+    let a : 0 < (offset d + 1) * d = omega (arith, mul-le-mul-right d (one-le (offset d))) in
+    let b : (offset d + 1) * d ≤ (offset d + 2) * d = mul-le-mul-right d (omega arith) in
+    let c : (offset d + 1) * d ≤ 2147483647 = omega (arith, mul-le-mul-right d (more-le (offset d) 2 1 (offset-small d))) in
+    rw (lt-ltb 0 ((offset d + 1) * d) a, lt-ltb 0 ((offset d + 2) * d) (omega arith)) (simp (min-eq-left, min-eq-right))
 
 -- that of refund_1 is revoke's
 pub refund1-deadline : (d : ℕ) (block : ℕ → ℕ) → 0 < d → d ≤ 1000 → deadline (saswap d) d block refund1 ≡ revokeHeight d
 unfolding opened revokeHeight
 refund1-deadline d block h k =
-    let a : (3 - d + 1) * d < (3 - d + 2) * d = mul-lt-mul-of-pos-right (omega arith) h in
-    let c : (3 - d + 2) * d ≤ 2147483647 = omega (arith, mul-le-mul-right d (more-le (3 - d) 3 2 (omega arith))) in
+    let a : (offset d + 1) * d < (offset d + 2) * d = mul-lt-mul-of-pos-right (omega arith) h in
+    let c : (offset d + 2) * d ≤ 2147483647 = omega (arith, mul-le-mul-right d (more-le (offset d) 2 2 (offset-small d))) in
     rw
-    (lt-ltb ((3 - d + 1) * d) ((3 - d + 2) * d) a, le-ltb ((3 - d + 1) * d) ((3 - d + 1) * d) (omega arith), le-ltb ((3 - d + 1) * d) 0 (omega arith))
+    (lt-ltb ((offset d + 1) * d) ((offset d + 2) * d) a, le-ltb ((offset d + 1) * d) ((offset d + 1) * d) (omega arith), le-ltb ((offset d + 1) * d) 0 (omega arith))
     (simp (min-eq-left, min-eq-right))
 
 -- that of refund_2 is timeout's, once revoke is confirmed

@@ -5,5 +5,6 @@ pub mod PassedEntry
 pub mod PassedSheet
 pub mod PassedSetup
 pub mod SaswapLength
+pub mod Offset
 pub mod SaswapFits
 pub mod Theorems

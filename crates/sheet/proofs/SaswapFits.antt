@@ -13,6 +13,7 @@ use Rattle.laws.specs.Failing.{firstFailing}
 use Rattle.laws.specs.Same.{equal-same}
 use Rattle.sheet.specs.Check.{sheetRefusal}
 use Rattle.sheet.proofs.Opened.{opened}
+use Rattle.sheet.proofs.Offset.{offset-small}
 use Rattle.sheet.specs.Saswap.{offset, saswapAt, saswap}
 use Rattle.sheet.specs.Setup.{perDay, conduct, stealth, blocksRight, isSaswap, conductRight, setupTests, setupRefusal}
 
@@ -24,7 +25,7 @@ all-pass = refl
 pub saswap-passes : (d : ℕ) → sheetRefusal (saswap d) ≡ 0
 unfolding saswap offset
 saswap-passes d =
-    eqb-true (sheetRefusal (saswapAt (offset d))) 0 (all-at 4 (λ o. eqb (sheetRefusal (saswapAt o)) 0) all-pass (offset d) (omega arith))
+    eqb-true (sheetRefusal (saswapAt (offset d))) 0 (all-at 4 (λ o. eqb (sheetRefusal (saswapAt o)) 0) all-pass (offset d) (omega (arith, offset-small d)))
 
 pub saswap-fits : (u : List ℕ) → length u ≡ 4 → 1 ≤ perDay u → perDay u ≤ 1000 → conduct u ≤ 2 → stealth u ≤ 1 → setupRefusal (saswap (perDay u)) u ≡ 0
 unfolding setupRefusal setupTests firstFailing blocksRight conductRight isSaswap

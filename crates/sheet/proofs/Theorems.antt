@@ -7,12 +7,13 @@ use lib.Dec.{lit<}
 use lib.ListN.{length}
 use Rattle.laws.specs.Failing.{answer-below}
 use Rattle.sheet.specs.Check.{arrayTests, sheetTests, sheetRefusal}
-use Rattle.sheet.specs.Saswap.{offset, saswap}
+use Rattle.sheet.specs.Saswap.{offset, offsetByDifference, saswap}
 use Rattle.sheet.specs.Setup.{perDay, conduct, stealth, setupRefusal}
 use Rattle.sheet.specs.LockHeight.{lockHeight}
 use Rattle.sheet.specs.Checked.{Checked, SetupChecked}
 use Rattle.sheet.proofs.Opened.{opened}
 use Rattle.sheet.proofs.SaswapLength
+use Rattle.sheet.proofs.Offset
 use Rattle.sheet.proofs.SaswapFits
 use Rattle.sheet.proofs.PassedSheet.{passed-sheet}
 use Rattle.sheet.proofs.PassedSetup.{passed-setup}
@@ -28,6 +29,15 @@ saswap-passes = SaswapFits.saswap-passes
 -- A setup of 1 to 1,000 blocks per day, any conduct and any stealth passes with its SASwap sheet.
 pub saswap-fits : (u : List ℕ) → length u ≡ 4 → 1 ≤ perDay u → perDay u ≤ 1000 → conduct u ≤ 2 → stealth u ≤ 1 → setupRefusal (saswap (perDay u)) u ≡ 0
 saswap-fits = SaswapFits.saswap-fits
+
+-- The offset's three cases are document 01's difference for every number of blocks per day from 1 on, so for 1 to 1,000. At 0, which the
+-- setup's check refuses, they differ.
+pub offset-difference : (d : ℕ) → 1 ≤ d → offset d ≡ offsetByDifference d
+offset-difference = Offset.offset-difference
+
+pub offset-at-zero : (offset 0 ≡ 0) × (offsetByDifference 0 ≡ 3)
+unfolding offset offsetByDifference
+offset-at-zero = (refl, refl)
 
 -- The lock heights of refund_1 and revoke, whatever is confirmed.
 pub refund-lock-height : (d : ℕ) (block : ℕ → ℕ) → lockHeight (saswap d) d block 3 ≡ (offset d + 1) * d

@@ -2,10 +2,16 @@
 -- Assumes nothing.
 use Prim.Native.Nat.{ℕ, _+_, _-_}
 use mathlib.Core.List.{List, [], _∷_, _++_}
+use lib.Dec.{eqb}
+use Rattle.laws.specs.Booleans.{pick}
 
--- "Offset is 3 less the blocks per day, never below zero."
+-- Document 02, Slip 5: "the offset for 1 to 1,000 blocks per day becomes: 1 gives 2, 2 gives 1, anything else 0"
 unfoldable pub offset : ℕ → ℕ
-offset perDay = 3 - perDay
+offset perDay = pick (eqb perDay 1) 2 (pick (eqb perDay 2) 1 0)
+
+-- document 01's words, which `offset-difference` in proofs/Theorems.antt cites: "Offset is 3 less the blocks per day, never below zero."
+unfoldable pub offsetByDifference : ℕ → ℕ
+offsetByDifference perDay = 3 - perDay
 
 -- n and s; "secrets 12; Alice holds 5, Bob 10"
 abbrev saswapHead : List ℕ

@@ -3,11 +3,15 @@ ghost use mathlib.Core.Path.{_≡_};
 ghost use Rattle.sheet.specs.Saswap.{offset, saswap};
 ghost use Rattle.sheet.specs.Setup.{isSaswap};
 
-// 3 less the blocks per day, never below zero.
+// 1 gives 2, 2 gives 1, anything else 0.
 fn offset(per_day: u16) -> u8
     ensures { λ r. ⌜ r ≡ offset «per_day» ⌝ }
 {
-    if per_day < 3 { (3 - per_day) as u8 } else { 0 }
+    match per_day {
+        1 => 2,
+        2 => 1,
+        _ => 0,
+    }
 }
 
 // The sheet: the days of refund_1 and revoke go by the offset.

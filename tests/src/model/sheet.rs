@@ -247,8 +247,17 @@ fn transaction(row: &Row) -> Transaction {
     }
 }
 
-/// "Offset is 3 less the blocks per day, never below zero."
+/// Slip 5: "1 gives 2, 2 gives 1, anything else 0".
 pub fn offset(blocks_per_day: u16) -> u8 {
+    match blocks_per_day {
+        1 => 2,
+        2 => 1,
+        _ => 0,
+    }
+}
+
+/// Document 01: "Offset is 3 less the blocks per day, never below zero."
+pub fn offset_in_document_01(blocks_per_day: u16) -> u8 {
     3u16.saturating_sub(blocks_per_day) as u8
 }
 

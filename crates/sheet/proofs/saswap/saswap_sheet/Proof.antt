@@ -2,6 +2,7 @@
 use Rattle.sheet.specs.Saswap.{offset, saswapAt, saswap}
 use native.Mathlib.Omega.{arith}
 use borrow.Author.Needs.{needs}
+use Rattle.sheet.proofs.Offset.{offset-bound}
 use Rattle.sheet.proofs.saswap.saswap_sheet.Statement.{statement}
 use Rattle.sheet.proofs.saswap.saswap_sheet.Tie as tie
 
@@ -9,8 +10,7 @@ offset-requires : tie.Need-offset-requires
 offset-requires c κs = search needs
 
 add-bytes : tie.Need-add-bytes
-unfolding offset
-add-bytes c = omega arith
+add-bytes c = omega (arith, offset-bound _ _ (c .offset .ensures))
 
 array-write-bytes : tie.Need-array-write-bytes
 array-write-bytes c = search needs
@@ -19,8 +19,7 @@ offset-requires-2 : tie.Need-offset-requires-2
 offset-requires-2 c κs = search needs
 
 add-bytes-2 : tie.Need-add-bytes-2
-unfolding offset
-add-bytes-2 c = omega arith
+add-bytes-2 c = omega (arith, offset-bound _ _ (c .offset2 .ensures))
 
 array-write-bytes-2 : tie.Need-array-write-bytes-2
 array-write-bytes-2 c = search needs
