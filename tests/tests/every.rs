@@ -12,10 +12,10 @@ fn positions(stealth: u8) -> usize {
 
 #[test]
 fn without_stealth() {
-    assert_eq!(positions(0), 5_628);
+    assert_eq!(positions(0), 6_957);
 }
 
 #[test]
 fn with_stealth() {
-    assert_eq!(positions(1), 13_418);
+    assert_eq!(positions(1), 17_784);
 }

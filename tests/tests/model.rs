@@ -744,8 +744,9 @@ fn conduct_phases_0_to_2() {
         assert_eq!(game.next([3, 0, 4, 2]), 13);
         assert_eq!(game.next([4, 0, 0, 2]), 0);
         let game = game.after(&LOCK_A);
-        assert_eq!(game.next([3, 0, 7, 0]), 13); // Alice waits
-        assert_eq!(game.next([1, 0, 2, 2]), 13);
+        assert_eq!(game.next([3, 0, 7, 0]), 16); // Alice may send
+        assert_eq!(game.next([1, 0, 2, 2]), 13); // but shares nothing
+        assert_eq!(game.next(GIVE_SIG_ALICE), 13); // and gives nothing
         assert_eq!(game.next([3, 1, 2, 2]), 16); // Bob may send
         assert_eq!(game.next(GIVE_SECRET_BOB), 13);
         let game = game.after(&LOCK_B);

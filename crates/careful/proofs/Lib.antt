@@ -20,3 +20,5 @@ pub mod Payouts
 pub mod Safe
 pub mod Theorems
 pub mod Examples
+pub mod PhaseTwo
+pub mod Refunds

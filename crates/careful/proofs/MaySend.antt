@@ -43,15 +43,15 @@ phase-locked p h =
     earliest : 2 ≤ 0 → ⊥
     earliest k = omega arith
 
--- a send is of lock_A, or lock_A or lock_B is confirmed
+-- a send is of lock_A, or in phase 2 or 3
 sends-late : (n party t : ℕ) → maySend n party t ≡ true → (t ≡ lockA) ⊎ (2 ≤ n)
 unfolding maySend
 sends-late n party t h =
-    either (or-parts (eqb party alice && ((eqb n 1 && eqb t lockA) || eqb n 3)) (eqb party bob && leb 2 n) h)
+    either (or-parts (eqb party alice && ((eqb n 1 && eqb t lockA) || leb 2 n)) (eqb party bob && leb 2 n) h)
     (λ y.
-    either (or-parts (eqb n 1 && eqb t lockA) (eqb n 3) (and-parts (eqb party alice) ((eqb n 1 && eqb t lockA) || eqb n 3) y .1))
+    either (or-parts (eqb n 1 && eqb t lockA) (leb 2 n) (and-parts (eqb party alice) ((eqb n 1 && eqb t lockA) || leb 2 n) y .1))
     (λ z. inl (eqb-true t lockA (and-parts (eqb n 1) (eqb t lockA) z .1)))
-    (λ z. inr (omega (arith, eqb-true n 3 z))))
+    (λ z. inr (leb-true 2 n z)))
     (λ y. inr (leb-true 2 n (and-parts (eqb party bob) (leb 2 n) y .1)))
 
 module _ (u : List ℕ) (c : conduct u ≡ 2) where
@@ -65,6 +65,7 @@ module _ (u : List ℕ) (c : conduct u ≡ 2) where
       (a .0, rw c at (a .1))
 
 module _ (u : List ℕ) (c : conduct u ≡ 2) (p : Position) where
+  -- a send is of lock_A, or lock_A or lock_B is confirmed
   pub send-locked : (party t e : ℕ) → Sent (sheet u) u p party t e → (t ≡ lockA) ⊎ ((0 < blockOf p lockB) ⊎ (0 < blockOf p lockA))
   send-locked party t e w = either (sends-late (phase p) party t (may-send u c p party t e w .0)) inl (λ y. inr (phase-locked p y))
 

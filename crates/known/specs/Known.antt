@@ -53,6 +53,14 @@ spentB = lockedB ++ (2 ∷ 1 ∷ 3 ∷ 0 ∷ 3 ∷ 0 ∷ 8 ∷ 0 ∷ [])
 abbrev waitingAt2 : List ℕ
 waitingAt2 = spentB ++ (5 ∷ 2 ∷ 8 ∷ 2 ∷ mine) ++ (1 ∷ 0 ∷ 2 ∷ 2 ∷ 3 ∷ 0 ∷ 0 ∷ 2 ∷ 3 ∷ 1 ∷ 2 ∷ 2 ∷ [])
 
+-- 3 a day, careful, stealth 0
+abbrev careful3 : List ℕ
+careful3 = 3 ∷ 0 ∷ 2 ∷ 0 ∷ []
+
+-- both first shares, and lock_A confirmed; Bob doesn't lock
+abbrev lockedAlone : List ℕ
+lockedAlone = 1 ∷ 0 ∷ 255 ∷ 2 ∷ 1 ∷ 1 ∷ 255 ∷ 2 ∷ lockedA
+
 -- a chain of three, the last with a rival whose lock is 1 day
 abbrev chainSheet : List ℕ
 chainSheet =
@@ -179,6 +187,10 @@ known =
     ∷ unsignedGets setup3 (unsharedAt5 ++ mine) 6 (4 ∷ 1 ∷ 4 ∷ 2 ∷ []) 16
     -- the same: 18 stays behind 16, for success at 3 blocks
     ∷ unsignedGets setup3 (lockedA ++ mine ++ mine) 3 (3 ∷ 1 ∷ 2 ∷ 2 ∷ []) 16
+    -- Slip 6, "In phase 2 Alice may now send": refund_1 and revoke from their lock heights on
+    ∷ sendGets careful3 (lockedAlone ++ mine) 2 (3 ∷ 0 ∷ 3 ∷ 2 ∷ []) 17
+    ∷ sendGets careful3 (lockedAlone ++ mine ++ mine) 3 (3 ∷ 0 ∷ 3 ∷ 2 ∷ []) 0
+    ∷ sendGets careful3 (lockedAlone ++ mine ++ mine ++ mine ++ mine ++ mine) 6 (3 ∷ 0 ∷ 4 ∷ 2 ∷ []) 0
     ∷ []
 
 -- the one fact

@@ -1,4 +1,4 @@
--- Conduct: document 01's section of that name. "Open: rules above. Loose and careful follow 001."
+-- Conduct: document 01's section of that name, with document 02's Slip 6. "Open: rules above. Loose and careful follow 001."
 -- Assumes nothing.
 use Prim.Native.Nat.{ℕ}
 use mathlib.Core.Bool.{Bool, true, false, not, _&&_, _||_}
@@ -42,7 +42,7 @@ phase p =
 unfoldable pub late : List ℕ → List ℕ → Position → Bool
 late s u p = leb (deadlineIn s u p success) (p .mined)
 
--- "Phase 3: Alice .. shares success if refund_1 is neither in pool nor confirmed and it isn't late"
+-- "Phase 3: Alice .. shares success if refund_1 is neither in pool nor confirmed and it isn't late"; of phase 2: "she neither shares success nor gives keys there"
 unfoldable pub aliceShares : List ℕ → List ℕ → Position → ℕ → Bool
 aliceShares s u p t = eqb (phase p) 3 && (eqb t success && (not (sent p refund1) && not (late s u p)))
 

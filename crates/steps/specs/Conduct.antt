@@ -13,13 +13,14 @@ use Rattle.steps.specs.declared.Outlook.{Outlook}
 use Rattle.steps.specs.Names.{sigAlice, secretAlice, secretBob, lockA, success, refund1, spendB}
 use Rattle.steps.specs.Decode.{noTransaction}
 
--- who may send in which phase: "Phase 1: Alice may send lock_A only. Phase 2: Alice waits.", "Phase 3: Alice .. may send", "Phases 2 and 3: Bob may send."
+-- who may send in which phase: "Phase 1: Alice may send lock_A only.", "In phase 2 Alice may now send any transaction under the same conduct tests as in phase 3"
+-- (document 02, Slip 6), "Phase 3: Alice .. may send", "Phases 2 and 3: Bob may send."
 unfoldable pub maySend : ℕ → ℕ → ℕ → Bool
 maySend phase party t =
-    (eqb party alice && ((eqb phase 1 && eqb t lockA) || eqb phase 3))
+    (eqb party alice && ((eqb phase 1 && eqb t lockA) || leb 2 phase))
     || (eqb party bob && leb 2 phase)
 
--- "Alice .. shares success if refund_1 is neither in pool nor confirmed and it isn't late"
+-- "Phase 3: Alice .. shares success if refund_1 is neither in pool nor confirmed and it isn't late"; of phase 2: "she neither shares success nor gives keys there"
 unfoldable pub aliceSharesIn : Outlook → ℕ → Bool
 aliceSharesIn o t = eqb (o .phase) 3 && (eqb t success && (not (o .refund) && not (o .late)))
 
@@ -27,7 +28,7 @@ aliceSharesIn o t = eqb (o .phase) 3 && (eqb t success && (not (o .refund) && no
 unfoldable pub shareAllowedIn : Outlook → ℕ → ℕ → Bool
 shareAllowedIn o party t = o .free || pick (eqb t noTransaction) (eqb (o .phase) 0) (eqb party alice && aliceSharesIn o t)
 
--- "Alice gives sigAlice if she holds secretBob and it isn't late"
+-- "Phase 3: Alice gives sigAlice if she holds secretBob and it isn't late"
 unfoldable pub aliceGivesIn : Outlook → ℕ → Bool
 aliceGivesIn o i = eqb (o .phase) 3 && (eqb i sigAlice && (o .knows && not (o .late)))
 

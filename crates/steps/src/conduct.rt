@@ -22,7 +22,7 @@ pub fn conduct_refusal(allowed: bool, met: bool) -> u32
     refusal::ACCEPTED
 }
 
-// Who may send what in which phase.
+// Who may send what in which phase: Alice lock_A in phase 1, both anything in phases 2 and 3.
 fn may_send(phase: u8, party: u8, t: usize) -> bool
     ensures { λ r. ⌜ r ≡ maySend phase party t ⌝ }
 {
@@ -30,7 +30,7 @@ fn may_send(phase: u8, party: u8, t: usize) -> bool
         if phase == 1 {
             return t == 0;
         }
-        return phase == 3;
+        return 2 <= phase; // as in phase 3
     }
     if party == 1 {
         return 2 <= phase;
@@ -43,7 +43,7 @@ impl Outlook {
     fn alice_shares(self, t: u8) -> bool
         ensures { λ r. ⌜ r ≡ aliceSharesIn self t ⌝ }
     {
-        if self.phase != 3 {
+        if self.phase != 3 { // she shares nothing in phase 2
             return false;
         }
         if t != 2 {
@@ -72,7 +72,7 @@ impl Outlook {
     fn alice_gives(self, i: u8) -> bool
         ensures { λ r. ⌜ r ≡ aliceGivesIn self i ⌝ }
     {
-        if self.phase != 3 {
+        if self.phase != 3 { // she gives nothing in phase 2
             return false;
         }
         if i != 0 {

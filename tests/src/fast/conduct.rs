@@ -87,7 +87,7 @@ pub fn sendable(contract: &Contract, position: &Position, party: u8) -> u32 {
     }
     let named = match (phase(position), party) {
         (1, ALICE) => 1 << LOCK_A,
-        (3, ALICE) | (2 | 3, BOB) => u32::MAX,
+        (2 | 3, ALICE | BOB) => u32::MAX,
         _ => 0,
     };
     match contract.conduct {

@@ -61,11 +61,14 @@ pub fn breaks(case: &Case) -> bool {
     }
 }
 
-/// Whether the lines for this phase and party name the step.
+/// Whether the lines for this phase and party name the step. Of phase 2 by Slip 6:
+/// "Alice may now send any transaction under the same conduct tests as in phase 3;
+/// she neither shares success nor gives keys there."
 fn named(case: &Case) -> bool {
     match (phase(case.position), case.step.party) {
         (0, _) => is_first_share(case),
         (1, ALICE) => is_send(case) && case.step.transaction == LOCK_A,
+        (2, ALICE) => case.setup.slips.alice_sends_in_phase_2 && is_send(case),
         (2, BOB) | (3, BOB) => is_send(case) || gives_secret_bob(case),
         (3, ALICE) => is_send(case) || gives_sig_alice(case) || shares_success(case),
         _ => false,

@@ -9,11 +9,15 @@ pub struct Slips {
     pub waiting_children_stay: bool,
     /// Slip 3: "Lock before signature."
     pub lock_before_signature: bool,
+    /// Slip 6: "In phase 2 Alice may now send any transaction under the same
+    /// conduct tests as in phase 3"; before it "Phase 2: Alice waits."
+    pub alice_sends_in_phase_2: bool,
 }
 
 impl Slips {
     pub const ALL: Slips = Slips {
         waiting_children_stay: true,
         lock_before_signature: true,
+        alice_sends_in_phase_2: true,
     };
 }
