@@ -1,0 +1,9 @@
+pub mod Emptied
+pub mod Refusals
+pub mod Effects
+pub mod Rows
+pub mod OpenSteps
+pub mod Lists
+pub mod Words
+pub mod Examples
+pub mod Theorems

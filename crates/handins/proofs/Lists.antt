@@ -1,0 +1,53 @@
+-- What the list call writes, where it answers 0: the bytes of the open steps.
+-- Assumes nothing.
+use Prim.Native.Nat.{ℕ, _*_}
+use native.Mathlib.Omega.{arith}
+use mathlib.Core.Path.{_≡_, refl}
+use mathlib.Core.List.{List, [], _∷_, flatMap}
+use lib.Dec.{eqb, leb}
+use lib.ListN.{length, length-append}
+use borrow.Author.Tests.{leb-true, eq-eqb}
+use Rattle.laws.specs.Booleans.{split, clash}
+use Rattle.laws.specs.Over.{take-over}
+use Rattle.sheet.specs.Refusal.{accepted}
+use Rattle.slots.specs.declared.Step.{Step}
+use Rattle.slots.specs.declared.Step.the-variants.{Share, Give, SendToPool, HandToMiner, Include, Mine, Bump}
+use Rattle.steps.specs.Decode.{stepBytes}
+use Rattle.position.specs.declared.Ran.{Ran}
+use Rattle.position.specs.Play.{run}
+use Rattle.position.specs.Open.{openSteps, listBytes}
+use Rattle.position.specs.Answers.{fitted, passOn, listAnswer}
+use Rattle.handins.specs.Early.{writtenBytes}
+
+four-each : (x : Step) → length (stepBytes x) ≡ 4
+unfolding stepBytes
+four-each (Share a t to) = refl
+four-each (Give a t to) = refl
+four-each (SendToPool a t to) = refl
+four-each (HandToMiner a t to) = refl
+four-each (Include a t to) = refl
+four-each (Mine a t to) = refl
+four-each (Bump a t to) = refl
+
+four-all : (l : List Step) → length (flatMap stepBytes l) ≡ 4 * length l
+unfolding flatMap
+four-all [] = refl
+four-all (x ∷ l) = omega (arith, length-append (stepBytes x) (flatMap stepBytes l), four-each x, four-all l)
+
+fitted-bytes : (bytes : List ℕ) (n : ℕ) (out : List ℕ) → length bytes ≡ 4 * n → fitted bytes n out .refusal ≡ accepted → writtenBytes (fitted bytes n out) ≡ bytes
+unfolding fitted writtenBytes
+fitted-bytes bytes n out e h =
+    split (leb (length bytes) (length out))
+    (λ y. rw (y, fitted, ← e) (take-over bytes out (leb-true (length bytes) (length out) y)))
+    (λ y. absurd (omega (arith, rw (y, fitted) at h)))
+
+passed-bytes : (r : Ran) (bytes : List ℕ) (n : ℕ) (out : List ℕ) → length bytes ≡ 4 * n → passOn r bytes n out .refusal ≡ accepted → writtenBytes (passOn r bytes n out) ≡ bytes
+unfolding passOn
+passed-bytes r bytes n out e h =
+    split (eqb (r .refusal) accepted)
+    (λ y. rw (y, passOn) (fitted-bytes bytes n out e (rw (y, passOn) at h)))
+    (λ y. clash (eq-eqb (r .refusal) accepted (rw (y, passOn) at h)) y)
+
+pub list-written : (s u j out : List ℕ) → listAnswer s u j out .refusal ≡ accepted → writtenBytes (listAnswer s u j out) ≡ listBytes s u (run s u j .position)
+unfolding listAnswer listBytes
+list-written s u j out h = passed-bytes (run s u j) _ _ out (four-all (openSteps s u (run s u j .position))) h

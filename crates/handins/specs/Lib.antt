@@ -1,0 +1,3 @@
+pub mod Early
+pub mod Claim
+pub mod Excepted
