@@ -1,4 +1,3 @@
-pub mod Groups
 pub mod Playing
 pub mod Writing
 pub mod Numbers

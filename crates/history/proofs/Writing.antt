@@ -19,7 +19,7 @@ use Rattle.position.specs.Position.{start}
 use Rattle.position.specs.Play.{FourBytes, journalSteps, journalBytes, step, acceptedOf}
 use Rattle.position.specs.Journal.{stepAt}
 use Rattle.history.specs.Steps.{taken}
-use Rattle.history.proofs.Groups.{groupsFrom, groups-all, groups-none}
+use Rattle.runs.proofs.Groups.{groupsFrom, groups-all, groups-none}
 use Rattle.history.proofs.Playing.{accepted-none, accepted-turn}
 
 -- the bytes of the step at place i where it was accepted

@@ -2,7 +2,6 @@
 use position::Position;
 use position::journal;
 use sheet::refusal;
-use swap::report;
 ghost use mathlib.Core.Path.{_≡_};
 ghost use Rattle.position.specs.Position.{start};
 ghost use Rattle.history.specs.Promise.{Demand3};
@@ -56,7 +55,7 @@ pub fn history(
         return unplayed(sheet, refusal::BUFFER_SHORT);
     }
     write::write_accepted(sheet, setup, steps, accepted);
-    let answer = report::report(sheet, setup, &accepted[..used], report);
+    let answer = reports::report(sheet, setup, &accepted[..used], report);
     Outcome {
         number: refusal::ACCEPTED,
         report: answer,

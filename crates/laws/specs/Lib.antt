@@ -18,4 +18,3 @@ pub mod All
 pub mod Wrote
 pub mod Sum
 pub mod Ones
-pub mod Unions

@@ -3,11 +3,9 @@ pub mod Decoding
 pub mod StepCases
 pub mod Changed
 pub mod Views
-pub mod NextViews
 pub mod Fits
 pub mod BlockSets
 pub mod NoEntries
-pub mod BlockViews
 pub mod EmptyBlocks
 pub mod SendTests
 pub mod MineTests

@@ -16,4 +16,3 @@ pub mod Holder
 pub mod Answers
 pub mod Printed
 pub mod View
-pub mod NextView

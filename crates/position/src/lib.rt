@@ -10,7 +10,6 @@ pub mod effect;
 pub mod height;
 pub mod journal;
 mod mined;
-pub mod next_view;
 mod owed;
 mod refusal;
 pub mod step;

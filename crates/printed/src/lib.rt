@@ -1,5 +1,5 @@
 // The numbers that the program swapreport prints.
-use swap::journal;
+use runs::journal;
 ghost use Prim.Native.Nat.{suc, _+_, _*_, _≤_};
 ghost use mathlib.Core.Path.{_≡_};
 ghost use mathlib.Core.List.{[], _∷_};

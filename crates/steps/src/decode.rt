@@ -150,7 +150,7 @@ fn give_fields(sheet: &[u8], party: u8, i: u8, destination: u8) -> bool
 }
 
 // The fields of kinds 3 and 4.
-pub fn send_fields(sheet: &[u8], party: u8, t: u8, destination: u8) -> bool
+fn send_fields(sheet: &[u8], party: u8, t: u8, destination: u8) -> bool
     requires { ⌜ Sized (now sheet) ⌝ }
     ensures { λ r. ⌜ r ≡ (isParty party && (ltb t (count (now (sheet .entry))) && sendsTo (now (sheet .entry)) party t destination)) ⌝ }
 {
@@ -161,7 +161,7 @@ pub fn send_fields(sheet: &[u8], party: u8, t: u8, destination: u8) -> bool
 }
 
 // The fields of kinds 5 and 7.
-pub fn miner_fields(sheet: &[u8], party: u8, t: u8, destination: u8) -> bool
+fn miner_fields(sheet: &[u8], party: u8, t: u8, destination: u8) -> bool
     requires { ⌜ Sized (now sheet) ⌝ }
     ensures { λ r. ⌜ r ≡ (eqb party 2 && (ltb t (count (now (sheet .entry))) && eqb destination 2)) ⌝ }
 {

@@ -51,7 +51,7 @@ fn print_report(sheet: &[u8], setup: &[u8], journal: &[u8]) {
     let n = first.lines;
     print_first(first);
     let mut report = [0u8; 448];
-    swap::report::report(sheet, setup, journal, &mut report);
+    reports::report(sheet, setup, journal, &mut report);
     print_lines(&report, n);
 }
 

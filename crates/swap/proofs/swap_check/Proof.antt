@@ -1,22 +1,21 @@
 -- The refusal is small, so the product fits.
 use denote.Ref.{now}
 use native.Mathlib.Omega.{arith}
-use native.Mathlib.Nat.{add-zero}
 use Rattle.sheet.proofs.Theorems.{sheet-refusal-below}
 use Rattle.position.specs.Answers.{packed}
 use borrow.Author.Needs.{needs}
 use Rattle.swap.proofs.swap_check.Statement.{statement}
 use Rattle.swap.proofs.swap_check.Tie as tie
 
-check-requires : tie.Need-check-requires
-check-requires c κs = search needs
+sheet-refusal-requires : tie.Need-sheet-refusal-requires
+sheet-refusal-requires c κs = search needs
 
 mul-result : tie.Need-mul-result
-mul-result c = record { fits = omega (arith, c .check .ensures, sheet-refusal-below (now (c .before .before .args .sheet))) }
+mul-result c = record { fits = omega (arith, c .sheet-refusal .ensures, sheet-refusal-below (now (c .before .before .args .sheet))) }
 
 returns : tie.Need-returns
 unfolding packed
 returns c = search needs
 
 pub swap-check-spec : {M : Type 1} → statement M
-swap-check-spec = tie.close (tie.spec check-requires mul-result returns)
+swap-check-spec = tie.close (tie.spec sheet-refusal-requires mul-result returns)

@@ -1,7 +1,7 @@
 -- The answer fits the number that C gets.
 use native.Mathlib.Omega.{arith}
 use Rattle.position.specs.Answers.{packed}
-use Rattle.swap.proofs.Bounds.{ran-bounds}
+use Rattle.runs.proofs.Bounds.{ran-bounds}
 use borrow.Author.Needs.{needs}
 use Rattle.swap.proofs.swap_run.Statement.{statement}
 use Rattle.swap.proofs.swap_run.Tie as tie

@@ -1,0 +1,43 @@
+-- As many bytes as four for each step.
+use native.Mathlib.Omega.{arith}
+use Rattle.lists.proofs.Lists.{sets-bound, sets-room, gives-short, gives-whole}
+use borrow.Author.Needs.{needs}
+use Rattle.lists.proofs.listing.write_fitting.Statement.{statement}
+use Rattle.lists.proofs.listing.write_fitting.Tie as tie
+
+sets-count-requires : tie.Need-sets-count-requires
+sets-count-requires c κs = search needs
+
+mul-if1 : tie.Need-mul-if1
+mul-if1 c =
+    let a = c .before .before .args in
+    record { fits = omega (arith, c .sets-count .ensures, sets-bound (a .alice) (a .bob) (a .miner)) }
+
+returns : tie.Need-returns
+returns c = gives-short _ _ _ _ _ (c .before .sets-count .ensures) (c .if1 .taken)
+
+write-all-requires : tie.Need-write-all-requires
+write-all-requires c κs = let a = c .before .before .before .before .args in sets-room (a .alice) (a .bob) (a .miner) _ (a .out .now) (c .before .before .sets-count .ensures) (c .before .if1 .left)
+
+cast-t12 : tie.Need-cast-t12
+cast-t12 c =
+    let a = c .before .before .before .before .before .before .before .args in
+    record { fits = omega (arith, c .before .before .before .before .before .sets-count .ensures, sets-bound (a .alice) (a .bob) (a .miner)) }
+
+same-length : tie.Need-same-length
+same-length c = search needs
+
+returns-2 : tie.Need-returns-2
+returns-2 c = gives-whole _ _ _ _ _ (c .before .before .before .before .before .sets-count .ensures) _ (c .before .before .before .before .if1 .left) (c .before .before .write-all .ensures)
+
+pub write-fitting-spec : {M : Type 1} → statement M
+write-fitting-spec =
+    tie.close
+    (tie.spec
+    sets-count-requires
+    mul-if1
+    returns
+    write-all-requires
+    cast-t12
+    same-length
+    returns-2)

@@ -1,0 +1,49 @@
+-- The steps of any bytes, group by group of four: the next one, and none where fewer than four bytes are left.
+-- Assumes nothing.
+use Prim.Native.Nat.{ℕ, suc, _+_, _*_, _≤_, _<_}
+use native.Mathlib.Omega.{arith}
+use mathlib.Core.Path.{_≡_, refl, ap, _∙_}
+use mathlib.Core.List.{List, [], _∷_}
+use lib.ListN.{length, drop, length-drop}
+use lib.Seq.{drop-cons}
+use Rattle.sheet.specs.Field.{byte}
+use Rattle.position.specs.Play.{FourBytes, journalSteps}
+use Rattle.position.specs.Journal.{stepAt}
+
+-- one byte in front, and four
+one-byte : (j : List ℕ) (i k : ℕ) → i < length j → k ≡ suc i → drop i j ≡ byte j i ∷ drop k j
+one-byte j i k h e = rw e (drop-cons j i 0 h)
+
+four-bytes : (j : List ℕ) (i : ℕ) → i + 4 ≤ length j → drop i j ≡ byte j i ∷ byte j (i + 1) ∷ byte j (i + 2) ∷ byte j (i + 3) ∷ drop (i + 4) j
+four-bytes j i h =
+    one-byte j i (i + 1) (omega arith) (omega arith)
+    ∙ ap (λ r. byte j i ∷ r) (one-byte j (i + 1) (i + 2) (omega arith) (omega arith))
+    ∙ ap (λ r. byte j i ∷ byte j (i + 1) ∷ r) (one-byte j (i + 2) (i + 3) (omega arith) (omega arith))
+    ∙ ap (λ r. byte j i ∷ byte j (i + 1) ∷ byte j (i + 2) ∷ r) (one-byte j (i + 3) (i + 4) (omega arith) (omega arith))
+
+few-bytes : (l : List ℕ) → length l < 4 → journalSteps l ≡ []
+unfolding journalSteps
+few-bytes [] h = refl
+few-bytes (k ∷ []) h = refl
+few-bytes (k ∷ a ∷ []) h = refl
+few-bytes (k ∷ a ∷ t ∷ []) h = refl
+few-bytes (k ∷ a ∷ t ∷ d ∷ l) h = absurd (omega arith)
+
+-- the groups from number k on
+unfoldable pub groupsFrom : List ℕ → ℕ → List FourBytes
+groupsFrom j k = journalSteps (drop (4 * k) j)
+
+pub groups-all : (j : List ℕ) → groupsFrom j 0 ≡ journalSteps j
+unfolding groupsFrom
+groups-all j = refl
+
+further : (k : ℕ) → 4 * k + 4 ≡ 4 * (k + 1)
+further k = omega arith
+
+pub groups-next : (j : List ℕ) (k : ℕ) → 4 * k + 4 ≤ length j → groupsFrom j k ≡ stepAt j (4 * k) ∷ groupsFrom j (k + 1)
+unfolding groupsFrom journalSteps stepAt
+groups-next j k h = rw (four-bytes j (4 * k) h, further k)
+
+pub groups-none : (j : List ℕ) (k : ℕ) → length j < 4 * k + 4 → groupsFrom j k ≡ []
+unfolding groupsFrom
+groups-none j k h = few-bytes (drop (4 * k) j) (omega (arith, length-drop (4 * k) j))

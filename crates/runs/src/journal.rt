@@ -1,0 +1,88 @@
+// A journal run: what all calls that take one do first.
+use position::Position;
+use position::Ran;
+use position::journal::start;
+use position::journal::step_at;
+use sheet::refusal;
+ghost use Prim.Native.Nat.{_<_, _≤_};
+ghost use mathlib.Core.Path.{_≡_};
+ghost use lib.ListN.{length};
+ghost use Rattle.laws.specs.Failing.{firstFailing};
+ghost use Rattle.position.specs.Fit.{Fit};
+ghost use Rattle.position.specs.Play.{journalSteps, runFrom, journalRight, callTests, run};
+
+// 24: whole steps, and no more bytes than a journal may have.
+fn journal_right(journal: &[u8]) -> bool
+    ensures { λ r. ⌜ r ≡ journalRight (now (journal .entry)) ⌝ }
+{
+    if journal.len() % 4 != 0 {
+        return false;
+    }
+    journal.len() <= 65536
+}
+
+// The checks before any step: 1 to 10 and 24.
+fn call_refusal(sheet: &[u8], setup: &[u8], journal: &[u8]) -> u32
+    ensures { λ r. ⌜ r ≡ firstFailing (callTests (now (sheet .entry)) (now (setup .entry)) (now (journal .entry))) ⌝ }
+{
+    let of_sheet = sheet::check::sheet_refusal(sheet);
+    if of_sheet != 0 {
+        return of_sheet;
+    }
+    let of_setup = sheet::setup::setup_refusal(sheet, setup);
+    if of_setup != 0 {
+        return of_setup;
+    }
+    if !journal_right(journal) {
+        return refusal::JOURNAL_LENGTH;
+    }
+    refusal::ACCEPTED
+}
+
+// The answer after k accepted steps.
+fn ran_to(refusal: u32, k: usize, position: Position) -> Ran
+    requires { ⌜ k < 4294967296 ⌝ }
+    ensures { λ r. ⌜ r ≡ record { refusal = refusal; accepted = k; position = position } ⌝ }
+{
+    Ran {
+        refusal,
+        accepted: k as u32,
+        position,
+    }
+}
+
+// The steps of a journal up to the first refused one, from a position on: the refusal, the steps accepted, and the position after
+// these.
+pub fn run_from(from: Position, sheet: &[u8], setup: &[u8], journal: &[u8]) -> Ran
+    requires { ⌜ length (now setup) ≡ 4 ⌝ }
+    requires { ⌜ Fit (now sheet) (now setup) ⌝ }
+    requires { ⌜ length (now journal) ≤ 65536 ⌝ }
+    ensures { λ r. ⌜ r ≡ runFrom (now (sheet .entry)) (now (setup .entry)) (journalSteps (now (journal .entry))) 0 from ⌝ }
+{
+    let n = journal.len() / 4;
+    let mut position = from;
+    let mut k: usize = 0;
+    while k < n {
+        let before = position;
+        let stepped = step_at(before, sheet, setup, journal, 4 * k);
+        if stepped.refusal != 0 {
+            return ran_to(stepped.refusal, k, before);
+        }
+        let next = stepped.position;
+        position = next;
+        k += 1;
+    }
+    ran_to(refusal::ACCEPTED, k, position)
+}
+
+// The run of a journal from the empty journal's position, after the checks.
+pub fn ran(sheet: &[u8], setup: &[u8], journal: &[u8]) -> Ran
+    ensures { λ r. ⌜ r ≡ run (now (sheet .entry)) (now (setup .entry)) (now (journal .entry)) ⌝ }
+{
+    let refusal = call_refusal(sheet, setup, journal);
+    let position = start(sheet);
+    if refusal != 0 {
+        return ran_to(refusal, 0, position);
+    }
+    run_from(position, sheet, setup, journal)
+}

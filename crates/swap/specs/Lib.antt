@@ -1,3 +1,0 @@
-pub mod SetsBytes
-pub mod EmptyBlocks
-pub mod SingleStep
