@@ -17,3 +17,4 @@ pub mod KeptAt
 pub mod Once
 pub mod Agreed
 pub mod Theorems
+pub mod Examples

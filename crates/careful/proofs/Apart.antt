@@ -15,7 +15,7 @@ use Rattle.position.specs.Position.{blockOf}
 use Rattle.steps.specs.Names.{secretAlice, secretBob, success, refund1, revoke, refund2, spendA}
 use Rattle.agreement.proofs.Sound.{Sound}
 use Rattle.careful.proofs.Table.{fifteen, revoke-rivals}
-use Rattle.careful.proofs.Heights.{refund1Height, revokeHeight, heights-rise, refund1-lock, revoke-lock, refund2-lock}
+use Rattle.known.specs.Heights.{refund1Height, revokeHeight, heights-rise, refund1-lock, revoke-lock, refund2-waits}
 use Rattle.careful.proofs.Places.{Anywhere, pool-anywhere, confirmed-anywhere, lock-reached}
 use Rattle.careful.proofs.Setting.{sheet}
 use Rattle.careful.proofs.Has.{SharedSomewhere}
@@ -38,7 +38,7 @@ module _ (u : List ℕ) (p : Position) (g : Sound (sheet u) u p) where
 
   pub refund2-revoked : Anywhere p refund2 → 0 < blockOf p revoke
   refund2-revoked w =
-      refund2-lock (perDay u) (p .mined) (blockOf p) (omega (arith, g .settled .limit)) (lock-reached (sheet u) u p g refund2 w)
+      refund2-waits (perDay u) (p .mined) (blockOf p) (omega (arith, g .settled .limit)) (lock-reached (sheet u) u p g refund2 w)
 
 module _ (u : List ℕ) (p : Position) (j : Invariant u p) where
   -- a refund that has exposed secretAlice stands somewhere

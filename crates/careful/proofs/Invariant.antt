@@ -13,7 +13,7 @@ use Rattle.position.specs.Position.{inPool, blockOf, shared, holds}
 use Rattle.steps.specs.Names.{sigAlice, sigBob, secretAlice, secretBob, lockA, success, refund1, revoke, refund2, spendA, spendB}
 use Rattle.moves.proofs.Provenance.{Stands}
 use Rattle.careful.proofs.Table.{BothSign}
-use Rattle.careful.proofs.Heights.{refund1Height, revokeHeight}
+use Rattle.known.specs.Heights.{refund1Height, revokeHeight}
 use Rattle.careful.proofs.Places.{Anywhere}
 
 -- signature i of t is shared for the contract

@@ -1,6 +1,5 @@
 pub mod Table
 pub mod Fate
-pub mod Heights
 pub mod Places
 pub mod Setting
 pub mod Came

@@ -19,7 +19,7 @@ use Rattle.steps.specs.Names.{secretAlice, secretBob, lockA, success, refund1, 
 use Rattle.moves.proofs.Provenance.{Moved}
 use Rattle.agreement.proofs.Sound.{Sound}
 use Rattle.careful.proofs.Table.{BothSign, both-sign, parents, rivals-success, rivals-refund1, rivals-refund2}
-use Rattle.careful.proofs.Heights.{refund1Height, revokeHeight, heights-rise, timeout-lock, success-deadline, refund1-deadline, refund2-deadline}
+use Rattle.known.specs.Heights.{refund1Height, revokeHeight, heights-rise, timeout-lock, success-deadline, refund1-deadline, refund2-deadline}
 use Rattle.careful.proofs.Places.{Anywhere, pool-anywhere, block-anywhere, rightful, lock-reached, payee-to}
 use Rattle.careful.proofs.Fate.{Fate, same, done, waits, ousted, Lasts, stays-confirmed}
 use Rattle.careful.proofs.Setting.{sheet}
@@ -144,7 +144,7 @@ module _ (u : List ℕ) (c : conduct u ≡ 2) (one : 0 < perDay u) (top : perDay
     refund2-at : deadlineIn (sheet u) u p refund2 ≡ end
     unfolding deadlineIn end
     refund2-at =
-        refund2-deadline (perDay u) (blockOf p) one top r
+        refund2-deadline (perDay u) (blockOf p) one r
         (omega (arith, g .settled .numbered revoke (low u revoke (omega arith)), g .settled .limit))
 
     refund2-lost : Shows p refund2 secretAlice → Ousted refund2 end → Due q refund2 end

@@ -17,7 +17,7 @@ use Rattle.moves.proofs.Sending.{Sent}
 use Rattle.moves.proofs.Provenance.{Moved}
 use Rattle.agreement.proofs.Sound.{Sound}
 use Rattle.careful.proofs.Table.{exposes-secretAlice, exposes-secretBob}
-use Rattle.careful.proofs.Heights.{refund1Height, heights-rise}
+use Rattle.known.specs.Heights.{refund1Height, heights-rise}
 use Rattle.careful.proofs.Places.{Anywhere, block-stands, confirmed-anywhere, in-sheet, rightful, contract-to}
 use Rattle.careful.proofs.Fate.{Lasts, stays-confirmed}
 use Rattle.careful.proofs.Setting.{sheet}

@@ -24,7 +24,7 @@ use Rattle.moves.proofs.Provenance.{Stands}
 use Rattle.agreement.proofs.Sound.{Sound}
 use Rattle.careful.specs.Claim.{PaidOnce}
 use Rattle.careful.proofs.Table.{Pays, pays-alice, pays-bob, pays-from-B, Below, below, revoke-rivals, timeout-rival}
-use Rattle.careful.proofs.Heights.{timeout-lock}
+use Rattle.known.specs.Heights.{timeout-lock}
 use Rattle.careful.proofs.Places.{confirmed-stands, confirmed-anywhere, rightful, contract-to, payee-to}
 use Rattle.careful.proofs.Setting.{sheet}
 use Rattle.careful.proofs.Invariant.{SecretAliceOut, Invariant}

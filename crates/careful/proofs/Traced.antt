@@ -23,7 +23,7 @@ use Rattle.moves.proofs.Sending.{Sent}
 use Rattle.moves.proofs.Provenance.{Moved}
 use Rattle.agreement.proofs.Sound.{Sound}
 use Rattle.careful.proofs.Table.{needs, contracts, revoke-rivals, sigAlice-plain}
-use Rattle.careful.proofs.Heights.{refund1Height, refund1-lock, refund2-lock, success-deadline}
+use Rattle.known.specs.Heights.{refund1Height, refund1-lock, refund2-waits, success-deadline}
 use Rattle.careful.proofs.Places.{block-anywhere}
 use Rattle.careful.proofs.Has.{Has, held, shown, secret, has-by}
 use Rattle.careful.proofs.Setting.{sheet}
@@ -59,7 +59,7 @@ sent-reached u p party e w = rw (refund1-lock (perDay u) (blockOf p)) at (w .loc
 pub sent-revoked : (u : List ℕ) (p : Position) → Sound (sheet u) u p → (party e : ℕ) → Sent (sheet u) u p party refund2 e
     → 0 < blockOf p revoke
 unfolding lockHeightIn
-sent-revoked u p g party e w = refund2-lock (perDay u) (p .mined) (blockOf p) (omega (arith, g .settled .limit)) (w .lock)
+sent-revoked u p g party e w = refund2-waits (perDay u) (p .mined) (blockOf p) (omega (arith, g .settled .limit)) (w .lock)
 
 module _ (u : List ℕ) (c : conduct u ≡ 2) (one : 0 < perDay u) (top : perDay u ≤ 1000) (p : Position) (g : Sound (sheet u) u p)
     (j : Invariant u p) where

@@ -21,6 +21,7 @@ use Rattle.position.specs.declared.Ran.{Ran}
 use Rattle.steps.specs.Names.{lockA, revoke}
 use Rattle.position.specs.Position.{isConfirmed, sent, inBlock, shared, senderHas}
 use Rattle.position.specs.Play.{run}
+use Rattle.position.specs.Open.{listBytes}
 use Rattle.position.specs.Report.{status}
 use Rattle.position.specs.Printed.{printed}
 
@@ -44,6 +45,8 @@ pub data Case : Type 0 where
   statusIs : (sheet setup journal : List ℕ) (t is : ℕ) → Case
   -- after this journal: this step gets this number
   stepGets : (sheet setup journal step : List ℕ) (number : ℕ) → Case
+  -- after this journal: the list of open steps, 4 bytes each
+  opens : (sheet setup journal steps : List ℕ) → Case
   -- the lines that swapreport prints
   prints : (sheet setup journal : List ℕ) (lines : List (List ℕ)) → Case
 
@@ -98,4 +101,7 @@ holds (statusIs s u j t is) =
     let r = run s u j in
     passes r j && eqb (status s (r .position) t) is
 holds (stepGets s u j step number) = passes (run s u j) j && eqb (run s u (j ++ step) .refusal) number
+holds (opens s u j steps) =
+    let r = run s u j in
+    passes r j && same (listBytes s u (r .position)) steps
 holds (prints s u j lines) = sameLines (printed s u j) lines

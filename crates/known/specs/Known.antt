@@ -11,7 +11,7 @@ use Rattle.sheet.specs.LockHeight.{never}
 use Rattle.slots.specs.Destination.{alice, contract}
 use Rattle.steps.specs.Names.{lockA, success, refund1, revoke, refund2, timeout, spendB, spendRevoke}
 use Rattle.position.proofs.Opened.{opened}
-use Rattle.known.specs.Case.{Case, lockIs, deadlineIs, sheetLength, statusesZero, sendGets, unsignedGets, sharedIs, statusIs, stepGets, prints, revokedIn, swapSheet, passes, sendPlace, getsThere, sameLines, holds}
+use Rattle.known.specs.Case.{Case, lockIs, deadlineIs, sheetLength, statusesZero, sendGets, unsignedGets, sharedIs, statusIs, stepGets, opens, prints, revokedIn, swapSheet, passes, sendPlace, getsThere, sameLines, holds}
 
 -- "3 a day, open, stealth 1"
 abbrev setup3 : List ℕ
@@ -53,13 +53,32 @@ spentB = lockedB ++ (2 ∷ 1 ∷ 3 ∷ 0 ∷ 3 ∷ 0 ∷ 8 ∷ 0 ∷ [])
 abbrev waitingAt2 : List ℕ
 waitingAt2 = spentB ++ (5 ∷ 2 ∷ 8 ∷ 2 ∷ mine) ++ (1 ∷ 0 ∷ 2 ∷ 2 ∷ 3 ∷ 0 ∷ 0 ∷ 2 ∷ 3 ∷ 1 ∷ 2 ∷ 2 ∷ [])
 
--- 3 a day, careful, stealth 0
-abbrev careful3 : List ℕ
-careful3 = 3 ∷ 0 ∷ 2 ∷ 0 ∷ []
+-- "3 a day", careful, stealth 0
+abbrev careful30 : List ℕ
+careful30 = 3 ∷ 0 ∷ 2 ∷ 0 ∷ []
 
 -- both first shares, and lock_A confirmed; Bob doesn't lock
 abbrev lockedAlone : List ℕ
 lockedAlone = 1 ∷ 0 ∷ 255 ∷ 2 ∷ 1 ∷ 1 ∷ 255 ∷ 2 ∷ lockedA
+
+-- lock_A and success mined in blocks 1 and 2: the other rivals of success are dead
+abbrev succeeded : List ℕ
+succeeded = lockedA ++ (1 ∷ 0 ∷ 2 ∷ 2 ∷ 3 ∷ 1 ∷ 2 ∷ 2 ∷ 5 ∷ 2 ∷ 2 ∷ 2 ∷ mine)
+
+-- "3 a day", careful, stealth 1
+abbrev careful3 : List ℕ
+careful3 = 3 ∷ 0 ∷ 2 ∷ 1 ∷ []
+
+-- first shares, lock_A and lock_B in blocks 1 and 2; Alice shares success, and Bob gives secretBob
+abbrev carefulAt2 : List ℕ
+carefulAt2 = lockedAlone ++ lockedB ++ (1 ∷ 0 ∷ 2 ∷ 2 ∷ 2 ∷ 1 ∷ 3 ∷ 0 ∷ [])
+
+-- P10's sheet and setup
+abbrev sheet10 : List ℕ
+sheet10 = 2 ∷ 2 ∷ 0 ∷ 1 ∷ 2 ∷ 255 ∷ 0 ∷ 1 ∷ 0 ∷ 0 ∷ 2 ∷ 2 ∷ 0 ∷ 0 ∷ 0 ∷ 1 ∷ 1 ∷ []
+
+abbrev setup10 : List ℕ
+setup10 = 1 ∷ 0 ∷ 0 ∷ 0 ∷ []
 
 -- a chain of three, the last with a rival whose lock is 1 day
 abbrev chainSheet : List ℕ
@@ -144,8 +163,8 @@ known =
     ∷ sheetLength 3 95
     -- P10
     ∷ prints
-    (2 ∷ 2 ∷ 0 ∷ 1 ∷ 2 ∷ 255 ∷ 0 ∷ 1 ∷ 0 ∷ 0 ∷ 2 ∷ 2 ∷ 0 ∷ 0 ∷ 0 ∷ 1 ∷ 1 ∷ [])
-    (1 ∷ 0 ∷ 0 ∷ 0 ∷ [])
+    sheet10
+    setup10
     (3 ∷ 0 ∷ 0 ∷ 2 ∷ 5 ∷ 2 ∷ 0 ∷ 2 ∷ 6 ∷ 2 ∷ 255 ∷ 2 ∷ 3 ∷ 1 ∷ 1 ∷ 1 ∷ 5 ∷ 2 ∷ 1 ∷ 2 ∷ 6 ∷ 2 ∷ 255 ∷ 2 ∷ [])
     ((6 ∷ 0 ∷ 2 ∷ []) ∷ (0 ∷ 4 ∷ 2 ∷ 1 ∷ 0 ∷ 2147483647 ∷ []) ∷ (1 ∷ 4 ∷ 1 ∷ 2 ∷ 1 ∷ 2147483647 ∷ []) ∷ [])
     -- desk error "A lock reached at its height minus one": refund_1's is 3
@@ -171,6 +190,20 @@ known =
     ∷ statusIs rivalSheet (1 ∷ 0 ∷ 0 ∷ 1 ∷ []) rivalBumped 1 3
     ∷ statusIs rivalSheet (1 ∷ 0 ∷ 0 ∷ 1 ∷ []) rivalBumped 2 0
     ∷ statusIs rivalSheet (1 ∷ 0 ∷ 0 ∷ 1 ∷ []) rivalBumped 4 0
+    -- "status (1 pool, 2 block, 4 confirmed, 8 dead, summed)": each alone; dead by a rival of its own and by one of its line
+    ∷ statusIs (swapSheet careful3) careful3 (carefulAt2 ++ (3 ∷ 1 ∷ 2 ∷ 2 ∷ [])) success 1
+    ∷ statusIs (swapSheet setup3) setup3 (refundAt3 ++ (4 ∷ 0 ∷ 3 ∷ 2 ∷ [])) refund1 2
+    ∷ statusIs (swapSheet setup3) setup3 succeeded success 4
+    ∷ statusIs (swapSheet setup3) setup3 succeeded refund1 8
+    ∷ statusIs (swapSheet setup3) setup3 succeeded refund2 8
+    -- the list: "Alice's steps first, then Bob's .., then the miner's, each by kind, transaction, destination"; every kind is there
+    ∷ opens (swapSheet careful3) careful3 [] (1 ∷ 0 ∷ 255 ∷ 2 ∷ 1 ∷ 1 ∷ 255 ∷ 2 ∷ [])
+    ∷ opens (swapSheet careful3) careful3 carefulAt2
+    (2 ∷ 0 ∷ 0 ∷ 1 ∷ 3 ∷ 0 ∷ 8 ∷ 0 ∷ 4 ∷ 0 ∷ 8 ∷ 0 ∷ 3 ∷ 1 ∷ 2 ∷ 2 ∷ 4 ∷ 1 ∷ 2 ∷ 2 ∷ mine)
+    ∷ opens (swapSheet careful3) careful3 (carefulAt2 ++ (3 ∷ 1 ∷ 2 ∷ 2 ∷ []))
+    (2 ∷ 0 ∷ 0 ∷ 1 ∷ 3 ∷ 0 ∷ 8 ∷ 0 ∷ 4 ∷ 0 ∷ 8 ∷ 0 ∷ 3 ∷ 1 ∷ 9 ∷ 1 ∷ 7 ∷ 2 ∷ 2 ∷ 2 ∷ [])
+    ∷ opens sheet10 setup10 (3 ∷ 0 ∷ 0 ∷ 2 ∷ [])
+    (1 ∷ 0 ∷ 0 ∷ 2 ∷ 2 ∷ 0 ∷ 0 ∷ 1 ∷ 1 ∷ 1 ∷ 1 ∷ 1 ∷ 2 ∷ 1 ∷ 1 ∷ 0 ∷ 5 ∷ 2 ∷ 0 ∷ 2 ∷ [])
     -- Slip 1: a child that waits while its parent is mined stays in the pool, and at 1 block a day its bump is owed in the very next block
     ∷ statusIs heirSheet (1 ∷ 0 ∷ 0 ∷ 0 ∷ []) heirWaits 0 4
     ∷ statusIs heirSheet (1 ∷ 0 ∷ 0 ∷ 0 ∷ []) heirWaits 1 1
@@ -188,9 +221,9 @@ known =
     -- the same: 18 stays behind 16, for success at 3 blocks
     ∷ unsignedGets setup3 (lockedA ++ mine ++ mine) 3 (3 ∷ 1 ∷ 2 ∷ 2 ∷ []) 16
     -- Slip 6, "In phase 2 Alice may now send": refund_1 and revoke from their lock heights on
-    ∷ sendGets careful3 (lockedAlone ++ mine) 2 (3 ∷ 0 ∷ 3 ∷ 2 ∷ []) 17
-    ∷ sendGets careful3 (lockedAlone ++ mine ++ mine) 3 (3 ∷ 0 ∷ 3 ∷ 2 ∷ []) 0
-    ∷ sendGets careful3 (lockedAlone ++ mine ++ mine ++ mine ++ mine ++ mine) 6 (3 ∷ 0 ∷ 4 ∷ 2 ∷ []) 0
+    ∷ sendGets careful30 (lockedAlone ++ mine) 2 (3 ∷ 0 ∷ 3 ∷ 2 ∷ []) 17
+    ∷ sendGets careful30 (lockedAlone ++ mine ++ mine) 3 (3 ∷ 0 ∷ 3 ∷ 2 ∷ []) 0
+    ∷ sendGets careful30 (lockedAlone ++ mine ++ mine ++ mine ++ mine ++ mine) 6 (3 ∷ 0 ∷ 4 ∷ 2 ∷ []) 0
     ∷ []
 
 -- the one fact

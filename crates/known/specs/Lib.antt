@@ -1,3 +1,5 @@
 pub mod Case
 pub mod Known
-pub mod General
+pub mod Heights
+pub mod Sends
+pub mod Statuses

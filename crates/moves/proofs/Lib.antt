@@ -19,6 +19,8 @@ pub mod Quiet
 pub mod Starts
 pub mod WellformedSlots
 pub mod Wellformeds
+pub mod Totals
+pub mod ListSize
 pub mod TurnedTests
 pub mod OlderOrders
 pub mod OlderRuns

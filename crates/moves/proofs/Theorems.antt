@@ -1,21 +1,27 @@
 -- What is proved of the open steps, of every position that steps lead to, and of the order of a send's tests.
 -- Assumes nothing.
-use Prim.Native.Nat.{ℕ}
+use Prim.Native.Nat.{ℕ, _+_, _*_, _≤_}
 use mathlib.Core.Path.{_≡_}
 use mathlib.Core.List.{List, List·Memᴰ}
+use lib.Dec.{eqb}
+use lib.ListN.{length}
+use Rattle.laws.specs.Booleans.{pick}
 use Rattle.laws.specs.Members.{Rising}
 use Rattle.sheet.specs.Refusal.{accepted}
+use Rattle.sheet.specs.Field.{count, signatures}
 use Rattle.sheet.specs.Check.{sheetRefusal}
-use Rattle.sheet.proofs.Theorems.{sheet-checked}
+use Rattle.sheet.specs.Setup.{conduct, setupRefusal}
+use Rattle.sheet.proofs.Theorems.{sheet-checked, setup-checked}
 use Rattle.slots.specs.declared.Step.{Step}
 use Rattle.position.specs.declared.Position.{Position}
-use Rattle.position.specs.Position.{start}
+use Rattle.position.specs.Position.{slotCount, start}
 use Rattle.position.specs.Play.{FourBytes, step, run, play}
-use Rattle.position.specs.Open.{listSteps, listedBefore}
+use Rattle.position.specs.Open.{openSteps, listSteps, listedBefore}
 use Rattle.position.specs.Conduct.{payingFirst}
 use Rattle.moves.specs.Wellformed.{Wellformed}
 use Rattle.moves.specs.OlderOrder.{olderPayingFirst, SameButBoth, olderRun, SameRun}
 use Rattle.moves.proofs.ListedBytes
+use Rattle.moves.proofs.ListSize
 use Rattle.moves.proofs.Wellformeds
 use Rattle.moves.proofs.OlderOrders
 use Rattle.moves.proofs.OlderRuns
@@ -27,6 +33,15 @@ open-exact s u p b h = (ListedBytes.accepted-listed s u p b (sheet-checked s h),
 -- The list rises by actor, kind, transaction and destination: each step stands before every later one.
 pub list-rises : (s u : List ℕ) (p : Position) → Rising listedBefore (listSteps s u p)
 list-rises = ListedBytes.list-rises
+
+-- It has at most eight steps for each transaction, one for each signature, a block, and first shares under conduct.
+pub list-few : (s u : List ℕ) (p : Position) → count s ≤ slotCount → signatures s ≤ slotCount
+    → length (openSteps s u p) ≤ 8 * count s + signatures s + 1 + 2 * pick (eqb (conduct u) 0) 0 1
+list-few = ListSize.list-few
+
+-- So it has at most 265, on every checked sheet and setup.
+pub list-size : (s u : List ℕ) (p : Position) → sheetRefusal s ≡ 0 → setupRefusal s u ≡ 0 → length (openSteps s u p) ≤ 265
+list-size s u p h k = ListSize.list-size s u p (sheet-checked s h) (setup-checked s u k)
 
 -- The empty journal's position is well formed on a checked sheet.
 pub wellformed-start : (s : List ℕ) → sheetRefusal s ≡ 0 → Wellformed s (start s)

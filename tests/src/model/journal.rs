@@ -50,7 +50,7 @@ impl Course {
             if step.kind == Kind::Mine {
                 self.note_block();
             }
-            step::effect(sheet, setup.slips, &mut self.position, &step);
+            step::effect(sheet, setup, &mut self.position, &step);
             self.accepted.push(*bytes);
         }
         number

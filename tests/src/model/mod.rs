@@ -1,11 +1,13 @@
 //! The reference model, one file for each idea of document 01. In its order:
 //! sheet, setup, heights, report (holders and payouts), ledger, position, step,
 //! conduct, journal, open, calls, swapreport; slips, document 02's changes of
-//! them; and claims, what demand 3 says of them.
+//! them; claims, what demand 3 says of them; and faults, rules that the claims
+//! fail without.
 
 pub mod calls;
 pub mod claims;
 pub mod conduct;
+pub mod faults;
 pub mod heights;
 pub mod journal;
 pub mod ledger;

@@ -1,5 +1,6 @@
 //! The setup: blocks per day, conduct, stealth; checks 9 and 10.
 
+use super::faults::Faults;
 use super::sheet;
 use super::slips::Slips;
 
@@ -20,6 +21,8 @@ pub struct Setup {
     pub stealth: bool,
     /// The rules that the game goes by; no byte of the setup tells.
     pub slips: Slips,
+    /// Rules that are broken, likewise.
+    pub faults: Faults,
 }
 
 /// "blocks per day (2 bytes, 1 to 1,000)", little-endian.
@@ -66,6 +69,7 @@ pub fn read(sheet_bytes: &[u8], bytes: &[u8]) -> Result<Setup, u32> {
             },
             stealth: bytes[3] == 1,
             slips: Slips::ALL,
+            faults: Faults::NONE,
         }),
         number => Err(number),
     }

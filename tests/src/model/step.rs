@@ -157,7 +157,7 @@ fn tests(kind: Kind, slips: Slips) -> &'static [Test] {
             (20, some_bump_owed),
         ],
         Kind::Mine => &[
-            (20, some_bump_owed),
+            (20, bump_owed_before_mining),
             (22, empty_too_soon),
             (23, blocks_used_up),
         ],
@@ -300,7 +300,8 @@ fn signatures_missing(case: &Case) -> bool {
 
 /// 17: "lock height ≤ blocks mined".
 fn lock_not_reached(case: &Case) -> bool {
-    case.lock_height(case.step.transaction) > case.position.mined
+    let early = u32::from(case.setup.faults.lock_a_block_early);
+    case.lock_height(case.step.transaction) > case.position.mined + early
 }
 
 /// 18: "blocks mined < deadline".
@@ -323,6 +324,11 @@ fn bump_owed(case: &Case, t: u8) -> bool {
 /// 20: "kind 5 or 6, a bump owed".
 fn some_bump_owed(case: &Case) -> bool {
     case.position.pool.keys().any(|&t| bump_owed(case, t))
+}
+
+/// 20 for kind 6.
+fn bump_owed_before_mining(case: &Case) -> bool {
+    !case.setup.faults.mines_though_owed && some_bump_owed(case)
 }
 
 /// 21: "kind 7, not owed". "Where several are owed, here, any of them may be
@@ -363,7 +369,7 @@ pub fn refusal(sheet: &Sheet, setup: &Setup, position: &Position, bytes: &[u8; 4
 }
 
 /// The effect of an accepted step.
-pub fn effect(sheet: &Sheet, slips: Slips, position: &mut Position, step: &Step) {
+pub fn effect(sheet: &Sheet, setup: &Setup, position: &mut Position, step: &Step) {
     let (t, destination) = (step.transaction, step.destination);
     match step.kind {
         Kind::Share if t == ALL => {
@@ -377,15 +383,13 @@ pub fn effect(sheet: &Sheet, slips: Slips, position: &mut Position, step: &Step)
             position.pool.insert(t, destination);
             expose(sheet, position, t, destination);
         }
-        Kind::HandToMiner => {
-            position.block.insert(t, destination);
-        }
+        Kind::HandToMiner => hand_in(sheet, setup, position, t, destination),
         Kind::Include => {
             let entry = position.pool[&t];
             position.block.insert(t, entry);
         }
-        Kind::Mine => mine(sheet, slips, position),
-        Kind::Bump => bump(sheet, position, t),
+        Kind::Mine => mine(sheet, setup, position),
+        Kind::Bump => bump(sheet, setup, position, t),
     }
 }
 
@@ -405,6 +409,14 @@ fn expose(sheet: &Sheet, position: &mut Position, t: u8, destination: u8) {
     }
 }
 
+/// "Hand to miner: .. nothing shared."
+fn hand_in(sheet: &Sheet, setup: &Setup, position: &mut Position, t: u8, destination: u8) {
+    position.block.insert(t, destination);
+    if setup.faults.hand_in_shares {
+        expose(sheet, position, t, destination);
+    }
+}
+
 /// The rivals of all these transactions.
 fn rivals_of(sheet: &Sheet, transactions: &BTreeSet<u8>) -> BTreeSet<u8> {
     let rivals = transactions.iter().flat_map(|&t| sheet.rivals(t));
@@ -418,7 +430,7 @@ fn line_meets(sheet: &Sheet, t: u8, set: &BTreeSet<u8>) -> bool {
 
 /// "Mine (transaction 255): the block is confirmed and its entries shared as in
 /// 3"; some entries leave the pool.
-fn mine(sheet: &Sheet, slips: Slips, position: &mut Position) {
+fn mine(sheet: &Sheet, setup: &Setup, position: &mut Position) {
     let entries = std::mem::take(&mut position.block);
     position.mined += 1;
     for (&t, &destination) in &entries {
@@ -428,7 +440,7 @@ fn mine(sheet: &Sheet, slips: Slips, position: &mut Position) {
         expose(sheet, position, t, destination);
     }
     let mined = entries.into_keys().collect();
-    let leaves = match slips.waiting_children_stay {
+    let leaves = match setup.slips.waiting_children_stay {
         true => leaves_pool,
         false => left_pool_in_document_01,
     };
@@ -452,15 +464,15 @@ fn left_pool_in_document_01(sheet: &Sheet, mined: &BTreeSet<u8>, t: u8) -> bool 
 
 /// "It and, here, all its waiting ancestors outside the block enter; block
 /// entries whose line meets a rival of these leave first."
-fn bump(sheet: &Sheet, position: &mut Position, t: u8) {
+fn bump(sheet: &Sheet, setup: &Setup, position: &mut Position, t: u8) {
     let line = sheet.line(t).iter().copied();
     let entering: BTreeSet<u8> = line
         .filter(|&member| position.in_pool(member) && !position.in_block(member))
+        .filter(|&member| member == t || !setup.faults.bump_alone)
         .collect();
     let leaving = rivals_of(sheet, &entering);
-    position
-        .block
-        .retain(|&entry, _| !line_meets(sheet, entry, &leaving));
+    let leaves = |entry: u8| !setup.faults.bump_beside_rivals && line_meets(sheet, entry, &leaving);
+    position.block.retain(|&entry, _| !leaves(entry));
     for member in entering {
         let destination = position.pool[&member];
         position.block.insert(member, destination);

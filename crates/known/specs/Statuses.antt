@@ -1,40 +1,21 @@
--- What P4, P5 and P8 say of one number of blocks per day, one block or one sheet, for all of them. P1 to P3 and P9 are so in the sheet crate's `Theorems`.
+-- What P8 says of one sheet, for all of them: an empty journal leaves all statuses 0.
 -- Assumes nothing.
-use Prim.Native.Nat.{ℕ, zero, suc, _+_, _*_}
+use Prim.Native.Nat.{ℕ, zero, suc}
 use mathlib.Core.Path.{_≡_, refl, ap, fun-ext}
 use mathlib.Core.Bool.{Bool, false, not, _&&_, _||_, and-false}
 use mathlib.Core.List.{List}
-use lib.Dec.{eqb, ltb, eqb·suc-zero}
+use lib.Dec.{eqb, ltb}
 use lib.ListN.{getD, replicate}
 use Rattle.laws.specs.Below.{anyBelow}
 use Rattle.laws.specs.Climb.{climb-still}
 use Rattle.sheet.specs.Field.{count, parent}
-use Rattle.sheet.specs.Saswap.{saswap}
-use Rattle.sheet.specs.LockHeight.{lockHeight, never}
 use Rattle.slots.specs.declared.Slot.{Slot}
 use Rattle.slots.specs.Slot.{emptySlot, standing}
 use Rattle.slots.specs.Conflict.{conflict, conflictIn, otherConflictIn}
 use Rattle.slots.specs.Ancestry.{inAncestry, meetsOther}
 use Rattle.slots.specs.Invalidated.{invalidated}
-use Rattle.slots.specs.Deadline.{deadline}
-use Rattle.steps.specs.Names.{revoke, refund2, timeout, spendRevoke}
 use Rattle.position.specs.Position.{start, slot, inPool, inBlock, blockOf, isConfirmed}
 use Rattle.position.specs.Report.{status}
-use Rattle.position.proofs.Opened.{opened}
-
--- P4, for every number of blocks per day and every block of revoke
-pub refund2-lock : (d b : ℕ) (block : ℕ → ℕ) → block revoke ≡ suc b → lockHeight (saswap d) d block refund2 ≡ suc b + 1 * d
-unfolding opened
-refund2-lock d b block e = rw (e, eqb·suc-zero)
-
-pub timeout-lock : (d b : ℕ) (block : ℕ → ℕ) → block revoke ≡ suc b → lockHeight (saswap d) d block timeout ≡ suc b + 2 * d
-unfolding opened
-timeout-lock d b block e = rw (e, eqb·suc-zero)
-
--- P5, for every number of blocks per day and every position with revoke unconfirmed
-pub spendRevoke-deadline : (d : ℕ) (block : ℕ → ℕ) → block revoke ≡ 0 → deadline (saswap d) d block spendRevoke ≡ never
-unfolding opened
-spendRevoke-deadline d block e = rw e
 
 all-empty : (n t : ℕ) → getD (replicate n emptySlot) t emptySlot ≡ emptySlot
 all-empty zero t = refl

@@ -1,0 +1,138 @@
+-- What the claim's words come to on the SASwap sheet, computed: where Bob is paid from coin A and Alice from coin B, where it is the
+-- other way round, and where nobody is paid.
+-- Assumes nothing.
+use Prim.Native.Nat.{ℕ}
+use mathlib.Core.Path.{_≡_, refl}
+use mathlib.Core.Bool.{Bool, true, not, _&&_}
+use mathlib.Core.List.{List, [], _∷_, _++_, flatMap}
+use lib.Dec.{eqb}
+use lib.ListN.{length, replicate}
+use Rattle.laws.specs.Booleans.{pick}
+use Rattle.laws.specs.Gather.{gather, every}
+use Rattle.laws.specs.Same.{same}
+use Rattle.sheet.specs.Refusal.{accepted}
+use Rattle.sheet.specs.Saswap.{saswap}
+use Rattle.slots.specs.Destination.{alice, bob, contract}
+use Rattle.ledger.specs.Entry.{Entry}
+use Rattle.ledger.specs.Coin.{nobody}
+use Rattle.ledger.specs.Ledger.{ledgerHolder}
+use Rattle.steps.specs.Names.{lockA, lockB, spendA, spendB}
+use Rattle.position.specs.Play.{journalSteps}
+use Rattle.readings.specs.Holder.{isPayout, isPayoutTo}
+use Rattle.readings.specs.Reported.{reportedHolder}
+use Rattle.position.specs.Holder.{holderIn}
+use Rattle.position.proofs.Opened.{opened}
+use Rattle.agreement.specs.Claim.{entriesOf, booksOf, positionOf, reportOf, reportedBytes}
+
+-- 3 blocks per day, open, stealth 0
+abbrev sheet : List ℕ
+sheet = saswap 3
+
+abbrev setup : List ℕ
+setup = 3 ∷ 0 ∷ 0 ∷ 0 ∷ []
+
+-- room for a report
+abbrev out : List ℕ
+out = replicate 210 0
+
+-- lock_A in block 1, lock_B in block 2
+abbrev locked : List ℕ
+locked =
+    3 ∷ 0 ∷ 0 ∷ 2
+    ∷ 5 ∷ 2 ∷ 0 ∷ 2
+    ∷ 6 ∷ 2 ∷ 255 ∷ 2
+    ∷ 3 ∷ 1 ∷ 1 ∷ 2
+    ∷ 5 ∷ 2 ∷ 1 ∷ 2
+    ∷ 6 ∷ 2 ∷ 255 ∷ 2
+    ∷ []
+
+-- Alice gives sigAlice, and Bob sends spend_A; he gives secretBob, and she sends spend_B
+abbrev swapped : List ℕ
+swapped = 2 ∷ 0 ∷ 0 ∷ 1 ∷ 3 ∷ 1 ∷ 7 ∷ 1 ∷ 2 ∷ 1 ∷ 3 ∷ 0 ∷ 3 ∷ 0 ∷ 8 ∷ 0 ∷ []
+
+-- Bob gives sigBob, and Alice sends spend_A; she gives secretAlice, and he sends spend_B
+abbrev returned : List ℕ
+returned = 2 ∷ 1 ∷ 1 ∷ 0 ∷ 3 ∷ 0 ∷ 7 ∷ 0 ∷ 2 ∷ 0 ∷ 2 ∷ 1 ∷ 3 ∷ 1 ∷ 8 ∷ 1 ∷ []
+
+-- bytes that are no step, and a spend before its parent: both are refused
+abbrev refused : List ℕ
+refused = 0 ∷ 0 ∷ 0 ∷ 0 ∷ 3 ∷ 1 ∷ 9 ∷ 1 ∷ []
+
+-- lock_A once more: refused
+abbrev again : List ℕ
+again = 3 ∷ 0 ∷ 0 ∷ 2 ∷ []
+
+-- spend_A, which is bumped, and spend_B in block 3
+abbrev mined : List ℕ
+mined = 7 ∷ 2 ∷ 7 ∷ 2 ∷ 5 ∷ 2 ∷ 8 ∷ 2 ∷ 6 ∷ 2 ∷ 255 ∷ 2 ∷ []
+
+-- an entry as three numbers
+abbrev numbers : Entry → List ℕ
+numbers e = e .transaction ∷ e .destination ∷ e .block ∷ []
+
+-- who is paid by a coin, where `held` gives each coin's holder
+abbrev paid : (ℕ → ℕ) → ℕ → List ℕ
+paid held coin = gather 3 (λ party. pick (isPayoutTo sheet held party coin) (party ∷ []) [])
+
+-- a reading of the holders says this of coins A and B
+pub record Reading : Type 0 where
+  pub holderA : ℕ
+  pub holderB : ℕ
+  pub paidByA : List ℕ
+  pub paidByB : List ℕ
+
+unfoldable pub reads : (ℕ → ℕ) → Reading → Bool
+reads held r =
+    eqb (held lockA) (r .holderA)
+    && (eqb (held lockB) (r .holderB)
+    && (same (paid held lockA) (r .paidByA)
+    && (same (paid held lockB) (r .paidByB)
+    && (eqb (length (r .paidByA)) (pick (isPayout sheet held lockA) 1 0)
+    && (eqb (length (r .paidByB)) (pick (isPayout sheet held lockB) 1 0)
+    -- a coin goes by its opening: no other number is a payout
+    && not (isPayout sheet held spendA))))))
+
+-- a list of four-byte groups, what it confirms as three numbers each, and what every reading of the holders says
+pub record Example : Type 0 where
+  pub steps : List ℕ
+  pub confirmed : List ℕ
+  pub reading : Reading
+
+unfoldable pub holds : Example → Bool
+holds x =
+    let bs = journalSteps (x .steps) in
+    same (flatMap numbers (entriesOf sheet setup bs)) (x .confirmed)
+    && (booksOf sheet setup bs .accepts
+    && (reads (holderIn sheet (positionOf sheet setup bs)) (x .reading)
+    && (reads (ledgerHolder (booksOf sheet setup bs .kept)) (x .reading)
+    && (eqb (reportOf sheet setup bs out .refusal) accepted
+    && reads (reportedHolder sheet (reportedBytes sheet setup bs out)) (x .reading)))))
+
+unfoldable pub examples : List Example
+examples =
+    -- nothing is confirmed
+    record { steps = refused; confirmed = []; reading = record { holderA = nobody; holderB = nobody; paidByA = []; paidByB = [] } }
+    -- both coins are held by the contract: no payout
+    ∷ record {
+      steps = locked ++ refused ++ again;
+      confirmed = lockA ∷ contract ∷ 1 ∷ lockB ∷ contract ∷ 2 ∷ [];
+      reading = record { holderA = contract; holderB = contract; paidByA = []; paidByB = [] };
+    }
+    -- Bob is paid from coin A, Alice from coin B
+    ∷ record {
+      steps = locked ++ swapped ++ again ++ mined;
+      confirmed = lockA ∷ contract ∷ 1 ∷ lockB ∷ contract ∷ 2 ∷ spendA ∷ bob ∷ 3 ∷ spendB ∷ alice ∷ 3 ∷ [];
+      reading = record { holderA = bob; holderB = alice; paidByA = bob ∷ []; paidByB = alice ∷ [] };
+    }
+    -- Alice is paid from coin A, Bob from coin B
+    ∷ record {
+      steps = locked ++ returned ++ mined ++ again;
+      confirmed = lockA ∷ contract ∷ 1 ∷ lockB ∷ contract ∷ 2 ∷ spendA ∷ alice ∷ 3 ∷ spendB ∷ bob ∷ 3 ∷ [];
+      reading = record { holderA = alice; holderB = bob; paidByA = alice ∷ []; paidByB = bob ∷ [] };
+    }
+    ∷ []
+
+-- the one fact
+pub all-hold : every holds examples ≡ true
+unfolding opened reads holds examples
+all-hold = refl
