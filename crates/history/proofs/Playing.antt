@@ -11,12 +11,12 @@ use lib.ListN.{length, length-append}
 use Rattle.laws.specs.Booleans.{pick, split}
 use Rattle.position.specs.declared.Position.{Position}
 use Rattle.position.specs.declared.Stepped.{Stepped}
-use Rattle.position.specs.Journal.{stepAt}
+use Rattle.position.specs.Forms.Journal.{stepAt}
 use Rattle.runs.proofs.Bounds.{steps-bytes}
 use Rattle.position.specs.Position.{start}
 use Rattle.position.specs.Play.{FourBytes, journalSteps, step, play, acceptedOf}
 use Rattle.history.specs.declared.play.Played.{Played}
-use Rattle.history.specs.Steps.{taken, playedOne}
+use Rattle.history.specs.Forms.Steps.{taken, playedOne}
 use Rattle.runs.proofs.Groups.{groupsFrom, groups-all, groups-next, groups-none}
 
 pub taken-length : (n : ℕ) (b : FourBytes) → length (taken n b) ≡ pick (eqb n 0) 1 0

@@ -12,13 +12,13 @@ use Rattle.laws.specs.Booleans.{split}
 use Rattle.laws.specs.Over.{over}
 use Rattle.laws.specs.Wrote.{Wrote, wrote-none, wrote-room, wrote-more, front-fits}
 use Rattle.sheet.specs.Field.{byte}
-use Rattle.output.specs.Emitted.{emitted}
+use Rattle.output.specs.Forms.Emitted.{emitted}
 use Rattle.position.specs.declared.Position.{Position}
 use Rattle.position.specs.declared.Stepped.{Stepped}
 use Rattle.position.specs.Position.{start}
 use Rattle.position.specs.Play.{FourBytes, journalSteps, journalBytes, step, acceptedOf}
-use Rattle.position.specs.Journal.{stepAt}
-use Rattle.history.specs.Steps.{taken}
+use Rattle.position.specs.Forms.Journal.{stepAt}
+use Rattle.history.specs.Forms.Steps.{taken}
 use Rattle.runs.proofs.Groups.{groupsFrom, groups-all, groups-none}
 use Rattle.history.proofs.Playing.{accepted-none, accepted-turn}
 

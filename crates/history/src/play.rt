@@ -6,11 +6,11 @@ ghost use mathlib.Core.Path.{_≡_};
 ghost use lib.Dec.{eqb};
 ghost use lib.ListN.{length};
 ghost use Rattle.laws.specs.Booleans.{pick};
-ghost use Rattle.position.specs.Fit.{Fit};
+ghost use Rattle.sheet.specs.Checked.{Fit};
 ghost use Rattle.position.specs.Position.{start};
 ghost use Rattle.position.specs.Play.{journalSteps, play, acceptedOf};
-ghost use Rattle.position.specs.Journal.{stepAt};
-ghost use Rattle.history.specs.Steps.{playedOne};
+ghost use Rattle.position.specs.Forms.Journal.{stepAt};
+ghost use Rattle.history.specs.Forms.Steps.{playedOne};
 
 // The position after the steps so far, and the number of those accepted.
 pub struct Played {
@@ -30,7 +30,6 @@ fn one_if_taken(refusal: u32) -> usize
 
 // One more step, the one that starts at byte i.
 fn play_one(played: Played, sheet: &[u8], setup: &[u8], steps: &[u8], i: usize) -> Played
-    requires { ⌜ length (now setup) ≡ 4 ⌝ }
     requires { ⌜ Fit (now sheet) (now setup) ⌝ }
     requires { ⌜ i + 4 ≤ length (now steps) ⌝ }
     requires { ⌜ played .accepted ≤ i ⌝ }
@@ -48,7 +47,6 @@ fn play_one(played: Played, sheet: &[u8], setup: &[u8], steps: &[u8], i: usize) 
 
 // Every whole group of four bytes, one after the other.
 pub fn play_steps(sheet: &[u8], setup: &[u8], steps: &[u8]) -> Played
-    requires { ⌜ length (now setup) ≡ 4 ⌝ }
     requires { ⌜ Fit (now sheet) (now setup) ⌝ }
     ensures { λ r. ⌜ r .position ≡ play (now (sheet .entry)) (now (setup .entry)) (journalSteps (now (steps .entry))) (start (now (sheet .entry))) ⌝ }
     ensures { λ r. ⌜ r .accepted ≡ length (acceptedOf (now (sheet .entry)) (now (setup .entry)) (journalSteps (now (steps .entry))) (start (now (sheet .entry)))) ⌝ }

@@ -5,11 +5,11 @@ ghost use Prim.Native.Nat.{_+_, _≤_};
 ghost use mathlib.Core.Path.{_≡_};
 ghost use lib.ListN.{length};
 ghost use Rattle.laws.specs.Over.{over};
-ghost use Rattle.position.specs.Fit.{Fit};
+ghost use Rattle.sheet.specs.Checked.{Fit};
 ghost use Rattle.position.specs.Position.{start};
 ghost use Rattle.position.specs.Play.{journalSteps, journalBytes, acceptedOf};
-ghost use Rattle.position.specs.Journal.{stepAt};
-ghost use Rattle.history.specs.Steps.{taken};
+ghost use Rattle.position.specs.Forms.Journal.{stepAt};
+ghost use Rattle.history.specs.Forms.Steps.{taken};
 
 // The four bytes from byte i on, if their step was accepted; the answer is their number.
 fn write_taken(refusal: u32, steps: &[u8], i: usize, out: &mut [u8]) -> usize
@@ -30,7 +30,6 @@ fn write_taken(refusal: u32, steps: &[u8], i: usize, out: &mut [u8]) -> usize
 
 // The accepted steps, at the front of the buffer.
 pub fn write_accepted(sheet: &[u8], setup: &[u8], steps: &[u8], out: &mut [u8])
-    requires { ⌜ length (now setup) ≡ 4 ⌝ }
     requires { ⌜ Fit (now sheet) (now setup) ⌝ }
     requires { ⌜ length (journalBytes (acceptedOf (now sheet) (now setup) (journalSteps (now steps)) (start (now sheet)))) ≤ length (now out) ⌝ }
     ensures { λ _. ⌜ now (out .exit) ≡ over (journalBytes (acceptedOf (now (sheet .entry)) (now (setup .entry)) (journalSteps (now (steps .entry))) (start (now (sheet .entry))))) (now (out .entry)) ⌝ }

@@ -8,7 +8,7 @@ use lib.ListN.{length, length-append}
 use borrow.Author.Tests.{eq-eqb, ne-eqb, le-leb, lt-leb}
 use Rattle.laws.specs.Over.{over}
 use Rattle.slots.specs.Destination.{alice, bob, miner}
-use Rattle.output.specs.Emitted.{actorBytes}
+use Rattle.output.specs.Forms.Emitted.{actorBytes}
 use Rattle.output.proofs.Lengths.{length-actor, count-bound}
 use Rattle.queries.specs.declared.OpenSets.{OpenSets}
 use Rattle.position.specs.declared.Position.{Position}
@@ -17,10 +17,10 @@ use Rattle.position.specs.Play.{run}
 use Rattle.position.specs.Open.{openSteps, listBytes}
 use Rattle.position.specs.Answers.{Written, fitted, listAnswer}
 use Rattle.position.proofs.Passing.{passed-on, not-passed-on, written, not-written}
-use Rattle.queries.specs.OpenSets.{belowSets, lastSet, openSets}
+use Rattle.queries.specs.Forms.OpenSets.{belowSets, lastSet, openSets}
 use Rattle.queries.proofs.OpenBytes.{list-bytes, list-length, sets-open}
 use Rattle.runs.proofs.Bounds.{written-bounds}
-use Rattle.lists.specs.SetsBytes.{laterBytes, setsBytes, setsCount}
+use Rattle.lists.specs.Forms.SetsBytes.{laterBytes, setsBytes, setsCount}
 
 -- a refusal x, a count y and a buffer l are those of an answer
 abbrev pub Gives : ℕ → ℕ → List ℕ → Written → Type 0

@@ -1,1 +1,1 @@
-pub mod SetsBytes
+pub mod Forms

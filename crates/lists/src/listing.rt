@@ -8,11 +8,11 @@ ghost use Prim.Native.Nat.{_≤_};
 ghost use mathlib.Core.Path.{_≡_};
 ghost use lib.ListN.{length};
 ghost use Rattle.laws.specs.Over.{over};
-ghost use Rattle.output.specs.Emitted.{actorBytes, Counted};
-ghost use Rattle.position.specs.Fit.{Fit};
+ghost use Rattle.output.specs.Forms.Emitted.{actorBytes, Counted};
+ghost use Rattle.sheet.specs.Checked.{Fit};
 ghost use Rattle.position.specs.Open.{openSteps, listBytes};
 ghost use Rattle.position.specs.Answers.{fitted};
-ghost use Rattle.lists.specs.SetsBytes.{laterBytes, setsBytes, setsCount};
+ghost use Rattle.lists.specs.Forms.SetsBytes.{laterBytes, setsBytes, setsCount};
 
 // An actor's steps, at the front of the buffer; the answer is their length in bytes.
 fn write_actor(sets: OpenSets, actor: u8, out: &mut [u8]) -> usize
@@ -82,7 +82,6 @@ fn write_fitting(alice: OpenSets, bob: OpenSets, miner: OpenSets, out: &mut [u8]
 
 // The open steps of the position.
 pub fn write_list(position: Position, sheet: &[u8], setup: &[u8], out: &mut [u8]) -> Listed
-    requires { ⌜ length (now setup) ≡ 4 ⌝ }
     requires { ⌜ Fit (now sheet) (now setup) ⌝ }
     ensures { λ r. ⌜ r .refusal ≡ fitted (listBytes (now (sheet .entry)) (now (setup .entry)) position) (length (openSteps (now (sheet .entry)) (now (setup .entry)) position)) (now (out .entry)) .refusal ⌝ }
     ensures { λ r. ⌜ r .count ≡ fitted (listBytes (now (sheet .entry)) (now (setup .entry)) position) (length (openSteps (now (sheet .entry)) (now (setup .entry)) position)) (now (out .entry)) .count ⌝ }

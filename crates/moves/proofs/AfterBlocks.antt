@@ -13,7 +13,7 @@ use Rattle.slots.specs.Ancestry.{isSelfOrAncestor, meetsConflict}
 use Rattle.position.specs.declared.Position.{Position}
 use Rattle.position.specs.Position.{slot, inPool, poolTo, inBlock, blockTo, blockOf, confirmedTo}
 use Rattle.position.specs.Owed.{waiting, enters}
-use Rattle.steps.specs.Blocks.{confirmEntry}
+use Rattle.steps.specs.Mined.{confirmEntry}
 use Rattle.position.specs.Effect.{leavesPool, mineSlot, withMined, afterMine, leavesBlock, bumpSlot, afterBump}
 use Rattle.position.proofs.Changed.{all-length, all-beyond, all-seen}
 use Rattle.moves.proofs.Untouched.{SamePool, SameConfirmed, all-pool, all-confirmed}

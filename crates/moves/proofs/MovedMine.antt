@@ -16,7 +16,7 @@ use Rattle.slots.proofs.Entered.{Entered, filled, after-pool, after-confirmed, 
 use Rattle.slots.proofs.SharedBits.{shared-from, shared-kept, shared-pool, shared-block, shared-confirmed}
 use Rattle.position.specs.declared.Position.{Position}
 use Rattle.position.specs.Position.{slot, inBlock, blockTo, blockOf, shared}
-use Rattle.steps.specs.Blocks.{confirmEntry}
+use Rattle.steps.specs.Mined.{confirmEntry}
 use Rattle.position.specs.Effect.{withSlots, changeSlots, leavesPool, mineSlot, withMined, afterMine}
 use Rattle.moves.proofs.Provenance.{byBlock, SlotMoved, Moved, entered-same, keys-same, each-changed}
 use Rattle.moves.proofs.MovedEntry.{nothing-stands, removed}

@@ -7,8 +7,8 @@ use Rattle.laws.specs.Gather.{gather}
 use Rattle.laws.specs.Mask.{bit}
 use Rattle.laws.specs.Little.{bytesOf}
 use Rattle.laws.specs.Sum.{sumBelow, bitsBelow}
-use Rattle.output.specs.Emitted.{emitted, emittedAt, opensBelow, opensLast, belowBytes, lastBytes, kindBytes, actorBytes, openCount}
-use Rattle.output.specs.Row.{rowBytes}
+use Rattle.output.specs.Forms.Emitted.{emitted, emittedAt, opensBelow, opensLast, belowBytes, lastBytes, kindBytes, actorBytes, openCount}
+use Rattle.output.specs.Forms.Row.{rowBytes}
 
 -- kind 1 on transaction 31 for Bob and on 0 for the contract, kind 2 on 3 for Alice; byte 255: kind 1 for Alice and kind 6 for Alice
 sets : List ℕ

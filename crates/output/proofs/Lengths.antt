@@ -11,7 +11,7 @@ use Rattle.laws.specs.Booleans.{pick}
 use Rattle.laws.specs.Gather.{gather}
 use Rattle.laws.specs.Mask.{bit}
 use Rattle.laws.specs.Sum.{sumBelow, bitsBelow, sum-same, sum-both, sum-times, sum-swap, sum-threes, sum-bound, length-gathered, bits-bound}
-use Rattle.output.specs.Emitted.{emitted, emittedAt, opensBelow, opensLast, belowBytes, lastBytes, kindBytes, actorBytes, openCount}
+use Rattle.output.specs.Forms.Emitted.{emitted, emittedAt, opensBelow, opensLast, belowBytes, lastBytes, kindBytes, actorBytes, openCount}
 
 -- a step that is open has four
 pub four-fit : (on : Bool) (kind actor t d m : ℕ) → on ≡ true → length (emitted on kind actor t d) ≤ m → 4 ≤ m

@@ -11,7 +11,7 @@ use Rattle.laws.specs.Booleans.{or-neither}
 use Rattle.laws.specs.Bits.{bit-or, no-bit}
 use Rattle.laws.specs.Gather.{gather, gather-empty}
 use Rattle.laws.specs.Mask.{bit}
-use Rattle.output.specs.Emitted.{emitted, emittedAt, opens, opensBelow, opensLast, belowBytes, lastBytes}
+use Rattle.output.specs.Forms.Emitted.{emitted, emittedAt, opens, opensBelow, opensLast, belowBytes, lastBytes}
 
 -- three tests in a list
 three : (f : ℕ → Bool) (a b c : Bool) (kind actor t : ℕ) → a ≡ f 0 → b ≡ f 1 → c ≡ f 2

@@ -5,7 +5,7 @@ ghost use lib.ListN.{length};
 ghost use Rattle.laws.specs.Gather.{gather};
 ghost use Rattle.laws.specs.Mask.{bit};
 ghost use Rattle.laws.specs.Over.{over};
-ghost use Rattle.output.specs.Emitted.{emitted, emittedAt, opens, belowBytes, lastBytes, kindBytes, actorBytes, Counted, Ones};
+ghost use Rattle.output.specs.Forms.Emitted.{emitted, emittedAt, opens, belowBytes, lastBytes, kindBytes, actorBytes, Counted, Ones};
 
 // The number of a mask's bits.
 fn ones(mask: u32) -> usize

@@ -4,7 +4,7 @@ ghost use mathlib.Core.Path.{_≡_};
 ghost use lib.ListN.{length};
 ghost use Rattle.laws.specs.Little.{bytesOf};
 ghost use Rattle.laws.specs.Over.{over};
-ghost use Rattle.output.specs.Row.{rowBytes};
+ghost use Rattle.output.specs.Forms.Row.{rowBytes};
 
 // The four bytes of a number, the lowest first.
 fn write_number(out: &mut [u8], x: u32)

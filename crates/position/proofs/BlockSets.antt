@@ -10,9 +10,10 @@ use Rattle.laws.specs.Each.{rewriteFirst, rewrite-same}
 use Rattle.laws.specs.Mask.{bit}
 use Rattle.laws.specs.Sets.{setBelow, set-bit}
 use Rattle.sheet.specs.Field.{count}
-use Rattle.slots.specs.Conflict.{conflictIn, otherConflictIn, foundIn}
+use Rattle.slots.specs.Conflict.{conflictIn, otherConflictIn}
+use Rattle.slots.specs.Forms.Conflict.{foundIn}
 use Rattle.slots.specs.Ancestry.{inAncestry, isSelfOrAncestor, meetsConflict, meetsOther}
-use Rattle.slots.specs.Line.{lineSet}
+use Rattle.slots.specs.Forms.Line.{lineSet}
 use Rattle.slots.proofs.ConflictSets.{conflictIn-same}
 use Rattle.slots.proofs.AncestrySets.{inAncestry-same}
 use Rattle.slots.proofs.LineSets.{line-bit}
@@ -20,8 +21,8 @@ use Rattle.position.specs.declared.Position.{Position}
 use Rattle.position.specs.Position.{inPool, inBlock}
 use Rattle.position.specs.Owed.{waiting, enters}
 use Rattle.position.specs.Effect.{leavesPool, mineSlot, leavesBlock, bumpSlot}
-use Rattle.position.specs.View.{viewBelow}
-use Rattle.steps.specs.Blocks.{minedSlot, bumpedSlot, entersIn}
+use Rattle.position.specs.Forms.View.{viewBelow}
+use Rattle.steps.specs.Forms.Blocks.{minedSlot, bumpedSlot, entersIn}
 
 -- the line meets the set of those with a rival in the set e where it meets a rival of a member of e
 set-meets : (s : List ℕ) (e : ℕ) (member : ℕ → Bool) (t : ℕ) → count s ≤ 32 → t < count s → ((k : ℕ) → k < count s → bit e k ≡ member k)

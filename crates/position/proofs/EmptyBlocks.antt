@@ -16,11 +16,11 @@ use Rattle.slots.specs.Slot.{emptySlot, standing}
 use Rattle.slots.specs.Ancestry.{meetsOther}
 use Rattle.slots.proofs.Ancestors.{other-find}
 use Rattle.steps.specs.declared.View.{View}
-use Rattle.steps.specs.Blocks.{confirmEntry}
+use Rattle.steps.specs.Mined.{confirmEntry}
 use Rattle.position.specs.declared.Position.{Position}
 use Rattle.position.specs.Position.{slot, inPool, inBlock}
 use Rattle.position.specs.Owed.{waiting, owed, anyOwed}
-use Rattle.position.specs.View.{viewBelow}
+use Rattle.position.specs.Forms.View.{viewBelow}
 use Rattle.position.specs.Effect.{withSlots, changeSlots, leavesPool, mineSlot, withMined, afterMine}
 
 module _ (s : List ℕ) (p : Position) (none : (k : ℕ) → k < count s → inBlock p k ≡ false) where

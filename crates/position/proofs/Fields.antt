@@ -2,14 +2,15 @@
 -- Assumes nothing.
 use Prim.Native.Nat.{ℕ, _<_, _≤_}
 use native.Mathlib.Omega.{arith}
-use mathlib.Core.Path.{_≡_, refl, sym, ap, _∙_}
-use mathlib.Core.Bool.{Bool, true, false, not, _&&_, _||_}
+use mathlib.Core.Path.{_≡_}
+use mathlib.Core.Bool.{true, not, _&&_}
 use mathlib.Core.List.{List}
 use lib.Dec.{eqb, ltb}
-use borrow.Author.Tests.{eqb-true, ltb-true, lt-ltb, eq-eqb, not-true}
-use Rattle.laws.specs.Booleans.{split, either, and-parts, or-parts, or-right}
+use borrow.Author.Tests.{eqb-true, ltb-true, not-true}
+use Rattle.laws.specs.Booleans.{either, and-parts, or-parts, or-right}
 use Rattle.sheet.specs.Field.{count, signatures}
 use Rattle.sheet.specs.Setup.{conduct}
+use Rattle.sheet.specs.Checked.{Fit}
 use Rattle.slots.specs.declared.Destination.{Destination}
 use Rattle.slots.specs.declared.Step.{Step}
 use Rattle.slots.specs.declared.Step.the-variants.{Share, Give, SendToPool, HandToMiner}
@@ -17,9 +18,9 @@ use Rattle.slots.specs.Destination.{destinationNumber, isParty}
 use Rattle.steps.specs.Names.{timeout}
 use Rattle.steps.specs.Decode.{noTransaction, sharesTo, isOther, firstShareFields, fieldsRight}
 use Rattle.steps.proofs.RightFields.{give-listed, pool-listed, miner-listed}
-use Rattle.position.specs.FirstShares.{shareable}
+use Rattle.position.proofs.Fits.{named}
+use Rattle.position.specs.Forms.FirstShares.{shareable}
 use Rattle.position.specs.Conduct.{isOpen}
-use Rattle.position.specs.Fit.{Fit}
 
 party-below : (party : ℕ) → isParty party ≡ true → party < 2
 unfolding isParty
@@ -35,7 +36,7 @@ module _ (s u : List ℕ) (party t : ℕ) (to : Destination) (x : Step) where
             (λ y. rw (and-parts (ltb t (count s)) _ y .0))
             (λ y.
             let z = and-parts (eqb t noTransaction) _ y in
-            let n : count s ≡ 15 = fit .named (not-true (eqb (conduct u) 0) (and-parts (not (eqb (conduct u) 0)) _ (z .1) .0)) in
+            let n : count s ≡ 15 = named (fit .setup) (not-true (eqb (conduct u) 0) (and-parts (not (eqb (conduct u) 0)) _ (z .1) .0)) in
             or-right (ltb t (count s)) (eqb t noTransaction && ltb timeout (count s)) (rw (z .0, n))),
       )
 

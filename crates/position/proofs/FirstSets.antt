@@ -14,14 +14,14 @@ use Rattle.laws.specs.Gather.{every}
 use Rattle.laws.specs.Mask.{bit}
 use Rattle.slots.specs.declared.Slot.{Slot}
 use Rattle.slots.specs.Destination.{alice, contract}
-use Rattle.slots.specs.Next.{Next}
+use Rattle.slots.specs.Forms.Next.{Next}
 use Rattle.slots.specs.Signatures.{shareMask}
 use Rattle.slots.specs.Slot.{withShared, withMark}
 use Rattle.steps.specs.Names.{refund1, revoke, refund2, timeout}
 use Rattle.position.specs.declared.Position.{Position}
 use Rattle.position.specs.Position.{slot, keys, marked}
 use Rattle.position.specs.FirstShares.{firstShares, firstSharesMade}
-use Rattle.position.specs.FirstSet.{firstSet}
+use Rattle.position.specs.Forms.FirstShares.{firstSet}
 use Rattle.position.specs.Effect.{withSlots, changeSlot, shareOne, shareEach}
 
 -- the members of m among the k numbers from t on, rising

@@ -1,4 +1,4 @@
--- What checked bytes give the steps.
+-- What a setup that passes for a sheet tells of the sheet.
 -- Assumes nothing.
 use Prim.Native.Nat.{ℕ}
 use native.Mathlib.Omega.{arith}
@@ -7,13 +7,11 @@ use mathlib.Core.Bool.{false}
 use mathlib.Core.List.{List}
 use borrow.Author.Tests.{eqb-false}
 use Rattle.sheet.specs.Field.{count}
-use Rattle.sheet.specs.Check.{sheetRefusal}
 use Rattle.sheet.specs.Saswap.{saswap}
-use Rattle.sheet.specs.Setup.{perDay, conduct, setupRefusal}
+use Rattle.sheet.specs.Setup.{perDay, conduct}
+use Rattle.sheet.specs.Checked.{SetupChecked}
 use Rattle.sheet.proofs.Opened.{opened}
-use Rattle.sheet.proofs.Theorems.{sheet-checked, setup-checked}
 use Rattle.position.specs.Conduct.{isOpen}
-use Rattle.position.specs.Fit.{Fit}
 
 saswap-count : (d : ℕ) → count (saswap d) ≡ 15
 unfolding opened
@@ -23,10 +21,6 @@ not-open : (u : List ℕ) → isOpen u ≡ false → conduct u ≡ 0 → ⊥
 unfolding isOpen
 not-open u h = eqb-false (conduct u) 0 h
 
--- a checked sheet and a checked setup for it are fit for the steps
-pub fit : (s u : List ℕ) → sheetRefusal s ≡ 0 → setupRefusal s u ≡ 0 → Fit s u
-fit s u h k =
-    record {
-      checked = sheet-checked s h;
-      named = λ o. let z = not-open u o in ap count (setup-checked s u k .sheet-fits (omega (arith, z))) ∙ saswap-count (perDay u);
-    }
+-- "Conduct 1 and 2 take only the SASwap sheet"
+pub named : {s u : List ℕ} → SetupChecked s u → isOpen u ≡ false → count s ≡ 15
+named {s} {u} setup o = let z = not-open u o in ap count (setup .sheet-fits (omega (arith, z))) ∙ saswap-count (perDay u)

@@ -13,15 +13,15 @@ use Rattle.laws.specs.Sets.{setBelow, set-bit, set-some}
 use Rattle.sheet.specs.Field.{count, parent}
 use Rattle.sheet.specs.Setup.{perDay}
 use Rattle.sheet.specs.Checked.{Checked}
-use Rattle.slots.specs.Next.{Next}
+use Rattle.slots.specs.Forms.Next.{Next}
 use Rattle.steps.specs.declared.View.{View}
-use Rattle.steps.specs.View.{placedSet}
-use Rattle.steps.specs.Mining.{owedIn, includeTestsIn, mineTestsIn}
+use Rattle.steps.specs.Forms.View.{placedSet}
+use Rattle.steps.specs.Forms.Mining.{owedIn, includeTestsIn, mineTestsIn}
 use Rattle.position.specs.declared.Position.{Position}
 use Rattle.position.specs.Position.{inPool, inBlock, blockOf, isConfirmed, placed}
 use Rattle.position.specs.Owed.{waiting, owed, anyOwed}
 use Rattle.position.specs.Tests.{includeTests, blockMet, mineTests}
-use Rattle.position.specs.View.{viewBelow, sinceIn}
+use Rattle.position.specs.Forms.View.{viewBelow, sinceIn}
 use Rattle.position.proofs.SendTests.{noConflict-set, hasParent-set, placed-bit, deadline-parent, since-parent}
 use lib.ListN.{length}
 

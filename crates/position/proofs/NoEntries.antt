@@ -15,13 +15,14 @@ use Rattle.sheet.specs.Field.{count}
 use Rattle.slots.specs.declared.Slot.{Slot}
 use Rattle.slots.specs.Slot.{standing}
 use Rattle.slots.specs.Ancestry.{inAncestry}
-use Rattle.slots.specs.Line.{lineSet}
+use Rattle.slots.specs.Forms.Line.{lineSet}
 use Rattle.steps.specs.declared.View.{View}
-use Rattle.steps.specs.Blocks.{confirmEntry, minedSlot, bumpedSlot, changedSlot, entersIn, Outside}
+use Rattle.steps.specs.Mined.{confirmEntry}
+use Rattle.steps.specs.Forms.Blocks.{minedSlot, bumpedSlot, changedSlot, entersIn, Outside}
 use Rattle.steps.proofs.Unmoved.{pool-out, block-out}
 use Rattle.position.specs.declared.Position.{Position}
 use Rattle.position.specs.Position.{slot, inPool, inBlock}
-use Rattle.position.specs.View.{viewBelow}
+use Rattle.position.specs.Forms.View.{viewBelow}
 
 no-entry : (n : ℕ) → standing n ≡ false → n ≡ 0
 unfolding standing

@@ -27,7 +27,7 @@ use Rattle.position.specs.Tests.{shareMet, shareTests, giveMet, giveTest
 use Rattle.steps.specs.Conduct.{maySend}
 use Rattle.position.specs.Conduct.{isOpen, isCareful, phase, late, aliceShares, mayShare, aliceGives, bobGives, mayGive, successUnshared, secretSafe, safeToSend, sendAllowed, payingPasses, canPay, payingFirst, conductAllows}
 use Rattle.position.specs.StepRefusal.{tests, stepRefusal}
-use Rattle.steps.specs.Blocks.{confirmEntry}
+use Rattle.steps.specs.Mined.{confirmEntry}
 use Rattle.position.specs.Effect.{withSlots, changeSlot, changeSlots, withKey, shareOne, shareEach, afterShare, afterGive, afterSend, afterHandIn, afterInclude, leavesPool, mineSlot, withMined, afterMine, leavesBlock, bumpSlot, afterBump, effect}
 use Rattle.position.specs.Play.{journalSteps, journalBytes, decodeBytes, takeStep, takeDecoded, step, runFrom, journalRight, callTests, run, play, acceptedOf, blockEntries, confirms, confirmedEntries}
 use Rattle.position.specs.Open.{actors, ifAccepted, openAt, openOf, actorSteps, openSteps, listBytes}

@@ -19,22 +19,23 @@ use Rattle.slots.specs.Destination.{bob, contract, isPayee, isContract}
 use Rattle.steps.specs.declared.View.{View}
 use Rattle.steps.specs.declared.Outlook.{Outlook}
 use Rattle.steps.specs.Names.{secretBob, success, refund1}
-use Rattle.steps.specs.Parent.{slotAbove, blockAbove}
-use Rattle.steps.specs.View.{senderIn}
-use Rattle.steps.specs.Conduct.{aliceSharesIn, shareAllowedIn, aliceGivesIn, bobGivesIn, giveAllowedIn, secretSafeIn, safeToSendIn, sendAllowedIn, sendHeldIn}
-use Rattle.steps.specs.Sending.{paysIn}
+use Rattle.steps.specs.Forms.Parent.{slotAbove, blockAbove}
+use Rattle.steps.specs.Forms.View.{senderIn}
+use Rattle.steps.specs.Forms.Conduct.{aliceSharesIn, shareAllowedIn, aliceGivesIn, bobGivesIn, giveAllowedIn, secretSafeIn, safeToSendIn, sendAllowedIn, sendHeldIn}
+use Rattle.steps.specs.Forms.Sending.{paysIn}
 use Rattle.position.specs.declared.Position.{Position}
 use Rattle.position.specs.Position.{slot, inPool, blockOf, isConfirmed, sent, shared, keys, holds}
-use Rattle.position.specs.View.{viewBelow, sinceIn}
-use Rattle.position.specs.Outlook.{openOutlook, outlook}
+use Rattle.position.specs.Forms.View.{viewBelow, sinceIn}
+use Rattle.position.specs.Forms.Outlook.{openOutlook, outlook}
 use Rattle.position.specs.Conduct.{isOpen, isCareful, phase, late, successUnshared, aliceShares, mayShare, aliceGives, bobGives, mayGive, secretSafe, safeToSend, sendAllowed, payingPasses, canPay, payingFirst}
-use Rattle.position.specs.Fit.{Fit}
+use Rattle.sheet.specs.Checked.{Fit}
+use Rattle.position.proofs.Fits.{named}
 use Rattle.position.proofs.SendTests.{sender-view, since-parent, pool-tests, miner-tests}
 
 -- where conduct is followed, the sheet has success
 pub success-there : {s u : List ℕ} → Fit s u → (way : ℕ) → way ≡ conduct u → (way ≡ 0 → ⊥) → success < count s
 unfolding isOpen
-success-there {s} {u} fit way e f = let n = fit .named (ne-eqb (conduct u) 0 (λ z. f (e ∙ z))) in omega (arith, n)
+success-there {s} {u} fit way e f = let n = named (fit .setup) (ne-eqb (conduct u) 0 (λ z. f (e ∙ z))) in omega (arith, n)
 
 module _ (s u : List ℕ) (p : Position) where
   pub careful-outlook : outlook s u p .careful ≡ isCareful u

@@ -28,12 +28,12 @@ use Rattle.slots.proofs.ConflictSets.{conflictIn-same}
 use Rattle.slots.proofs.Parents.{parent-below}
 use Rattle.slots.proofs.Since.{lockHeight-since, deadline-since}
 use Rattle.steps.specs.declared.View.{View}
-use Rattle.steps.specs.Parent.{slotAbove, blockAbove}
-use Rattle.steps.specs.View.{sentSet, placedSet, keysIn, senderIn}
-use Rattle.steps.specs.Sending.{sendTestsIn, poolTestsIn, minerTestsIn}
+use Rattle.steps.specs.Forms.Parent.{slotAbove, blockAbove}
+use Rattle.steps.specs.Forms.View.{sentSet, placedSet, keysIn, senderIn}
+use Rattle.steps.specs.Forms.Sending.{sendTestsIn, poolTestsIn, minerTestsIn}
 use Rattle.position.specs.declared.Position.{Position}
 use Rattle.position.specs.Position.{slot, inPool, inBlock, blockOf, isConfirmed, sent, placed, keys, shared, senderHas, lockHeightIn, deadlineIn}
-use Rattle.position.specs.View.{viewBelow, sinceIn}
+use Rattle.position.specs.Forms.View.{viewBelow, sinceIn}
 use Rattle.position.specs.Tests.{sendTests, poolTests, minerTests}
 
 -- a set m against a test that tells the same members below the count

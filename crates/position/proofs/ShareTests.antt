@@ -6,13 +6,13 @@ use mathlib.Core.Bool.{Bool, _||_}
 use mathlib.Core.List.{List}
 use Rattle.laws.specs.Failing.{firstFailing}
 use Rattle.steps.specs.declared.Outlook.{Outlook}
-use Rattle.steps.specs.Conduct.{shareAllowedIn, giveAllowedIn, conductTests}
-use Rattle.steps.specs.Sharing.{giveMetIn}
+use Rattle.steps.specs.Forms.Conduct.{shareAllowedIn, giveAllowedIn, conductTests}
+use Rattle.steps.specs.Forms.Sharing.{giveMetIn}
 use Rattle.position.specs.declared.Position.{Position}
 use Rattle.position.specs.Position.{keys, holds}
 use Rattle.position.specs.Tests.{shareMet, shareTests, giveMet, giveTests}
 use Rattle.position.specs.Conduct.{isOpen, mayShare, mayGive}
-use Rattle.position.specs.Outlook.{outlook}
+use Rattle.position.specs.Forms.Outlook.{outlook}
 use Rattle.position.proofs.Outlooks.{share-outlook, give-outlook}
 
 -- what the code answers, where o, allowed and met are what it found

@@ -10,8 +10,8 @@ use Rattle.slots.specs.declared.Slot.{Slot}
 use Rattle.position.specs.declared.Position.{Position}
 use Rattle.steps.specs.declared.View.{View}
 use Rattle.position.specs.Position.{slot, inPool, inBlock, blockOf, isConfirmed}
-use Rattle.steps.specs.View.{viewWith}
-use Rattle.position.specs.View.{viewBelow}
+use Rattle.steps.specs.Forms.View.{viewWith}
+use Rattle.position.specs.Forms.View.{viewBelow}
 
 pub view-start : (p : Position) → record { pool = 0; block = 0; confirmed = 0; mined = p .mined; shared = 0; alice = p .alice; bob = p .bob } ≡ viewBelow 0 p
 unfolding viewBelow setBelow unionBelow

@@ -19,7 +19,7 @@ use Rattle.slots.specs.Signatures.{shareMask, exposedMask}
 use Rattle.position.specs.declared.Position.{Position}
 use Rattle.position.specs.Position.{slot, inBlock, keys}
 use Rattle.steps.specs.Decode.{noTransaction}
-use Rattle.steps.specs.Blocks.{confirmEntry}
+use Rattle.steps.specs.Mined.{confirmEntry}
 use Rattle.position.specs.FirstShares.{firstShares}
 use Rattle.position.specs.Owed.{enters}
 

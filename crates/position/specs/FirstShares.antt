@@ -1,14 +1,12 @@
 -- The first shares of loose and careful conduct.
 -- Assumes nothing.
 use Prim.Native.Nat.{ℕ}
-use mathlib.Core.Bool.{Bool, _&&_, _||_}
+use mathlib.Core.Bool.{Bool}
 use mathlib.Core.List.{List, [], _∷_}
-use lib.Dec.{eqb, ltb}
+use lib.Dec.{eqb}
 use Rattle.laws.specs.Booleans.{pick}
 use Rattle.laws.specs.Gather.{every}
-use Rattle.sheet.specs.Field.{count}
 use Rattle.slots.specs.Destination.{alice, contract}
-use Rattle.steps.specs.Decode.{noTransaction}
 use Rattle.position.specs.declared.Position.{Position}
 use Rattle.position.specs.Position.{marked}
 use Rattle.steps.specs.Names.{refund1, revoke, refund2, timeout}
@@ -20,7 +18,3 @@ firstShares party = pick (eqb party alice) (revoke ∷ timeout ∷ []) (refund1 
 -- a party's first shares are made: its marks are on all of them, "destination 2"
 unfoldable pub firstSharesMade : Position → ℕ → Bool
 firstSharesMade p party = every (λ t. marked p party t contract) (firstShares party)
-
--- a transaction of the sheet, or 255 on a sheet that has the first shares' transactions
-unfoldable pub shareable : List ℕ → ℕ → Bool
-shareable s t = ltb t (count s) || (eqb t noTransaction && ltb timeout (count s))

@@ -9,19 +9,18 @@ use steps::Outlook;
 use steps::View;
 use steps::parent;
 use steps::sending;
-ghost use Prim.Native.Nat.{_<_, _≤_};
+ghost use Prim.Native.Nat.{_<_};
 ghost use mathlib.Core.Path.{_≡_};
 ghost use mathlib.Core.Bool.{not, _&&_, _||_};
 ghost use lib.Dec.{ltb};
-ghost use lib.ListN.{length};
-ghost use Rattle.sheet.specs.Field.{count, signatures, Sized};
+ghost use Rattle.sheet.specs.Field.{count};
+ghost use Rattle.sheet.specs.Checked.{Fit};
 ghost use Rattle.slots.specs.Slot.{standing};
 ghost use Rattle.position.specs.FirstShares.{firstSharesMade};
-ghost use Rattle.position.specs.FirstSet.{firstSet};
+ghost use Rattle.position.specs.Forms.FirstShares.{firstSet};
 ghost use Rattle.position.specs.Conduct.{phase, late, canPay, payingFirst, sendAllowed};
-ghost use Rattle.position.specs.Outlook.{outlook};
-ghost use Rattle.position.specs.View.{viewBelow};
-ghost use Rattle.position.specs.Fit.{Fit};
+ghost use Rattle.position.specs.Forms.Outlook.{outlook};
+ghost use Rattle.position.specs.Forms.View.{viewBelow};
 
 // Whether a transaction is in the pool or confirmed.
 fn is_sent(x: Slot) -> bool
@@ -81,8 +80,7 @@ impl Position {
 
     // Whether the deadline of success is reached.
     pub fn late(self, sheet: &[u8], setup: &[u8]) -> bool
-        requires { ⌜ Sized (now sheet) ⌝ }
-        requires { ⌜ length (now setup) ≡ 4 ⌝ }
+        requires { ⌜ Fit (now sheet) (now setup) ⌝ }
         requires { ⌜ 2 < count (now sheet) ⌝ }
         ensures { λ r. ⌜ r ≡ late (now (sheet .entry)) (now (setup .entry)) self ⌝ }
     {
@@ -91,8 +89,6 @@ impl Position {
 
     // What conduct reads off the position.
     pub fn outlook(self, sheet: &[u8], setup: &[u8], view: View) -> Outlook
-        requires { ⌜ Sized (now sheet) ⌝ }
-        requires { ⌜ length (now setup) ≡ 4 ⌝ }
         requires { ⌜ Fit (now sheet) (now setup) ⌝ }
         requires { ⌜ view ≡ viewBelow (count (now sheet)) self ⌝ }
         ensures { λ r. ⌜ r ≡ outlook (now (sheet .entry)) (now (setup .entry)) self ⌝ }
@@ -126,9 +122,6 @@ impl Position {
 
     // Whether a party can send a transaction that pays it.
     pub fn can_pay(self, sheet: &[u8], setup: &[u8], view: View, o: Outlook, party: u8) -> bool
-        requires { ⌜ Sized (now sheet) ⌝ }
-        requires { ⌜ signatures (now sheet) ≤ 8 ⌝ }
-        requires { ⌜ length (now setup) ≡ 4 ⌝ }
         requires { ⌜ Fit (now sheet) (now setup) ⌝ }
         requires { ⌜ view ≡ viewBelow (count (now sheet)) self ⌝ }
         requires { ⌜ o ≡ outlook (now sheet) (now setup) self ⌝ }
@@ -161,9 +154,6 @@ impl Position {
         party: u8,
         t: usize,
     ) -> bool
-        requires { ⌜ Sized (now sheet) ⌝ }
-        requires { ⌜ signatures (now sheet) ≤ 8 ⌝ }
-        requires { ⌜ length (now setup) ≡ 4 ⌝ }
         requires { ⌜ Fit (now sheet) (now setup) ⌝ }
         requires { ⌜ view ≡ viewBelow (count (now sheet)) self ⌝ }
         requires { ⌜ o ≡ outlook (now sheet) (now setup) self ⌝ }
@@ -182,9 +172,6 @@ impl Position {
 
     // Whether conduct allows a party to send t.
     pub fn may_send(self, sheet: &[u8], setup: &[u8], view: View, party: u8, t: usize) -> bool
-        requires { ⌜ Sized (now sheet) ⌝ }
-        requires { ⌜ signatures (now sheet) ≤ 8 ⌝ }
-        requires { ⌜ length (now setup) ≡ 4 ⌝ }
         requires { ⌜ Fit (now sheet) (now setup) ⌝ }
         requires { ⌜ view ≡ viewBelow (count (now sheet)) self ⌝ }
         requires { ⌜ party < 2 ⌝ }

@@ -12,7 +12,8 @@ ghost use Rattle.sheet.specs.Field.{count, Sized};
 ghost use Rattle.slots.specs.Slot.{withShared, withMark};
 ghost use Rattle.slots.specs.Signatures.{shareMask};
 ghost use Rattle.position.specs.Position.{keys};
-ghost use Rattle.position.specs.FirstShares.{firstShares, shareable};
+ghost use Rattle.position.specs.FirstShares.{firstShares};
+ghost use Rattle.position.specs.Forms.FirstShares.{shareable};
 ghost use Rattle.position.specs.Effect.{shareOne, shareEach, afterShare, withKey, afterSend, afterHandIn, afterInclude};
 
 // No signature.

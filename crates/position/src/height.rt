@@ -4,9 +4,9 @@ use slots::deadline;
 use slots::lock_height;
 ghost use Prim.Native.Nat.{_<_};
 ghost use mathlib.Core.Path.{_≡_};
-ghost use lib.ListN.{length};
-ghost use Rattle.sheet.specs.Field.{count, Sized};
-ghost use Rattle.slots.specs.Height.{Height};
+ghost use Rattle.sheet.specs.Field.{count};
+ghost use Rattle.sheet.specs.Checked.{Fit};
+ghost use Rattle.slots.specs.Forms.Height.{Height};
 ghost use Rattle.position.specs.Position.{blockOf, lockHeightIn, deadlineIn};
 
 impl Position {
@@ -22,8 +22,7 @@ impl Position {
 
     // The lock height of a transaction.
     pub fn lock_height_in(self, sheet: &[u8], setup: &[u8], t: usize) -> u32
-        requires { ⌜ Sized (now sheet) ⌝ }
-        requires { ⌜ length (now setup) ≡ 4 ⌝ }
+        requires { ⌜ Fit (now sheet) (now setup) ⌝ }
         requires { ⌜ t < count (now sheet) ⌝ }
         ensures { λ r. ⌜ Height (lockHeightIn (now (sheet .entry)) (now (setup .entry)) self t) r ⌝ }
     {
@@ -33,8 +32,7 @@ impl Position {
 
     // The deadline of a transaction.
     pub fn deadline_in(self, sheet: &[u8], setup: &[u8], t: usize) -> u32
-        requires { ⌜ Sized (now sheet) ⌝ }
-        requires { ⌜ length (now setup) ≡ 4 ⌝ }
+        requires { ⌜ Fit (now sheet) (now setup) ⌝ }
         requires { ⌜ t < count (now sheet) ⌝ }
         ensures { λ r. ⌜ Height (deadlineIn (now (sheet .entry)) (now (setup .entry)) self t) r ⌝ }
     {

@@ -6,8 +6,8 @@ ghost use Prim.Native.Nat.{_+_, _≤_};
 ghost use mathlib.Core.Path.{_≡_};
 ghost use lib.ListN.{length};
 ghost use Rattle.sheet.specs.Field.{byte};
-ghost use Rattle.position.specs.Fit.{Fit};
-ghost use Rattle.position.specs.Journal.{stepAt};
+ghost use Rattle.sheet.specs.Checked.{Fit};
+ghost use Rattle.position.specs.Forms.Journal.{stepAt};
 ghost use Rattle.position.specs.Play.{step};
 ghost use Rattle.position.specs.Position.{start};
 
@@ -46,7 +46,6 @@ pub fn start(sheet: &[u8]) -> Position
 
 // The step that starts at byte i of any bytes: the refusal, and the position after it, whole, accepted or not.
 pub fn step_at(position: Position, sheet: &[u8], setup: &[u8], journal: &[u8], i: usize) -> Stepped
-    requires { ⌜ length (now setup) ≡ 4 ⌝ }
     requires { ⌜ Fit (now sheet) (now setup) ⌝ }
     requires { ⌜ i + 4 ≤ length (now journal) ⌝ }
     ensures { λ r. ⌜ r ≡ step (now (sheet .entry)) (now (setup .entry)) position (stepAt (now (journal .entry)) i) ⌝ }

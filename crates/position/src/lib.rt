@@ -2,7 +2,7 @@
 ghost use Prim.Native.Nat.{_<_};
 ghost use mathlib.Core.Path.{_≡_};
 ghost use Rattle.sheet.specs.Field.{count, Sized};
-ghost use Rattle.position.specs.View.{viewBelow};
+ghost use Rattle.position.specs.Forms.View.{viewBelow};
 
 mod bumped;
 mod conduct;

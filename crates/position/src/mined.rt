@@ -7,7 +7,7 @@ use steps::blocks;
 ghost use Prim.Native.Nat.{_+_, _<_};
 ghost use mathlib.Core.Path.{_≡_};
 ghost use Rattle.sheet.specs.Field.{count, Sized};
-ghost use Rattle.position.specs.View.{viewBelow};
+ghost use Rattle.position.specs.Forms.View.{viewBelow};
 ghost use Rattle.position.specs.Effect.{withMined, afterMine};
 
 impl Position {

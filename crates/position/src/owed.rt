@@ -6,16 +6,15 @@ use steps::owed;
 use steps::parent;
 ghost use Prim.Native.Nat.{_<_};
 ghost use mathlib.Core.Path.{_≡_};
-ghost use lib.ListN.{length};
-ghost use Rattle.sheet.specs.Field.{count, Sized};
+ghost use Rattle.sheet.specs.Field.{count};
+ghost use Rattle.sheet.specs.Checked.{Fit};
 ghost use Rattle.position.specs.Owed.{anyOwed, owed};
-ghost use Rattle.position.specs.View.{viewBelow};
+ghost use Rattle.position.specs.Forms.View.{viewBelow};
 
 impl Position {
     // Whether a bump of t is owed.
     pub fn owed(self, sheet: &[u8], setup: &[u8], view: View, t: usize) -> bool
-        requires { ⌜ Sized (now sheet) ⌝ }
-        requires { ⌜ length (now setup) ≡ 4 ⌝ }
+        requires { ⌜ Fit (now sheet) (now setup) ⌝ }
         requires { ⌜ view ≡ viewBelow (count (now sheet)) self ⌝ }
         requires { ⌜ t < count (now sheet) ⌝ }
         ensures { λ r. ⌜ r ≡ owed (now (sheet .entry)) (now (setup .entry)) self t ⌝ }
@@ -26,8 +25,7 @@ impl Position {
 
     // Whether any is, each of the pool looked at.
     fn any_owed_among(self, sheet: &[u8], setup: &[u8], view: View) -> bool
-        requires { ⌜ Sized (now sheet) ⌝ }
-        requires { ⌜ length (now setup) ≡ 4 ⌝ }
+        requires { ⌜ Fit (now sheet) (now setup) ⌝ }
         requires { ⌜ view ≡ viewBelow (count (now sheet)) self ⌝ }
         ensures { λ r. ⌜ r ≡ anyOwed (now (sheet .entry)) (now (setup .entry)) self ⌝ }
     {
@@ -48,8 +46,7 @@ impl Position {
 
     // Whether any is. None is where the whole pool is in the block.
     pub fn any_owed(self, sheet: &[u8], setup: &[u8], view: View) -> bool
-        requires { ⌜ Sized (now sheet) ⌝ }
-        requires { ⌜ length (now setup) ≡ 4 ⌝ }
+        requires { ⌜ Fit (now sheet) (now setup) ⌝ }
         requires { ⌜ view ≡ viewBelow (count (now sheet)) self ⌝ }
         ensures { λ r. ⌜ r ≡ anyOwed (now (sheet .entry)) (now (setup .entry)) self ⌝ }
     {

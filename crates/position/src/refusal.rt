@@ -5,17 +5,16 @@ use steps::conduct;
 use steps::mining;
 use steps::sending;
 use steps::sharing;
-ghost use Prim.Native.Nat.{_<_, _≤_};
+ghost use Prim.Native.Nat.{_<_};
 ghost use mathlib.Core.Path.{_≡_};
 ghost use mathlib.Core.Bool.{_&&_, _||_, true};
-ghost use lib.ListN.{length};
 ghost use Rattle.laws.specs.Failing.{firstFailing};
-ghost use Rattle.sheet.specs.Field.{count, signatures, Sized};
+ghost use Rattle.sheet.specs.Field.{count, Sized};
+ghost use Rattle.sheet.specs.Checked.{Fit};
 ghost use Rattle.position.specs.Tests.{shareMet, shareTests, giveTests, poolTests, minerTests, includeTests, mineTests, bumpTests};
-ghost use Rattle.position.specs.FirstShares.{shareable};
+ghost use Rattle.position.specs.Forms.FirstShares.{shareable};
 ghost use Rattle.position.specs.Conduct.{isOpen, mayShare, mayGive, sendAllowed, payingFirst};
-ghost use Rattle.position.specs.View.{viewBelow};
-ghost use Rattle.position.specs.Fit.{Fit};
+ghost use Rattle.position.specs.Forms.View.{viewBelow};
 
 impl Position {
     // Whether a share is new and not empty; of the first shares (255), whether they are new.
@@ -43,8 +42,6 @@ impl Position {
         t: u8,
         destination: u8,
     ) -> u32
-        requires { ⌜ Sized (now sheet) ⌝ }
-        requires { ⌜ length (now setup) ≡ 4 ⌝ }
         requires { ⌜ Fit (now sheet) (now setup) ⌝ }
         requires { ⌜ view ≡ viewBelow (count (now sheet)) self ⌝ }
         requires { ⌜ shareable (now sheet) t ≡ true ⌝ }
@@ -67,8 +64,6 @@ impl Position {
         i: u8,
         receiver: u8,
     ) -> u32
-        requires { ⌜ Sized (now sheet) ⌝ }
-        requires { ⌜ length (now setup) ≡ 4 ⌝ }
         requires { ⌜ Fit (now sheet) (now setup) ⌝ }
         requires { ⌜ view ≡ viewBelow (count (now sheet)) self ⌝ }
         requires { ⌜ i < 8 ⌝ }
@@ -90,9 +85,6 @@ impl Position {
         t: usize,
         destination: u8,
     ) -> u32
-        requires { ⌜ Sized (now sheet) ⌝ }
-        requires { ⌜ signatures (now sheet) ≤ 8 ⌝ }
-        requires { ⌜ length (now setup) ≡ 4 ⌝ }
         requires { ⌜ Fit (now sheet) (now setup) ⌝ }
         requires { ⌜ view ≡ viewBelow (count (now sheet)) self ⌝ }
         requires { ⌜ party < 2 ⌝ }
@@ -115,9 +107,6 @@ impl Position {
         t: usize,
         destination: u8,
     ) -> u32
-        requires { ⌜ Sized (now sheet) ⌝ }
-        requires { ⌜ signatures (now sheet) ≤ 8 ⌝ }
-        requires { ⌜ length (now setup) ≡ 4 ⌝ }
         requires { ⌜ Fit (now sheet) (now setup) ⌝ }
         requires { ⌜ view ≡ viewBelow (count (now sheet)) self ⌝ }
         requires { ⌜ party < 2 ⌝ }
@@ -132,8 +121,6 @@ impl Position {
 
     // Kind 5.
     pub fn include_refusal(self, sheet: &[u8], setup: &[u8], view: View, t: usize) -> u32
-        requires { ⌜ Sized (now sheet) ⌝ }
-        requires { ⌜ length (now setup) ≡ 4 ⌝ }
         requires { ⌜ Fit (now sheet) (now setup) ⌝ }
         requires { ⌜ view ≡ viewBelow (count (now sheet)) self ⌝ }
         requires { ⌜ t < count (now sheet) ⌝ }
@@ -145,8 +132,6 @@ impl Position {
 
     // Kind 6.
     pub fn mine_refusal(self, sheet: &[u8], setup: &[u8], view: View) -> u32
-        requires { ⌜ Sized (now sheet) ⌝ }
-        requires { ⌜ length (now setup) ≡ 4 ⌝ }
         requires { ⌜ Fit (now sheet) (now setup) ⌝ }
         requires { ⌜ view ≡ viewBelow (count (now sheet)) self ⌝ }
         ensures { λ r. ⌜ r ≡ firstFailing (mineTests (now (sheet .entry)) (now (setup .entry)) self) ⌝ }
@@ -157,8 +142,7 @@ impl Position {
 
     // Kind 7.
     pub fn bump_refusal(self, sheet: &[u8], setup: &[u8], view: View, t: usize) -> u32
-        requires { ⌜ Sized (now sheet) ⌝ }
-        requires { ⌜ length (now setup) ≡ 4 ⌝ }
+        requires { ⌜ Fit (now sheet) (now setup) ⌝ }
         requires { ⌜ view ≡ viewBelow (count (now sheet)) self ⌝ }
         requires { ⌜ t < count (now sheet) ⌝ }
         ensures { λ r. ⌜ r ≡ firstFailing (bumpTests (now (sheet .entry)) (now (setup .entry)) self t) ⌝ }

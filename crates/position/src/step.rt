@@ -8,18 +8,17 @@ use slots::party;
 use steps::Decoded;
 use steps::View;
 use steps::decode;
-ghost use Prim.Native.Nat.{_<_, _≤_};
+ghost use Prim.Native.Nat.{_<_};
 ghost use mathlib.Core.Path.{_≡_};
 ghost use mathlib.Core.Bool.{true};
-ghost use lib.ListN.{length};
-ghost use Rattle.sheet.specs.Field.{count, signatures, Sized};
+ghost use Rattle.sheet.specs.Field.{count};
+ghost use Rattle.sheet.specs.Checked.{Fit};
 ghost use Rattle.slots.specs.declared.Step.the-variants.{Share, Give, SendToPool, HandToMiner, Include, Mine, Bump};
 ghost use Rattle.slots.specs.Destination.{destinationNumber};
 ghost use Rattle.steps.specs.Decode.{fieldsRight};
-ghost use Rattle.position.specs.FirstShares.{shareable};
+ghost use Rattle.position.specs.Forms.FirstShares.{shareable};
 ghost use Rattle.position.specs.Play.{takeStep, step};
-ghost use Rattle.position.specs.View.{viewBelow};
-ghost use Rattle.position.specs.Fit.{Fit};
+ghost use Rattle.position.specs.Forms.View.{viewBelow};
 
 impl Position {
     // 1 Share.
@@ -32,8 +31,6 @@ impl Position {
         t: u8,
         to: Destination,
     ) -> Stepped
-        requires { ⌜ Sized (now sheet) ⌝ }
-        requires { ⌜ length (now setup) ≡ 4 ⌝ }
         requires { ⌜ Fit (now sheet) (now setup) ⌝ }
         requires { ⌜ view ≡ viewBelow (count (now sheet)) self ⌝ }
         requires { ⌜ party < 2 ⌝ }
@@ -65,8 +62,6 @@ impl Position {
         i: u8,
         to: Destination,
     ) -> Stepped
-        requires { ⌜ Sized (now sheet) ⌝ }
-        requires { ⌜ length (now setup) ≡ 4 ⌝ }
         requires { ⌜ Fit (now sheet) (now setup) ⌝ }
         requires { ⌜ view ≡ viewBelow (count (now sheet)) self ⌝ }
         requires { ⌜ i < 8 ⌝ }
@@ -98,9 +93,6 @@ impl Position {
         t: u8,
         to: Destination,
     ) -> Stepped
-        requires { ⌜ Sized (now sheet) ⌝ }
-        requires { ⌜ signatures (now sheet) ≤ 8 ⌝ }
-        requires { ⌜ length (now setup) ≡ 4 ⌝ }
         requires { ⌜ Fit (now sheet) (now setup) ⌝ }
         requires { ⌜ view ≡ viewBelow (count (now sheet)) self ⌝ }
         requires { ⌜ party < 2 ⌝ }
@@ -133,9 +125,6 @@ impl Position {
         t: u8,
         to: Destination,
     ) -> Stepped
-        requires { ⌜ Sized (now sheet) ⌝ }
-        requires { ⌜ signatures (now sheet) ≤ 8 ⌝ }
-        requires { ⌜ length (now setup) ≡ 4 ⌝ }
         requires { ⌜ Fit (now sheet) (now setup) ⌝ }
         requires { ⌜ view ≡ viewBelow (count (now sheet)) self ⌝ }
         requires { ⌜ party < 2 ⌝ }
@@ -168,8 +157,6 @@ impl Position {
         t: u8,
         to: Destination,
     ) -> Stepped
-        requires { ⌜ Sized (now sheet) ⌝ }
-        requires { ⌜ length (now setup) ≡ 4 ⌝ }
         requires { ⌜ Fit (now sheet) (now setup) ⌝ }
         requires { ⌜ view ≡ viewBelow (count (now sheet)) self ⌝ }
         requires { ⌜ t < count (now sheet) ⌝ }
@@ -200,8 +187,6 @@ impl Position {
         t: u8,
         to: Destination,
     ) -> Stepped
-        requires { ⌜ Sized (now sheet) ⌝ }
-        requires { ⌜ length (now setup) ≡ 4 ⌝ }
         requires { ⌜ Fit (now sheet) (now setup) ⌝ }
         requires { ⌜ view ≡ viewBelow (count (now sheet)) self ⌝ }
         ensures { λ r. ⌜ r ≡ takeStep (now (sheet .entry)) (now (setup .entry)) self (Mine party t to) ⌝ }
@@ -230,8 +215,6 @@ impl Position {
         t: u8,
         to: Destination,
     ) -> Stepped
-        requires { ⌜ Sized (now sheet) ⌝ }
-        requires { ⌜ length (now setup) ≡ 4 ⌝ }
         requires { ⌜ Fit (now sheet) (now setup) ⌝ }
         requires { ⌜ view ≡ viewBelow (count (now sheet)) self ⌝ }
         requires { ⌜ t < count (now sheet) ⌝ }
@@ -254,9 +237,6 @@ impl Position {
 
     // Any step whose fields are right.
     pub fn take(self, sheet: &[u8], setup: &[u8], view: View, x: Step) -> Stepped
-        requires { ⌜ Sized (now sheet) ⌝ }
-        requires { ⌜ signatures (now sheet) ≤ 8 ⌝ }
-        requires { ⌜ length (now setup) ≡ 4 ⌝ }
         requires { ⌜ Fit (now sheet) (now setup) ⌝ }
         requires { ⌜ view ≡ viewBelow (count (now sheet)) self ⌝ }
         requires { ⌜ fieldsRight (now sheet) (now setup) x ≡ true ⌝ }
@@ -283,7 +263,6 @@ impl Position {
         t: u8,
         destination: u8,
     ) -> Stepped
-        requires { ⌜ length (now setup) ≡ 4 ⌝ }
         requires { ⌜ Fit (now sheet) (now setup) ⌝ }
         ensures { λ r. ⌜ r ≡ step (now (sheet .entry)) (now (setup .entry)) self (record { kind = kind; party = party; transaction = t; destination = destination }) ⌝ }
     {

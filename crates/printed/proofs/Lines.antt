@@ -64,13 +64,13 @@ module _ (s u j : List ℕ) where
   module _ (r : Ran) (e : r ≡ run s u j) where
     -- the sheet has a count
     pub counted : r .refusal ≡ 0 → 5 ≤ length s
-    counted z = let h = ran-fit s u j r e z .1 .checked .sized in omega (arith, h .head, h .size)
+    counted z = let h = ran-fit s u j r e z .checked .sized in omega (arith, h .head, h .size)
 
     pub first-accepted : (n : ℕ) → r .refusal ≡ 0 → n ≡ count s
         → ((r .accepted ∷ r .refusal ∷ r .position .mined ∷ []) ≡ getD (printed s u j) 0 []) × ((suc n ≡ length (printed s u j)) × (n ≤ 32))
     first-accepted n z k =
         let y = rw e at z in
-        (rw (z, e, printed-accepted (eq-eqb (run s u j .refusal) 0 y)), (ap suc k ∙ sym (lines-accepted y), omega (arith, k, ran-fit s u j r e z .1 .checked .sized .few)))
+        (rw (z, e, printed-accepted (eq-eqb (run s u j .refusal) 0 y)), (ap suc k ∙ sym (lines-accepted y), omega (arith, k, ran-fit s u j r e z .checked .sized .few)))
 
     pub first-refused : (r .refusal ≡ 0 → ⊥)
         → ((r .accepted ∷ r .refusal ∷ 0 ∷ []) ≡ getD (printed s u j) 0 []) × ((1 ≡ length (printed s u j)) × (0 ≤ 32))

@@ -19,12 +19,12 @@ use Rattle.slots.specs.Destination.{alice, bob, miner, destinations}
 use Rattle.steps.specs.declared.Decoded.{Decoded}
 use Rattle.steps.specs.declared.Decoded.the-variants.{Read, Refused}
 use Rattle.steps.specs.Decode.{noTransaction, decode, stepBytes}
-use Rattle.output.specs.Emitted.{emitted, emittedAt, opensBelow, opensLast, belowBytes, lastBytes, kindBytes, actorBytes}
+use Rattle.output.specs.Forms.Emitted.{emitted, emittedAt, opensBelow, opensLast, belowBytes, lastBytes, kindBytes, actorBytes}
 use Rattle.position.specs.declared.Position.{Position}
 use Rattle.position.specs.Position.{slotCount}
 use Rattle.position.specs.StepRefusal.{stepRefusal}
 use Rattle.position.specs.Open.{actors, kinds, ifAccepted, openAt, openOf, actorSteps, openSteps, listBytes}
-use Rattle.queries.specs.OpenSets.{isOpenRead, isOpenStep, Opens, openSet, places, belowSets, lastSet}
+use Rattle.queries.specs.Forms.OpenSets.{isOpenRead, isOpenStep, Opens, openSet, places, belowSets, lastSet}
 use Rattle.position.proofs.Decoding.{decodes}
 
 -- ---- lists of lists

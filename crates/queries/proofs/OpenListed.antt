@@ -20,11 +20,11 @@ use Rattle.slots.specs.Destination.{miner, contract, destinationNumber, isParty
 use Rattle.steps.specs.declared.Decoded.the-variants.{Read}
 use Rattle.steps.specs.Decode.{noTransaction, sendsTo, sharesTo, isOther, firstShareFields, fieldsRight, ofKind, spelled, rangeChecked, decode}
 use Rattle.readings.specs.declared.Sight.{Sight}
-use Rattle.readings.specs.Sight.{shareNewIn, refusalIn, isOpenIn, partyMay, mayStand, goesTo, refusalAs, givesIn}
+use Rattle.readings.specs.Forms.Sight.{shareNewIn, refusalIn, isOpenIn, partyMay, mayStand, goesTo, refusalAs, givesIn}
 use Rattle.position.specs.declared.Position.{Position}
 use Rattle.position.specs.Position.{slot, blockOf}
-use Rattle.position.specs.Fit.{Fit}
-use Rattle.queries.specs.OpenSets.{isOpenStep, sightOf}
+use Rattle.sheet.specs.Checked.{Fit}
+use Rattle.queries.specs.Forms.OpenSets.{isOpenStep, sightOf}
 use Rattle.queries.proofs.OpenSteps.{open-seen}
 
 -- ---- parties by number

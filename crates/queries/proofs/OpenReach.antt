@@ -22,13 +22,13 @@ use Rattle.steps.specs.declared.Decoded.{Decoded}
 use Rattle.steps.specs.declared.Decoded.the-variants.{Read, Refused}
 use Rattle.readings.specs.declared.Sight.{Sight}
 use Rattle.steps.specs.Decode.{noTransaction, sendsTo, sharesTo, isOther, firstShareFields, fieldsRight, ofKind, decode, stepBytes}
-use Rattle.readings.specs.Sight.{shareNewIn, refusalIn, partyMay, mayStand, limit, givesIn, sharesFirst, minesIn, lastIn}
+use Rattle.readings.specs.Forms.Sight.{shareNewIn, refusalIn, partyMay, mayStand, limit, givesIn, sharesFirst, minesIn, lastIn}
 use Rattle.steps.proofs.RightFields.{share-listed, give-listed, pool-listed, miner-listed, include-listed, bump-listed}
 use Rattle.queries.specs.declared.OpenSets.{OpenSets}
 use Rattle.position.specs.declared.Position.{Position}
 use Rattle.position.specs.Position.{slotCount, slot, blockOf}
-use Rattle.position.specs.Fit.{Fit}
-use Rattle.queries.specs.OpenSets.{isOpenRead, isOpenStep, openSet, places, belowSets, lastSet, openSets, sightOf}
+use Rattle.sheet.specs.Checked.{Fit}
+use Rattle.queries.specs.Forms.OpenSets.{isOpenRead, isOpenStep, openSet, places, belowSets, lastSet, openSets, sightOf}
 use Rattle.position.proofs.Decoding.{decodes}
 use Rattle.queries.proofs.OpenListed.{kind-open, give-open, give-stands}
 

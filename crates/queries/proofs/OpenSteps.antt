@@ -21,23 +21,23 @@ use Rattle.steps.specs.declared.Decoded.the-variants.{Read, Refused}
 use Rattle.steps.specs.declared.View.{View}
 use Rattle.steps.specs.declared.Outlook.{Outlook}
 use Rattle.steps.specs.Decode.{noTransaction, fieldsRight, decode, stepBytes}
-use Rattle.steps.specs.View.{keysIn}
-use Rattle.steps.specs.Conduct.{conductTests, sendHeldIn}
-use Rattle.steps.specs.Sharing.{shareMetIn, giveMetIn}
-use Rattle.steps.specs.Mining.{bumpTestsIn}
-use Rattle.readings.specs.Sight.{shareNewIn, refusalIn, isOpenIn}
+use Rattle.steps.specs.Forms.View.{keysIn}
+use Rattle.steps.specs.Forms.Conduct.{conductTests, sendHeldIn}
+use Rattle.steps.specs.Forms.Sharing.{shareMetIn, giveMetIn}
+use Rattle.steps.specs.Forms.Mining.{bumpTestsIn}
+use Rattle.readings.specs.Forms.Sight.{shareNewIn, refusalIn, isOpenIn}
 use Rattle.steps.proofs.RightFields.{share-listed, pool-listed, miner-listed, include-listed, bump-listed}
 use Rattle.position.specs.declared.Position.{Position}
 use Rattle.position.specs.Position.{slot, blockOf, keys, holds, marked}
-use Rattle.position.specs.View.{viewBelow}
+use Rattle.position.specs.Forms.View.{viewBelow}
 use Rattle.position.specs.Tests.{shareMet, shareTests, giveMet, giveTests, bumpTests}
 use Rattle.position.specs.Conduct.{isCareful, canPay, sendAllowed, payingFirst, conductAllows}
-use Rattle.position.specs.Outlook.{outlook}
+use Rattle.position.specs.Forms.Outlook.{outlook}
 use Rattle.position.specs.FirstShares.{firstSharesMade}
 use Rattle.position.specs.Owed.{anyOwed}
-use Rattle.position.specs.Fit.{Fit}
+use Rattle.sheet.specs.Checked.{Fit}
 use Rattle.position.specs.StepRefusal.{tests, stepRefusal}
-use Rattle.queries.specs.OpenSets.{isOpenRead, isOpenStep, keptBack, sightOf}
+use Rattle.queries.specs.Forms.OpenSets.{isOpenRead, isOpenStep, keptBack, sightOf}
 use Rattle.position.proofs.Decoding.{decodes}
 use Rattle.position.proofs.Outlooks.{careful-outlook, share-outlook, give-outlook, held-outlook}
 use Rattle.position.proofs.SendTests.{pool-tests, miner-tests}

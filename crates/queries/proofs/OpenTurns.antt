@@ -19,26 +19,27 @@ use Rattle.sheet.specs.Refusal.{accepted, stepConflict, stepParent, stepPool}
 use Rattle.sheet.specs.Setup.{perDay, stealth}
 use Rattle.slots.specs.declared.Slot.{Slot}
 use Rattle.slots.specs.Destination.{alice, bob, miner, isParty}
-use Rattle.slots.specs.Next.{Next}
+use Rattle.slots.specs.Forms.Next.{Next}
 use Rattle.steps.specs.declared.Outlook.{Outlook}
 use Rattle.steps.specs.Decode.{noTransaction}
-use Rattle.steps.specs.Parent.{slotAbove, blockAbove}
+use Rattle.steps.specs.Forms.Parent.{slotAbove, blockAbove}
 use Rattle.steps.specs.Names.{success}
-use Rattle.steps.specs.Conduct.{maySend, aliceSharesIn, shareAllowedIn, sendAllowedIn, sendHeldIn, conductTests}
+use Rattle.steps.specs.Conduct.{maySend}
+use Rattle.steps.specs.Forms.Conduct.{aliceSharesIn, shareAllowedIn, sendAllowedIn, sendHeldIn, conductTests}
 use Rattle.slots.specs.Conflict.{noConflict}
 use Rattle.slots.specs.Ancestry.{hasParent}
-use Rattle.steps.specs.View.{placedSet}
-use Rattle.steps.specs.Sending.{sendTestsIn, poolTestsIn, minerTestsIn}
-use Rattle.steps.specs.Mining.{owedIn, includeTestsIn, bumpTestsIn}
+use Rattle.steps.specs.Forms.View.{placedSet}
+use Rattle.steps.specs.Forms.Sending.{sendTestsIn, poolTestsIn, minerTestsIn}
+use Rattle.steps.specs.Forms.Mining.{owedIn, includeTestsIn, bumpTestsIn}
 use Rattle.readings.specs.declared.Goes.{Goes}
 use Rattle.readings.specs.declared.Sight.{Sight}
-use Rattle.readings.specs.Sight.{mayStand, goesTo, refusalAs, goesSet, goesFor, goesOf, full, sharers, senders, turnsIn, candidatesIn}
+use Rattle.readings.specs.Forms.Sight.{mayStand, goesTo, refusalAs, goesSet, goesFor, goesOf, full, sharers, senders, turnsIn, candidatesIn}
 use Rattle.position.specs.declared.Position.{Position}
 use Rattle.position.specs.Position.{slot, blockOf}
-use Rattle.position.specs.View.{sinceIn}
-use Rattle.position.specs.Fit.{Fit}
+use Rattle.position.specs.Forms.View.{sinceIn}
+use Rattle.sheet.specs.Checked.{Fit}
 use Rattle.position.proofs.SendTests.{since-parent}
-use Rattle.queries.specs.OpenSets.{isOpenStep, sightOf}
+use Rattle.queries.specs.Forms.OpenSets.{isOpenStep, sightOf}
 use Rattle.queries.proofs.OpenListed.{listed-open}
 use Rattle.queries.proofs.OpenReach.{set-upto}
 

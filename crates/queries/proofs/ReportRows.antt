@@ -9,19 +9,19 @@ use lib.Dec.{eqb}
 use lib.ListN.{length}
 use Rattle.laws.specs.Mask.{bit}
 use Rattle.laws.specs.Sets.{setBelow, set-bit}
-use Rattle.output.specs.Row.{rowBytes}
+use Rattle.output.specs.Forms.Row.{rowBytes}
 use Rattle.sheet.specs.Field.{count, parent}
 use Rattle.sheet.specs.Setup.{perDay}
 use Rattle.slots.specs.declared.Slot.{Slot}
-use Rattle.slots.specs.Conflict.{foundIn}
+use Rattle.slots.specs.Forms.Conflict.{foundIn}
 use Rattle.slots.specs.Invalidated.{invalidated}
 use Rattle.slots.proofs.Since.{lockHeight-since, deadline-since}
 use Rattle.readings.specs.declared.Row.{Row}
 use Rattle.steps.specs.declared.View.{View}
-use Rattle.readings.specs.Report.{deadIn, statusIn, payeeIn, rowIn}
+use Rattle.readings.specs.Forms.Report.{deadIn, statusIn, payeeIn, rowIn}
 use Rattle.position.specs.declared.Position.{Position}
 use Rattle.position.specs.Position.{slot, inPool, inBlock, blockOf, isConfirmed, confirmedTo, lockHeightIn, deadlineIn}
-use Rattle.position.specs.View.{viewBelow, sinceIn}
+use Rattle.position.specs.Forms.View.{viewBelow, sinceIn}
 use Rattle.position.specs.Report.{status, payee, row}
 use Rattle.position.proofs.BlockSets.{set-meets-other}
 use Rattle.position.proofs.SendTests.{since-parent}

@@ -1,1 +1,1 @@
-pub mod OpenSets
+pub mod Forms

@@ -9,18 +9,17 @@ use slots::next;
 use steps::Outlook;
 use steps::View;
 use steps::parent;
-ghost use Prim.Native.Nat.{_<_, _≤_};
+ghost use Prim.Native.Nat.{_<_};
 ghost use mathlib.Core.Path.{_≡_};
 ghost use mathlib.Core.Bool.{true};
-ghost use lib.ListN.{length};
 ghost use Rattle.laws.specs.Sets.{setBelow};
-ghost use Rattle.sheet.specs.Field.{count, signatures, Sized};
-ghost use Rattle.readings.specs.Sight.{mayStand, goesFor};
+ghost use Rattle.sheet.specs.Field.{count};
+ghost use Rattle.sheet.specs.Checked.{Fit};
+ghost use Rattle.readings.specs.Forms.Sight.{mayStand, goesFor};
 ghost use Rattle.position.specs.Owed.{anyOwed};
-ghost use Rattle.position.specs.Outlook.{outlook};
-ghost use Rattle.position.specs.View.{viewBelow};
-ghost use Rattle.position.specs.Fit.{Fit};
-ghost use Rattle.queries.specs.OpenSets.{isOpenStep, openSet, belowSets, openSets, keptBack, sightOf};
+ghost use Rattle.position.specs.Forms.Outlook.{outlook};
+ghost use Rattle.position.specs.Forms.View.{viewBelow};
+ghost use Rattle.queries.specs.Forms.OpenSets.{isOpenStep, openSet, belowSets, openSets, keptBack, sightOf};
 
 // Whether the actor is a careful party that can send a transaction that pays it.
 fn kept_back(
@@ -31,9 +30,6 @@ fn kept_back(
     o: Outlook,
     actor: u8,
 ) -> bool
-    requires { ⌜ Sized (now sheet) ⌝ }
-    requires { ⌜ signatures (now sheet) ≤ 8 ⌝ }
-    requires { ⌜ length (now setup) ≡ 4 ⌝ }
     requires { ⌜ Fit (now sheet) (now setup) ⌝ }
     requires { ⌜ view ≡ viewBelow (count (now sheet)) position ⌝ }
     requires { ⌜ o ≡ outlook (now sheet) (now setup) position ⌝ }
@@ -58,9 +54,6 @@ fn sight(
     owed: bool,
     actor: u8,
 ) -> Sight
-    requires { ⌜ Sized (now sheet) ⌝ }
-    requires { ⌜ signatures (now sheet) ≤ 8 ⌝ }
-    requires { ⌜ length (now setup) ≡ 4 ⌝ }
     requires { ⌜ Fit (now sheet) (now setup) ⌝ }
     requires { ⌜ view ≡ viewBelow (count (now sheet)) position ⌝ }
     requires { ⌜ o ≡ outlook (now sheet) (now setup) position ⌝ }
@@ -89,9 +82,6 @@ fn sheet_set(
     kind: u8,
     to: u8,
 ) -> u32
-    requires { ⌜ Sized (now sheet) ⌝ }
-    requires { ⌜ signatures (now sheet) ≤ 8 ⌝ }
-    requires { ⌜ length (now setup) ≡ 4 ⌝ }
     requires { ⌜ Fit (now sheet) (now setup) ⌝ }
     requires { ⌜ sight ≡ sightOf (now sheet) (now setup) position actor ⌝ }
     requires { ⌜ goes ≡ goesFor (now sheet) actor ⌝ }
@@ -127,9 +117,6 @@ fn open_set(
     kind: u8,
     destination: u8,
 ) -> u32
-    requires { ⌜ Sized (now sheet) ⌝ }
-    requires { ⌜ signatures (now sheet) ≤ 8 ⌝ }
-    requires { ⌜ length (now setup) ≡ 4 ⌝ }
     requires { ⌜ Fit (now sheet) (now setup) ⌝ }
     requires { ⌜ sight ≡ sightOf (now sheet) (now setup) position actor ⌝ }
     requires { ⌜ goes ≡ goesFor (now sheet) actor ⌝ }
@@ -163,9 +150,6 @@ fn below_sets(
     goes: Goes,
     actor: u8,
 ) -> [u32; 21]
-    requires { ⌜ Sized (now sheet) ⌝ }
-    requires { ⌜ signatures (now sheet) ≤ 8 ⌝ }
-    requires { ⌜ length (now setup) ≡ 4 ⌝ }
     requires { ⌜ Fit (now sheet) (now setup) ⌝ }
     requires { ⌜ sight ≡ sightOf (now sheet) (now setup) position actor ⌝ }
     requires { ⌜ goes ≡ goesFor (now sheet) actor ⌝ }
@@ -201,9 +185,6 @@ pub fn open_sets(
     owed: bool,
     actor: u8,
 ) -> OpenSets
-    requires { ⌜ Sized (now sheet) ⌝ }
-    requires { ⌜ signatures (now sheet) ≤ 8 ⌝ }
-    requires { ⌜ length (now setup) ≡ 4 ⌝ }
     requires { ⌜ Fit (now sheet) (now setup) ⌝ }
     requires { ⌜ view ≡ viewBelow (count (now sheet)) position ⌝ }
     requires { ⌜ o ≡ outlook (now sheet) (now setup) position ⌝ }

@@ -8,13 +8,13 @@ ghost use Prim.Native.Nat.{_*_, _≤_};
 ghost use mathlib.Core.Path.{_≡_};
 ghost use lib.ListN.{length};
 ghost use Rattle.laws.specs.Over.{over};
-ghost use Rattle.sheet.specs.Field.{count, Sized};
+ghost use Rattle.sheet.specs.Field.{count};
+ghost use Rattle.sheet.specs.Checked.{Fit};
 ghost use Rattle.position.specs.Report.{reportBytes};
 
 // The rows of the report, at the front of the buffer.
 pub fn write_report(position: Position, sheet: &[u8], setup: &[u8], out: &mut [u8])
-    requires { ⌜ Sized (now sheet) ⌝ }
-    requires { ⌜ length (now setup) ≡ 4 ⌝ }
+    requires { ⌜ Fit (now sheet) (now setup) ⌝ }
     requires { ⌜ 14 * count (now sheet) ≤ length (now out) ⌝ }
     ensures { λ _. ⌜ now (out .exit) ≡ over (reportBytes (now (sheet .entry)) (now (setup .entry)) position) (now (out .entry)) ⌝ }
 {

@@ -16,7 +16,8 @@ use Rattle.laws.specs.Sets.{setBelow, set-bit}
 use Rattle.laws.specs.Climb.{climb-step}
 use Rattle.sheet.specs.Field.{count, parent, opening}
 use Rattle.ledger.specs.Coin.{nobody}
-use Rattle.readings.specs.Holder.{confirmedChild, endsCoin, payeeBelow, holder, coinFrom, coinEnd}
+use Rattle.readings.specs.Holder.{confirmedChild, endsCoin, payeeBelow, holder}
+use Rattle.readings.specs.Forms.Holder.{coinFrom, coinEnd}
 
 payee-same : (n : ℕ) (f g : ℕ → Bool) (a b : ℕ → ℕ) → ((k : ℕ) → k < n → f k ≡ g k) → ((k : ℕ) → k < n → a k ≡ b k) → payeeBelow n f a ≡ payeeBelow n g b
 unfolding payeeBelow

@@ -17,8 +17,8 @@ use Rattle.slots.specs.Ancestry.{hasParent}
 use Rattle.slots.specs.Conflict.{noConflict}
 use Rattle.slots.specs.Signatures.{signed}
 use Rattle.steps.specs.declared.View.{View}
-use Rattle.steps.specs.Sending.{sendTestsIn, poolTestsIn, minerTestsIn}
-use Rattle.steps.specs.View.{sentSet, placedSet, senderIn}
+use Rattle.steps.specs.Forms.Sending.{sendTestsIn, poolTestsIn, minerTestsIn}
+use Rattle.steps.specs.Forms.View.{sentSet, placedSet, senderIn}
 
 -- the first five tests of a send, where the third or the fifth fails
 lacks : (a b c d e : Bool) (n : ℕ) → (c && e) ≡ false

@@ -6,7 +6,6 @@ use mathlib.Core.List.{List}
 use lib.Dec.{eqb}
 use Rattle.laws.specs.Booleans.{pick}
 use Rattle.laws.specs.Below.{anyBelow}
-use Rattle.laws.specs.Climb.{climb}
 use Rattle.sheet.specs.Field.{count, parent, opening}
 use Rattle.slots.specs.Destination.{isParty}
 use Rattle.ledger.specs.Coin.{coinOf, nobody}
@@ -35,11 +34,3 @@ isPayout s held coin = opening s coin && isParty (held coin)
 -- the coin is a payout to this party
 unfoldable pub isPayoutTo : List ℕ → (ℕ → ℕ) → ℕ → ℕ → Bool
 isPayoutTo s held party coin = isPayout s held coin && eqb (held coin) party
-
--- the coin of t as a recursion up the sheet works it out: the first opening from t up, `first` where there is none
-unfoldable pub coinFrom : List ℕ → ℕ → ℕ → ℕ
-coinFrom s first t = climb (parent s) (λ k above. pick (opening s k) k above) first t
-
--- the number of the transaction whose payee holds the coin, 255 where nobody does
-unfoldable pub coinEnd : List ℕ → (ℕ → Bool) → ℕ → ℕ
-coinEnd s confirmed coin = holder s confirmed (λ t. t) coin

@@ -1,4 +1,3 @@
 pub mod Holder
 pub mod Reported
-pub mod Report
-pub mod Sight
+pub mod Forms

@@ -9,7 +9,8 @@ ghost use Rattle.laws.specs.Booleans.{pick};
 ghost use Rattle.laws.specs.Mask.{bit};
 ghost use Rattle.sheet.specs.Field.{count, parent, Sized};
 ghost use Rattle.ledger.specs.Coin.{coinOf};
-ghost use Rattle.readings.specs.Holder.{confirmedChild, endsCoin, isPayout, isPayoutTo, coinFrom, coinEnd};
+ghost use Rattle.readings.specs.Holder.{confirmedChild, endsCoin, isPayout, isPayoutTo};
+ghost use Rattle.readings.specs.Forms.Holder.{coinFrom, coinEnd};
 
 // The first opening from t up the sheet, `first` where there is none.
 fn coin_from(sheet: &[u8], first: usize, t: usize) -> usize

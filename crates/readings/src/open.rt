@@ -12,7 +12,7 @@ use steps::owed;
 use steps::parent;
 use steps::sending;
 use steps::sharing;
-ghost use Prim.Native.Nat.{_<_, _≤_};
+ghost use Prim.Native.Nat.{_<_};
 ghost use mathlib.Core.Path.{_≡_};
 ghost use mathlib.Core.Bool.{_&&_, _||_};
 ghost use lib.Dec.{eqb};
@@ -23,14 +23,15 @@ ghost use Rattle.laws.specs.Mask.{bit};
 ghost use Rattle.laws.specs.Sets.{setBelow};
 ghost use Rattle.sheet.specs.Field.{count, signatures, Sized};
 ghost use Rattle.sheet.specs.Setup.{perDay, stealth};
+ghost use Rattle.sheet.specs.Checked.{Checked, Fit};
 ghost use Rattle.slots.specs.Ancestry.{hasParent};
 ghost use Rattle.slots.specs.Signatures.{signed};
-ghost use Rattle.steps.specs.View.{keysIn, senderIn};
-ghost use Rattle.steps.specs.Conduct.{shareAllowedIn, sendHeldIn, conductTests};
-ghost use Rattle.steps.specs.Sharing.{shareMetIn};
-ghost use Rattle.steps.specs.Sending.{poolTestsIn, minerTestsIn};
-ghost use Rattle.steps.specs.Mining.{owedIn, bumpTestsIn};
-ghost use Rattle.readings.specs.Sight.{partyMay, mayStand, goesTo, goesSet, goesFor, goesOf, sharers, senders, turnsIn, candidatesIn, refusalAs, givesIn, sharesFirst, minesIn, lastIn};
+ghost use Rattle.steps.specs.Forms.View.{keysIn, senderIn};
+ghost use Rattle.steps.specs.Forms.Conduct.{shareAllowedIn, sendHeldIn, conductTests};
+ghost use Rattle.steps.specs.Forms.Sharing.{shareMetIn};
+ghost use Rattle.steps.specs.Forms.Sending.{poolTestsIn, minerTestsIn};
+ghost use Rattle.steps.specs.Forms.Mining.{owedIn, bumpTestsIn};
+ghost use Rattle.readings.specs.Forms.Sight.{partyMay, mayStand, goesTo, goesSet, goesFor, goesOf, sharers, senders, turnsIn, candidatesIn, refusalAs, givesIn, sharesFirst, minesIn, lastIn};
 
 // Whether a sender can name a destination: the contract or itself.
 fn to_sender(actor: u8, destination: u8) -> bool
@@ -234,8 +235,7 @@ fn ready(
     t: usize,
     destination: u8,
 ) -> bool
-    requires { ⌜ Sized (now sheet) ⌝ }
-    requires { ⌜ signatures (now sheet) ≤ 8 ⌝ }
+    requires { ⌜ Checked (now sheet) ⌝ }
     requires { ⌜ t < count (now sheet) ⌝ }
     ensures { λ r. ⌜ r ≡ (hasParent (now (sheet .entry)) (bit there) t && signed (now (sheet .entry)) (senderIn (now (sheet .entry)) (sight .view) x actor destination) t) ⌝ }
 {
@@ -257,9 +257,7 @@ fn pool_accepted(
     t: usize,
     destination: u8,
 ) -> bool
-    requires { ⌜ Sized (now sheet) ⌝ }
-    requires { ⌜ signatures (now sheet) ≤ 8 ⌝ }
-    requires { ⌜ length (now setup) ≡ 4 ⌝ }
+    requires { ⌜ Fit (now sheet) (now setup) ⌝ }
     requires { ⌜ t < count (now sheet) ⌝ }
     ensures { λ r. ⌜ r ≡ eqb (firstFailing (poolTestsIn (sendHeldIn (now (sheet .entry)) (sight .outlook) (sight .back) actor t) (now (sheet .entry)) (now (setup .entry)) (sight .view) x since actor t destination)) 0 ⌝ }
 {
@@ -292,9 +290,7 @@ fn miner_accepted(
     t: usize,
     destination: u8,
 ) -> bool
-    requires { ⌜ Sized (now sheet) ⌝ }
-    requires { ⌜ signatures (now sheet) ≤ 8 ⌝ }
-    requires { ⌜ length (now setup) ≡ 4 ⌝ }
+    requires { ⌜ Fit (now sheet) (now setup) ⌝ }
     requires { ⌜ t < count (now sheet) ⌝ }
     ensures { λ r. ⌜ r ≡ eqb (firstFailing (minerTestsIn (sendHeldIn (now (sheet .entry)) (sight .outlook) (sight .back) actor t) (now (sheet .entry)) (now (setup .entry)) (sight .view) x since actor t destination)) 0 ⌝ }
 {
@@ -318,8 +314,7 @@ fn miner_accepted(
 
 // Kind 7.
 fn bump_refusal(sheet: &[u8], setup: &[u8], sight: Sight, since: u16, t: usize) -> u32
-    requires { ⌜ Sized (now sheet) ⌝ }
-    requires { ⌜ length (now setup) ≡ 4 ⌝ }
+    requires { ⌜ Fit (now sheet) (now setup) ⌝ }
     requires { ⌜ t < count (now sheet) ⌝ }
     ensures { λ r. ⌜ r ≡ firstFailing (bumpTestsIn (owedIn (now (sheet .entry)) (perDay (now (setup .entry))) (sight .view) since t)) ⌝ }
 {
@@ -339,9 +334,7 @@ pub fn accepted_as(
     t: usize,
     destination: u8,
 ) -> bool
-    requires { ⌜ Sized (now sheet) ⌝ }
-    requires { ⌜ signatures (now sheet) ≤ 8 ⌝ }
-    requires { ⌜ length (now setup) ≡ 4 ⌝ }
+    requires { ⌜ Fit (now sheet) (now setup) ⌝ }
     requires { ⌜ t < count (now sheet) ⌝ }
     requires { ⌜ destination < 3 ⌝ }
     ensures { λ r. ⌜ r ≡ eqb (refusalAs (now (sheet .entry)) (now (setup .entry)) sight x since kind actor t destination) 0 ⌝ }
@@ -368,8 +361,7 @@ fn gives(sight: Sight, actor: u8, i: u8, destination: u8) -> bool
 
 // The signatures that a party can give to the other.
 pub fn give_set(sheet: &[u8], sight: Sight, actor: u8, destination: u8) -> u32
-    requires { ⌜ Sized (now sheet) ⌝ }
-    requires { ⌜ signatures (now sheet) ≤ 8 ⌝ }
+    requires { ⌜ Checked (now sheet) ⌝ }
     ensures { λ r. ⌜ r ≡ setBelow (signatures (now (sheet .entry))) (λ i. givesIn sight actor i destination) ⌝ }
 {
     let n = sheet::field::wide(sheet::field::signatures(sheet));

@@ -11,7 +11,7 @@ ghost use mathlib.Core.Path.{_≡_};
 ghost use Rattle.laws.specs.Booleans.{pick};
 ghost use Rattle.sheet.specs.Field.{count, Sized};
 ghost use Rattle.slots.specs.Slot.{entryTo};
-ghost use Rattle.readings.specs.Report.{deadIn, statusIn, payeeIn, rowIn};
+ghost use Rattle.readings.specs.Forms.Report.{deadIn, statusIn, payeeIn, rowIn};
 
 // A part of the status, where its test holds.
 fn part(on: bool, value: u8) -> u8

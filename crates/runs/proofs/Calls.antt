@@ -12,10 +12,9 @@ use Rattle.laws.specs.Failing.{firstFailing, numbered, passed, passed-append, f
 use Rattle.sheet.specs.Refusal.{journalLength}
 use Rattle.sheet.specs.Check.{arrayTests, sheetTests, sheetRefusal}
 use Rattle.sheet.specs.Setup.{setupTests, setupRefusal}
-use Rattle.position.specs.Fit.{Fit}
+use Rattle.sheet.specs.Checked.{Fit}
 use Rattle.position.specs.Play.{journalRight, callTests}
-use Rattle.position.proofs.Fits.{fit}
-use Rattle.sheet.proofs.Theorems.{setup-checked}
+use Rattle.sheet.proofs.Theorems.{fit}
 
 -- a list whose answer is 0 has a front whose answer is 0
 front-passes : (a b : List (ℕ × Bool)) → firstFailing (a ++ b) ≡ 0 → firstFailing a ≡ 0
@@ -80,6 +79,3 @@ module _ (s u j : List ℕ) where
 
     pub call-fit : Fit s u
     call-fit = fit s u sheet-passes setup-passes
-
-    pub setup-size : length u ≡ 4
-    setup-size = setup-checked s u setup-passes .size

@@ -8,7 +8,7 @@ use lib.ListN.{length, drop, length-drop}
 use lib.Seq.{drop-cons}
 use Rattle.sheet.specs.Field.{byte}
 use Rattle.position.specs.Play.{FourBytes, journalSteps}
-use Rattle.position.specs.Journal.{stepAt}
+use Rattle.position.specs.Forms.Journal.{stepAt}
 
 -- one byte in front, and four
 one-byte : (j : List ℕ) (i k : ℕ) → i < length j → k ≡ suc i → drop i j ≡ byte j i ∷ drop k j

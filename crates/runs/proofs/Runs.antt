@@ -10,15 +10,15 @@ use borrow.Author.Tests.{eq-eqb, ne-eqb, eqb-true, eqb-false}
 use Rattle.laws.specs.Booleans.{split}
 use Rattle.laws.specs.Failing.{firstFailing}
 use Rattle.sheet.specs.Refusal.{accepted}
+use Rattle.sheet.specs.Checked.{Fit}
 use Rattle.position.specs.declared.Position.{Position}
 use Rattle.position.specs.declared.Stepped.{Stepped}
 use Rattle.position.specs.declared.Ran.{Ran}
 use Rattle.position.specs.Position.{start}
-use Rattle.position.specs.Fit.{Fit}
 use Rattle.position.specs.Play.{FourBytes, journalSteps, step, runFrom, callTests, run}
-use Rattle.position.specs.Journal.{stepAt}
+use Rattle.position.specs.Forms.Journal.{stepAt}
 use Rattle.runs.proofs.Groups.{groupsFrom, groups-all, groups-next, groups-none}
-use Rattle.runs.proofs.Calls.{call-fit, setup-size}
+use Rattle.runs.proofs.Calls.{call-fit}
 
 -- a row of steps, by its first
 module _ (s u : List ℕ) where
@@ -89,5 +89,5 @@ module _ (s u j : List ℕ) where
       (λ y. rw (run-refused (eqb-false (firstFailing (callTests s u j)) 0 y)) at z)
 
   -- what these give, where r is what the code found
-  pub ran-fit : (r : Ran) → r ≡ run s u j → r .refusal ≡ 0 → (length u ≡ 4) × Fit s u
-  ran-fit r e z = let h = run-checked (rw e at z) in (setup-size s u j h, call-fit s u j h)
+  pub ran-fit : (r : Ran) → r ≡ run s u j → r .refusal ≡ 0 → Fit s u
+  ran-fit r e z = call-fit s u j (run-checked (rw e at z))

@@ -8,7 +8,7 @@ ghost use Prim.Native.Nat.{_<_, _≤_};
 ghost use mathlib.Core.Path.{_≡_};
 ghost use lib.ListN.{length};
 ghost use Rattle.laws.specs.Failing.{firstFailing};
-ghost use Rattle.position.specs.Fit.{Fit};
+ghost use Rattle.sheet.specs.Checked.{Fit};
 ghost use Rattle.position.specs.Play.{journalSteps, runFrom, journalRight, callTests, run};
 
 // 24: whole steps, and no more bytes than a journal may have.
@@ -54,7 +54,6 @@ fn ran_to(refusal: u32, k: usize, position: Position) -> Ran
 // The steps of a journal up to the first refused one, from a position on: the refusal, the steps accepted, and the position after
 // these.
 pub fn run_from(from: Position, sheet: &[u8], setup: &[u8], journal: &[u8]) -> Ran
-    requires { ⌜ length (now setup) ≡ 4 ⌝ }
     requires { ⌜ Fit (now sheet) (now setup) ⌝ }
     requires { ⌜ length (now journal) ≤ 65536 ⌝ }
     ensures { λ r. ⌜ r ≡ runFrom (now (sheet .entry)) (now (setup .entry)) (journalSteps (now (journal .entry))) 0 from ⌝ }

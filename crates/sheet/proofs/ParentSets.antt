@@ -15,7 +15,7 @@ use Rattle.laws.specs.Mask.{bit}
 use Rattle.laws.specs.Sets.{joined, bit-joined}
 use Rattle.sheet.specs.Field.{count, parent}
 use Rattle.sheet.specs.Check.{hasChild}
-use Rattle.sheet.specs.Parents.{childThere, isParentBelow, Parents, ParentAdded}
+use Rattle.sheet.specs.Forms.Parents.{childThere, isParentBelow, Parents, ParentAdded}
 
 module _ (s : List ℕ) (member : ℕ → Bool) where
   -- no member, or a parent that no set has: nothing is added

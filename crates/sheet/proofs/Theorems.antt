@@ -10,7 +10,7 @@ use Rattle.sheet.specs.Check.{arrayTests, sheetTests, sheetRefusal}
 use Rattle.sheet.specs.Saswap.{offset, offsetByDifference, saswap}
 use Rattle.sheet.specs.Setup.{perDay, conduct, stealth, setupRefusal}
 use Rattle.sheet.specs.LockHeight.{lockHeight}
-use Rattle.sheet.specs.Checked.{Checked, SetupChecked}
+use Rattle.sheet.specs.Checked.{Checked, SetupChecked, Fit}
 use Rattle.sheet.proofs.Opened.{opened}
 use Rattle.sheet.proofs.SaswapLength
 use Rattle.sheet.proofs.Offset
@@ -55,6 +55,10 @@ sheet-checked = passed-sheet
 -- A setup whose check gives 0 has everything that a checked setup is said to have.
 pub setup-checked : (s u : List ℕ) → setupRefusal s u ≡ 0 → SetupChecked s u
 setup-checked = passed-setup
+
+-- The two together.
+pub fit : (s u : List ℕ) → sheetRefusal s ≡ 0 → setupRefusal s u ≡ 0 → Fit s u
+fit s u h k = record { checked = sheet-checked s h; setup = setup-checked s u k }
 
 -- The answer of the sheet check is one of its eight numbers, or 0.
 pub sheet-refusal-below : (s : List ℕ) → sheetRefusal s < 9

@@ -80,11 +80,3 @@ sheetTests s =
 -- the answer of the check of a sheet
 unfoldable pub sheetRefusal : List ℕ → ℕ
 sheetRefusal s = firstFailing (sheetTests s)
-
--- a rule of 5 to 8 by its number, at one transaction
-unfoldable pub arrayRule : List ℕ → ℕ → ℕ → Bool
-arrayRule s rule t =
-    pick (eqb rule sheetParent) (parentRight s t)
-    (pick (eqb rule sheetEntry) (entryRight s t)
-    (pick (eqb rule sheetLock) (lockRight s t)
-    (childrenRight s t)))

@@ -44,3 +44,8 @@ pub record SetupChecked (s u : List ℕ) : Type 0 where
   pub conduct-known : conduct u ≤ 2
   pub stealth-flag : stealth u ≤ 1
   pub sheet-fits : 1 ≤ conduct u → s ≡ saswap (perDay u)
+
+-- a checked sheet with a setup that passes the check for it: what the steps ask for
+pub record Fit (s u : List ℕ) : Type 0 where
+  pub checked : Checked s
+  pub setup : SetupChecked s u

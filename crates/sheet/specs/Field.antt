@@ -77,17 +77,6 @@ pub record Sized (s : List ℕ) : Type 0 where
   pub head : 5 ≤ arrays s
   pub size : length s ≡ arrays s + 6 * count s
 
--- r is the byte v, in a wider type
-pub record Wide (v r : ℕ) : Type 0 where
-  pub is : r ≡ v
-  pub small : r < 256
-
--- r is where the arrays start, behind a head of at least five bytes
-pub record Start (s : List ℕ) (r : ℕ) : Type 0 where
-  pub is : r ≡ arrays s
-  pub head : 5 ≤ r
-  pub small : r < 256
-
 pub arrays-head : (s : List ℕ) → 5 ≤ arrays s
 unfolding arrays
 arrays-head s = lit≤ tt

@@ -1,8 +1,8 @@
 pub mod Refusal
 pub mod Field
-pub mod Parents
 pub mod Check
 pub mod Saswap
 pub mod Setup
 pub mod LockHeight
 pub mod Checked
+pub mod Forms

@@ -10,8 +10,9 @@ ghost use lib.ListN.{length};
 ghost use Rattle.laws.specs.Below.{allBelow};
 ghost use Rattle.laws.specs.Failing.{firstFailing};
 ghost use Rattle.sheet.specs.Field.{count, signatures, Sized};
-ghost use Rattle.sheet.specs.Parents.{Parents};
-ghost use Rattle.sheet.specs.Check.{headRight, countRight, within, masksRight, signaturesRight, lengthRight, parentRight, entryRight, daysRight, lockRight, childrenRight, arrayRule, arrayTests, sheetRefusal};
+ghost use Rattle.sheet.specs.Forms.Parents.{Parents};
+ghost use Rattle.sheet.specs.Check.{headRight, countRight, within, masksRight, signaturesRight, lengthRight, parentRight, entryRight, daysRight, lockRight, childrenRight, arrayTests, sheetRefusal};
+ghost use Rattle.sheet.specs.Forms.Check.{arrayRule};
 
 // Two to the number of bits.
 fn limit(bits: u8) -> usize

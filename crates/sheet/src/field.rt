@@ -2,7 +2,8 @@
 ghost use Prim.Native.Nat.{_<_, _≤_, _+_, _*_};
 ghost use mathlib.Core.Path.{_≡_};
 ghost use lib.ListN.{length};
-ghost use Rattle.sheet.specs.Field.{byte, count, arrays, signatures, secrets, startKeys, entry, lockPair, parent, payees, required, veil, lockType, days, opening, Sized, Wide, Start};
+ghost use Rattle.sheet.specs.Field.{byte, count, arrays, signatures, secrets, startKeys, entry, lockPair, parent, payees, required, veil, lockType, days, opening, Sized};
+ghost use Rattle.sheet.specs.Forms.Field.{Wide, Start};
 
 // A byte as a size.
 pub fn wide(x: u8) -> usize

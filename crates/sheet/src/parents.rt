@@ -5,7 +5,7 @@ ghost use Prim.Native.Nat.{_<_};
 ghost use mathlib.Core.Bool.{true};
 ghost use Rattle.laws.specs.Mask.{bit};
 ghost use Rattle.sheet.specs.Field.{count, Sized};
-ghost use Rattle.sheet.specs.Parents.{Parents, ParentAdded};
+ghost use Rattle.sheet.specs.Forms.Parents.{Parents, ParentAdded};
 
 // All 32 transactions.
 const ALL: u32 = 4294967295;

@@ -4,7 +4,7 @@ use crate::saswap;
 ghost use Prim.Native.Nat.{_<_};
 ghost use mathlib.Core.Path.{_≡_};
 ghost use lib.ListN.{length};
-ghost use Rattle.sheet.specs.Field.{Wide};
+ghost use Rattle.sheet.specs.Forms.Field.{Wide};
 ghost use Rattle.sheet.specs.Setup.{perDay, conduct, stealth, blocksRight, conductRight, setupRefusal};
 
 // A byte as a number of two bytes.

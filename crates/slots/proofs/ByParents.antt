@@ -11,7 +11,7 @@ use Rattle.laws.specs.Booleans.{split, clash, fails-by, and-parts}
 use Rattle.laws.specs.Below.{any-found, any-all-false, any-same}
 use Rattle.laws.specs.Mask.{bit}
 use Rattle.sheet.specs.Field.{count, parent, opening}
-use Rattle.sheet.specs.Parents.{childThere, isParentBelow, Parents}
+use Rattle.sheet.specs.Forms.Parents.{childThere, isParentBelow, Parents}
 use Rattle.slots.specs.Conflict.{conflict, conflictIn}
 use Rattle.slots.proofs.Conflicts.{conflict-self, conflict-siblings, conflict-opening}
 

@@ -8,8 +8,8 @@ use borrow.Author.Tests.{eq-eqb, ne-eqb}
 use Rattle.laws.specs.Below.{any-start, any-more, any-found, any-upto}
 use Rattle.laws.specs.Mask.{bit}
 use Rattle.sheet.specs.Field.{parent}
-use Rattle.slots.specs.Next.{Next}
-use Rattle.sheet.specs.Parents.{childThere, isParentBelow}
+use Rattle.slots.specs.Forms.Next.{Next}
+use Rattle.sheet.specs.Forms.Parents.{childThere, isParentBelow}
 
 module _ (s : List ℕ) (m p : ℕ) where
   no-member : (k : ℕ) → bit m k ≡ false → childThere s (bit m) p k ≡ false

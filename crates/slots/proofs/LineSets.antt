@@ -14,7 +14,7 @@ use Rattle.laws.specs.Bits.{no-bit}
 use Rattle.laws.specs.Sets.{joined, bit-joined}
 use Rattle.sheet.specs.Field.{parent}
 use Rattle.slots.specs.Ancestry.{inAncestry, isSelfOrAncestor}
-use Rattle.slots.specs.Line.{lineSet}
+use Rattle.slots.specs.Forms.Line.{lineSet}
 use Rattle.slots.proofs.AncestrySets.{line-step}
 
 pub lineSet-step : (s : List ℕ) (t : ℕ) → lineSet s t ≡ joined (pick (ltb (parent s t) t) (lineSet s (parent s t)) 0) true t

@@ -11,7 +11,7 @@ use lib.Dec.{eqb}
 use lib.Pow.{shr-shr}
 use borrow.Author.Tests.{eq-eqb}
 use Rattle.laws.specs.Mask.{bit}
-use Rattle.slots.specs.Next.{Next}
+use Rattle.slots.specs.Forms.Next.{Next}
 
 lowest : (m : ℕ) → bit m 0 ≡ eqb (m % 2) 1
 unfolding bit

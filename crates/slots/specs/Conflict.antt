@@ -4,7 +4,6 @@ use Prim.Native.Nat.{ℕ}
 use mathlib.Core.Bool.{Bool, not, _&&_, _||_}
 use mathlib.Core.List.{List}
 use lib.Dec.{eqb}
-use Rattle.laws.specs.Booleans.{pick}
 use Rattle.laws.specs.Below.{anyBelow}
 use Rattle.sheet.specs.Field.{count, parent, opening}
 
@@ -23,7 +22,3 @@ otherConflictIn s member t = conflictIn s (λ k. not (eqb k t) && member k) t
 -- 14 "no rival in pool or confirmed", "the same against confirmed and the block being filled"
 unfoldable pub noConflict : List ℕ → (ℕ → Bool) → ℕ → Bool
 noConflict s member t = not (conflictIn s member t)
-
--- one of the two: with or without t itself
-unfoldable pub foundIn : List ℕ → (ℕ → Bool) → Bool → ℕ → Bool
-foundIn s member others t = pick others (otherConflictIn s member t) (conflictIn s member t)

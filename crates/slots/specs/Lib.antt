@@ -5,6 +5,4 @@ pub mod Ancestry
 pub mod Invalidated
 pub mod Deadline
 pub mod Signatures
-pub mod Height
-pub mod Line
-pub mod Next
+pub mod Forms

@@ -5,7 +5,7 @@ ghost use mathlib.Core.Path.{_≡_};
 ghost use Rattle.laws.specs.Mask.{bit};
 ghost use Rattle.sheet.specs.Field.{count, Sized};
 ghost use Rattle.slots.specs.Ancestry.{inAncestry};
-ghost use Rattle.slots.specs.Line.{lineSet};
+ghost use Rattle.slots.specs.Forms.Line.{lineSet};
 
 // Whether a transaction of t's line is in the set.
 pub fn in_ancestry(sheet: &[u8], there: u32, t: usize) -> bool

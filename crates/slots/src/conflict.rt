@@ -7,8 +7,9 @@ ghost use mathlib.Core.Path.{_≡_};
 ghost use Rattle.laws.specs.Mask.{bit};
 ghost use Rattle.laws.specs.Sets.{setBelow};
 ghost use Rattle.sheet.specs.Field.{count, Sized};
-ghost use Rattle.slots.specs.Conflict.{conflictIn, otherConflictIn, foundIn};
-ghost use Rattle.sheet.specs.Parents.{isParentBelow};
+ghost use Rattle.slots.specs.Conflict.{conflictIn, otherConflictIn};
+ghost use Rattle.slots.specs.Forms.Conflict.{foundIn};
+ghost use Rattle.sheet.specs.Forms.Parents.{isParentBelow};
 
 // Whether a child of `up` is in the set.
 fn child_in(sheet: &[u8], there: u32, up: usize) -> bool

@@ -7,7 +7,7 @@ ghost use lib.Dec.{eqb, ltb};
 ghost use Rattle.laws.specs.Booleans.{pick};
 ghost use Rattle.sheet.specs.Field.{count, parent, opening, Sized};
 ghost use Rattle.sheet.specs.LockHeight.{never, lockHeight};
-ghost use Rattle.slots.specs.Height.{Height};
+ghost use Rattle.slots.specs.Forms.Height.{Height};
 ghost use Rattle.slots.specs.Deadline.{deadline};
 
 // The lower of two heights.

@@ -3,7 +3,7 @@ ghost use Prim.Native.Nat.{_<_, _*_};
 ghost use mathlib.Core.Path.{_≡_};
 ghost use Rattle.sheet.specs.Field.{count, Sized};
 ghost use Rattle.sheet.specs.LockHeight.{sinceParent, lockHeight};
-ghost use Rattle.slots.specs.Height.{Product, Height};
+ghost use Rattle.slots.specs.Forms.Height.{Product, Height};
 
 // "Never": above every height that is reached.
 pub const NEVER: u32 = 2147483647;

@@ -1,6 +1,6 @@
 // Going through the members of a set.
 ghost use Prim.Native.Nat.{_≤_};
-ghost use Rattle.slots.specs.Next.{Next};
+ghost use Rattle.slots.specs.Forms.Next.{Next};
 
 // The least member from `from` on, or n where there is none below n.
 pub fn next(set: u32, from: usize, n: usize) -> usize

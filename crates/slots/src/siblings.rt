@@ -8,8 +8,9 @@ ghost use mathlib.Core.Bool.{false};
 ghost use Rattle.laws.specs.Mask.{bit};
 ghost use Rattle.laws.specs.Sets.{setBelow};
 ghost use Rattle.sheet.specs.Field.{count, Sized};
-ghost use Rattle.sheet.specs.Parents.{Parents};
-ghost use Rattle.slots.specs.Conflict.{conflictIn, foundIn};
+ghost use Rattle.sheet.specs.Forms.Parents.{Parents};
+ghost use Rattle.slots.specs.Conflict.{conflictIn};
+ghost use Rattle.slots.specs.Forms.Conflict.{foundIn};
 
 // Whether a rival of t is in the set, where `parents` are those of its members. An opening rivals only itself.
 fn conflict_by(sheet: &[u8], there: u32, parents: u32, t: usize) -> bool

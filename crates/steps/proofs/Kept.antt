@@ -8,9 +8,9 @@ use Rattle.laws.specs.Each.{rewriteFirst, rewrite-upto}
 use Rattle.sheet.specs.Field.{count}
 use Rattle.slots.specs.declared.Slot.{Slot}
 use Rattle.slots.specs.Slot.{emptySlot}
-use Rattle.slots.specs.Next.{Next}
+use Rattle.slots.specs.Forms.Next.{Next}
 use Rattle.steps.specs.declared.Change.{Change}
-use Rattle.steps.specs.Blocks.{changedSlot, Outside}
+use Rattle.steps.specs.Forms.Blocks.{changedSlot, Outside}
 
 -- a loop over the members of a set outside which the slots stay: where those below m are done, those below the next member are
 pub changed-upto : (s : List ℕ) (c : Change) (there : ℕ) (l : List Slot) → Outside s c there l → (n : ℕ) → n ≡ count s

@@ -11,8 +11,8 @@ use Rattle.sheet.specs.Setup.{perDay}
 use Rattle.slots.specs.declared.Slot.{Slot}
 use Rattle.slots.specs.Deadline.{deadline}
 use Rattle.steps.specs.declared.View.{View}
-use Rattle.steps.specs.View.{sentSet, senderIn}
-use Rattle.steps.specs.Sending.{sendTestsIn, poolTestsIn}
+use Rattle.steps.specs.Forms.View.{sentSet, senderIn}
+use Rattle.steps.specs.Forms.Sending.{sendTestsIn, poolTestsIn}
 
 module _ (allowed : Bool) (s u : List ℕ) (v : View) (x : Slot) (since party t destination d there have r : ℕ)
     (per-day : d ≡ perDay u) (sent : there ≡ sentSet v) (sender : have ≡ senderIn s v x party destination)

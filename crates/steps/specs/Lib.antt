@@ -1,9 +1,5 @@
 pub mod Decode
 pub mod Names
-pub mod View
-pub mod Parent
-pub mod Blocks
+pub mod Mined
 pub mod Conduct
-pub mod Sending
-pub mod Sharing
-pub mod Mining
+pub mod Forms

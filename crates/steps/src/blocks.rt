@@ -8,7 +8,7 @@ ghost use Prim.Native.Nat.{_<_};
 ghost use mathlib.Core.Path.{_≡_};
 ghost use Rattle.laws.specs.Each.{rewriteFirst};
 ghost use Rattle.sheet.specs.Field.{count, Sized};
-ghost use Rattle.steps.specs.Blocks.{changedSlot, Outside};
+ghost use Rattle.steps.specs.Forms.Blocks.{changedSlot, Outside};
 
 // What a change makes of one slot.
 fn changed_slot(sheet: &[u8], change: Change, t: usize, x: Slot) -> Slot

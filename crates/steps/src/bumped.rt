@@ -7,8 +7,8 @@ ghost use Prim.Native.Nat.{_<_};
 ghost use mathlib.Core.Path.{_≡_};
 ghost use Rattle.laws.specs.Sets.{setBelow};
 ghost use Rattle.sheet.specs.Field.{count, Sized};
-ghost use Rattle.slots.specs.Line.{lineSet};
-ghost use Rattle.steps.specs.Blocks.{bumpedSlot, entersIn};
+ghost use Rattle.slots.specs.Forms.Line.{lineSet};
+ghost use Rattle.steps.specs.Forms.Blocks.{bumpedSlot, entersIn};
 
 // What a bump makes of one slot: it enters the block, or leaves it, or stays as it is.
 pub fn bumped_slot(sheet: &[u8], entering: u32, leaving: u32, t: usize, x: Slot) -> Slot

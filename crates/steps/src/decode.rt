@@ -9,6 +9,7 @@ ghost use mathlib.Core.Bool.{_&&_, _||_};
 ghost use lib.Dec.{eqb, ltb};
 ghost use lib.ListN.{length};
 ghost use Rattle.sheet.specs.Field.{count, signatures, Sized};
+ghost use Rattle.sheet.specs.Checked.{Fit};
 ghost use Rattle.slots.specs.Destination.{isParty};
 ghost use Rattle.steps.specs.Decode.{sendsTo, sharesTo, isOther, firstShareFields, fieldsRight, ofKind, spelled, rangeChecked, decode};
 
@@ -122,8 +123,7 @@ fn listed_send(sheet: &[u8], party: u8, t: u8, destination: u8) -> bool
 
 // The fields of kind 1.
 fn share_fields(sheet: &[u8], setup: &[u8], party: u8, t: u8, destination: u8) -> bool
-    requires { ⌜ Sized (now sheet) ⌝ }
-    requires { ⌜ length (now setup) ≡ 4 ⌝ }
+    requires { ⌜ Fit (now sheet) (now setup) ⌝ }
     ensures { λ r. ⌜ r ≡ (isParty party && ((ltb t (count (now (sheet .entry))) && sharesTo (now (sheet .entry)) t destination) || firstShareFields (now (setup .entry)) t destination)) ⌝ }
 {
     if 2 <= party {
@@ -189,8 +189,7 @@ fn mine_fields(party: u8, t: u8, destination: u8) -> bool
 
 // Whether a step's fields are right for its kind.
 fn fields_right(sheet: &[u8], setup: &[u8], x: Step) -> bool
-    requires { ⌜ Sized (now sheet) ⌝ }
-    requires { ⌜ length (now setup) ≡ 4 ⌝ }
+    requires { ⌜ Fit (now sheet) (now setup) ⌝ }
     ensures { λ r. ⌜ r ≡ fieldsRight (now (sheet .entry)) (now (setup .entry)) x ⌝ }
 {
     match x {
@@ -222,8 +221,7 @@ fn fields_right(sheet: &[u8], setup: &[u8], x: Step) -> bool
 
 // A spelled step with right fields, or refused.
 fn range_checked(sheet: &[u8], setup: &[u8], read: Decoded) -> Decoded
-    requires { ⌜ Sized (now sheet) ⌝ }
-    requires { ⌜ length (now setup) ≡ 4 ⌝ }
+    requires { ⌜ Fit (now sheet) (now setup) ⌝ }
     ensures { λ r. ⌜ r ≡ rangeChecked (now (sheet .entry)) (now (setup .entry)) read ⌝ }
 {
     match read {
@@ -240,8 +238,7 @@ fn range_checked(sheet: &[u8], setup: &[u8], read: Decoded) -> Decoded
 
 // Four bytes as a step under a sheet and a setup, or refused with 11.
 pub fn decode(sheet: &[u8], setup: &[u8], kind: u8, party: u8, t: u8, destination: u8) -> Decoded
-    requires { ⌜ Sized (now sheet) ⌝ }
-    requires { ⌜ length (now setup) ≡ 4 ⌝ }
+    requires { ⌜ Fit (now sheet) (now setup) ⌝ }
     ensures { λ r. ⌜ r ≡ decode (now (sheet .entry)) (now (setup .entry)) kind party t destination ⌝ }
 {
     range_checked(sheet, setup, spelled(kind, party, t, destination))

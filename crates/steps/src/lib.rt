@@ -1,7 +1,7 @@
 // The steps as bytes, and what each kind of step reads and changes: over the sheet, a view of the position and single slots.
 ghost use Prim.Native.Nat.{_<_};
 ghost use mathlib.Core.Path.{_≡_};
-ghost use Rattle.steps.specs.View.{viewWith};
+ghost use Rattle.steps.specs.Forms.View.{viewWith};
 
 pub mod blocks;
 pub mod bumped;

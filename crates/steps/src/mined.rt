@@ -6,7 +6,8 @@ use slots::signatures;
 ghost use Prim.Native.Nat.{_<_};
 ghost use mathlib.Core.Path.{_≡_};
 ghost use Rattle.sheet.specs.Field.{count, Sized};
-ghost use Rattle.steps.specs.Blocks.{confirmEntry, minedSlot};
+ghost use Rattle.steps.specs.Mined.{confirmEntry};
+ghost use Rattle.steps.specs.Forms.Blocks.{minedSlot};
 
 // A block entry is confirmed, and what it exposes is shared.
 fn confirm_entry(sheet: &[u8], block: u16, t: usize, x: Slot) -> Slot

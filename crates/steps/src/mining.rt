@@ -11,7 +11,7 @@ ghost use lib.Dec.{eqb};
 ghost use Rattle.laws.specs.Mask.{bit};
 ghost use Rattle.laws.specs.Failing.{firstFailing};
 ghost use Rattle.sheet.specs.Field.{count, Sized};
-ghost use Rattle.steps.specs.Mining.{includeTestsIn, mineTestsIn, bumpTestsIn};
+ghost use Rattle.steps.specs.Forms.Mining.{includeTestsIn, mineTestsIn, bumpTestsIn};
 
 // The first test of kind 5 that fails, 0 where none does.
 pub fn include_refusal(sheet: &[u8], view: View, any: bool, t: usize) -> u32

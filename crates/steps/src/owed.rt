@@ -6,7 +6,7 @@ use slots::lock_height;
 ghost use Prim.Native.Nat.{_<_};
 ghost use mathlib.Core.Path.{_≡_};
 ghost use Rattle.sheet.specs.Field.{count, Sized};
-ghost use Rattle.steps.specs.Mining.{owedIn};
+ghost use Rattle.steps.specs.Forms.Mining.{owedIn};
 
 // Whether a bump of t is owed, where `since` is its parent's block.
 pub fn owed_at(sheet: &[u8], per_day: u16, view: View, since: u16, t: usize) -> bool

@@ -5,7 +5,7 @@ ghost use mathlib.Core.Path.{_≡_};
 ghost use Rattle.laws.specs.Mask.{bit};
 ghost use Rattle.sheet.specs.Field.{count, Sized};
 ghost use Rattle.slots.specs.Ancestry.{hasParent};
-ghost use Rattle.steps.specs.Parent.{slotAbove, blockAbove};
+ghost use Rattle.steps.specs.Forms.Parent.{slotAbove, blockAbove};
 
 // Whether the set has the parent of t; an opening has none to ask for.
 pub fn parent_there(sheet: &[u8], there: u32, t: usize) -> bool

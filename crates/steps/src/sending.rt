@@ -8,18 +8,18 @@ use slots::deadline;
 use slots::lock_height;
 use slots::party;
 use slots::signatures;
-ghost use Prim.Native.Nat.{_<_, _≤_};
+ghost use Prim.Native.Nat.{_<_};
 ghost use mathlib.Core.Path.{_≡_};
 ghost use lib.Dec.{ltb, leb};
-ghost use lib.ListN.{length};
 ghost use Rattle.laws.specs.Failing.{firstFailing};
-ghost use Rattle.sheet.specs.Field.{count, signatures, Sized};
+ghost use Rattle.sheet.specs.Field.{count, Sized};
 ghost use Rattle.sheet.specs.LockHeight.{lockHeight};
+ghost use Rattle.sheet.specs.Checked.{Checked, Fit};
 ghost use Rattle.slots.specs.Deadline.{deadline};
 ghost use Rattle.slots.specs.Slot.{entryFor, withPool, withShared};
 ghost use Rattle.slots.specs.Signatures.{exposedMask};
-ghost use Rattle.steps.specs.View.{sentSet, placedSet, keysIn, senderIn};
-ghost use Rattle.steps.specs.Sending.{sendTestsIn, poolTestsIn, minerTestsIn, paysIn};
+ghost use Rattle.steps.specs.Forms.View.{sentSet, placedSet, keysIn, senderIn};
+ghost use Rattle.steps.specs.Forms.Sending.{sendTestsIn, poolTestsIn, minerTestsIn, paysIn};
 
 impl View {
     // The transactions in the pool or confirmed.
@@ -85,8 +85,7 @@ fn send_refusal(
     mined: u16,
     t: usize,
 ) -> u32
-    requires { ⌜ Sized (now sheet) ⌝ }
-    requires { ⌜ signatures (now sheet) ≤ 8 ⌝ }
+    requires { ⌜ Checked (now sheet) ⌝ }
     requires { ⌜ t < count (now sheet) ⌝ }
     ensures { λ r. ⌜ r ≡ firstFailing (sendTestsIn allowed (now (sheet .entry)) «per_day» there have since mined t) ⌝ }
 {
@@ -120,9 +119,7 @@ pub fn pool_refusal(
     t: usize,
     destination: u8,
 ) -> u32
-    requires { ⌜ Sized (now sheet) ⌝ }
-    requires { ⌜ signatures (now sheet) ≤ 8 ⌝ }
-    requires { ⌜ length (now setup) ≡ 4 ⌝ }
+    requires { ⌜ Fit (now sheet) (now setup) ⌝ }
     requires { ⌜ t < count (now sheet) ⌝ }
     ensures { λ r. ⌜ r ≡ firstFailing (poolTestsIn allowed (now (sheet .entry)) (now (setup .entry)) view x since party t destination) ⌝ }
 {
@@ -159,9 +156,7 @@ pub fn miner_refusal(
     t: usize,
     destination: u8,
 ) -> u32
-    requires { ⌜ Sized (now sheet) ⌝ }
-    requires { ⌜ signatures (now sheet) ≤ 8 ⌝ }
-    requires { ⌜ length (now setup) ≡ 4 ⌝ }
+    requires { ⌜ Fit (now sheet) (now setup) ⌝ }
     requires { ⌜ t < count (now sheet) ⌝ }
     ensures { λ r. ⌜ r ≡ firstFailing (minerTestsIn allowed (now (sheet .entry)) (now (setup .entry)) view x since party t destination) ⌝ }
 {
@@ -204,9 +199,7 @@ pub fn pays(
     party: u8,
     t: usize,
 ) -> bool
-    requires { ⌜ Sized (now sheet) ⌝ }
-    requires { ⌜ signatures (now sheet) ≤ 8 ⌝ }
-    requires { ⌜ length (now setup) ≡ 4 ⌝ }
+    requires { ⌜ Fit (now sheet) (now setup) ⌝ }
     requires { ⌜ t < count (now sheet) ⌝ }
     requires { ⌜ party < 2 ⌝ }
     ensures { λ r. ⌜ r ≡ paysIn allowed (now (sheet .entry)) (now (setup .entry)) view x since party t ⌝ }

@@ -4,7 +4,7 @@ use slots::signatures;
 ghost use Prim.Native.Nat.{_<_};
 ghost use mathlib.Core.Path.{_≡_};
 ghost use Rattle.sheet.specs.Field.{count, Sized};
-ghost use Rattle.steps.specs.Sharing.{shareMetIn, giveMetIn};
+ghost use Rattle.steps.specs.Forms.Sharing.{shareMetIn, giveMetIn};
 
 // Whether a share of t is new and not empty, for a party that holds `held`.
 pub fn share_met(sheet: &[u8], held: u8, x: Slot, party: u8, t: usize, destination: u8) -> bool

@@ -2,8 +2,7 @@
 use native.Mathlib.Omega.{arith}
 use denote.Ref.{now}
 use mathlib.Core.Path.{sym, _∙_}
-use Rattle.sheet.proofs.Theorems.{setup-checked}
-use Rattle.position.proofs.Fits.{fit}
+use Rattle.sheet.proofs.Theorems.{fit}
 use Rattle.history.proofs.Playing.{accepted-fits}
 use Rattle.history.proofs.Promised.{sheet-refused, setup-refused, bytes-room, accepted-short, report-short, part-length, played-promise}
 use borrow.Author.Needs.{needs}
@@ -34,7 +33,7 @@ play-steps-requires : tie.Need-play-steps-requires
 play-steps-requires c κs =
     let h = sym (c .before .before .before .sheet-refusal .ensures) ∙ c .before .before .if1 .left in
     let k = sym (c .before .setup-refusal .ensures) ∙ c .if2 .left in
-    (setup-checked _ _ k .size, fit _ _ h k)
+    fit _ _ h k
 
 mul-used : tie.Need-mul-used
 mul-used c = omega (arith, accepted-fits _ _ _ _ _ (c .before .before .play-steps .ensures .1))
@@ -71,7 +70,7 @@ write-accepted-requires : tie.Need-write-accepted-requires
 write-accepted-requires c κs =
     let h = sym (c .before .before .before .before .before .before .before .before .before .before .sheet-refusal .ensures) ∙ c .before .before .before .before .before .before .before .before .before .if1 .left in
     let k = sym (c .before .before .before .before .before .before .before .before .setup-refusal .ensures) ∙ c .before .before .before .before .before .before .before .if2 .left in
-    (setup-checked _ _ k .size, (fit _ _ h k, bytes-room _ _ _ (now (c .before .before .before .before .before .before .before .before .before .before .before .before .before .before .before .before .args .accepted)) _ (c .before .before .before .before .before .before .play-steps .ensures .1) (c .before .before .before .if3 .left)))
+    (fit _ _ h k, bytes-room _ _ _ (now (c .before .before .before .before .before .before .before .before .before .before .before .before .before .before .before .before .args .accepted)) _ (c .before .before .before .before .before .before .play-steps .ensures .1) (c .before .before .before .if3 .left))
 
 slice-reshare-prefix-report : tie.Need-slice-reshare-prefix-report
 slice-reshare-prefix-report c = search needs

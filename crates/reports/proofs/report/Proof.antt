@@ -17,7 +17,7 @@ returns c =
 
 count-requires : tie.Need-count-requires
 count-requires c κs =
-    let h = ran-fit _ _ _ _ (c .before .before .ran .ensures) (c .if1 .left) .1 .checked .sized in
+    let h = ran-fit _ _ _ _ (c .before .before .ran .ensures) (c .if1 .left) .checked .sized in
     omega (arith, h .head, h .size)
 
 mul-if2 : tie.Need-mul-if2
@@ -34,7 +34,7 @@ returns-2 c =
 write-report-requires : tie.Need-write-report-requires
 write-report-requires c κs =
     let h = ran-fit _ _ _ _ (c .before .before .before .before .before .before .ran .ensures) (c .before .before .before .before .if1 .left) in
-    (h .1 .checked .sized, (h .0, omega (arith, c .before .before .if2 .left, c .before .before .before .count .ensures .is)))
+    (h, omega (arith, c .before .before .if2 .left, c .before .before .before .count .ensures .is))
 
 same-length : tie.Need-same-length
 same-length c = search needs

@@ -1,19 +1,19 @@
 -- One step, and what it adds.
 use native.Mathlib.Omega.{arith}
-use Rattle.history.specs.Steps.{playedOne}
+use Rattle.history.specs.Forms.Steps.{playedOne}
 use Rattle.history.proofs.Playing.{one-at-most}
 use borrow.Author.Needs.{needs}
 use Rattle.history.proofs.play.play_one.Statement.{statement}
 use Rattle.history.proofs.play.play_one.Tie as tie
 
 step-at-requires : tie.Need-step-at-requires
-step-at-requires c κs = let p = c .before .before .before .before .pre in (p .0, (p .1 .0, p .1 .1 .0))
+step-at-requires c κs = let p = c .before .before .before .before .pre in (p .0, p .1 .0)
 
 one-if-taken-requires : tie.Need-one-if-taken-requires
 one-if-taken-requires c κs = search needs
 
 add-accepted : tie.Need-add-accepted
-add-accepted c = let p = c .before .before .before .before .before .before .before .before .pre in omega (arith, one-at-most (c .before .before .before .step-at .result .refusal) _ (c .before .one-if-taken .ensures), p .1 .1 .0, p .1 .1 .1)
+add-accepted c = let p = c .before .before .before .before .before .before .before .before .pre in omega (arith, one-at-most (c .before .before .before .step-at .result .refusal) _ (c .before .one-if-taken .ensures), p .1 .0, p .1 .1)
 
 returns : tie.Need-returns
 unfolding playedOne

@@ -24,7 +24,7 @@ mul-play-one c = search needs
 play-one-requires : tie.Need-play-one-requires Inv-loop μ-loop
 play-one-requires c κs =
     let p = c .before .before .before .before .before .before .pre in
-    (p .0, (p .1, (omega (arith, c .loop-test .taken), omega (arith, c .before .loop .inv .low))))
+    (p, (omega (arith, c .loop-test .taken), omega (arith, c .before .loop .inv .low)))
 
 add-k : tie.Need-add-k Inv-loop μ-loop
 add-k c = search needs

@@ -16,13 +16,13 @@ start-requires : tie.Need-start-requires Inv-loop μ-loop
 start-requires c κs = search needs
 
 loop-holds : tie.Need-loop-holds Inv-loop μ-loop
-loop-holds c = writing-start _ _ _ _ _ (c .start .ensures) (c .before .before .before .before .before .pre .1 .1)
+loop-holds c = writing-start _ _ _ _ _ (c .start .ensures) (c .before .before .before .before .before .pre .1)
 
 mul-step-at : tie.Need-mul-step-at Inv-loop μ-loop
 mul-step-at c = search needs
 
 step-at-requires : tie.Need-step-at-requires Inv-loop μ-loop
-step-at-requires c κs = let p = c .before .before .before .before .before .before .before .pre in (p .0, (p .1 .0, omega (arith, c .loop-test .taken)))
+step-at-requires c κs = let p = c .before .before .before .before .before .before .before .pre in (p .0, omega (arith, c .loop-test .taken))
 
 mul-write-taken : tie.Need-mul-write-taken Inv-loop μ-loop
 mul-write-taken c = search needs

@@ -1,5 +1,5 @@
 -- The sum of three counts.
-use Rattle.lists.specs.SetsBytes.{setsCount}
+use Rattle.lists.specs.Forms.SetsBytes.{setsCount}
 use borrow.Author.Needs.{needs}
 use Rattle.lists.proofs.listing.sets_count.Statement.{statement}
 use Rattle.lists.proofs.listing.sets_count.Tie as tie

@@ -6,8 +6,8 @@ use mathlib.Core.List.{List, _++_}
 use lib.ListN.{length}
 use borrow.Rule.Slice.PartMut.{putMid}
 use Rattle.laws.specs.Wrote.{Wrote, wrote-first, wrote-room, wrote-more, front-fits}
-use Rattle.output.specs.Emitted.{actorBytes}
-use Rattle.lists.specs.SetsBytes.{laterBytes, setsBytes}
+use Rattle.output.specs.Forms.Emitted.{actorBytes}
+use Rattle.lists.specs.Forms.SetsBytes.{laterBytes, setsBytes}
 use borrow.Author.Needs.{needs}
 use Rattle.lists.proofs.listing.write_all.Statement.{statement}
 use Rattle.lists.proofs.listing.write_all.Tie as tie

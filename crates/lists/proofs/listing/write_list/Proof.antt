@@ -5,28 +5,28 @@ use Rattle.lists.proofs.listing.write_list.Statement.{statement}
 use Rattle.lists.proofs.listing.write_list.Tie as tie
 
 view-requires : tie.Need-view-requires
-view-requires c κs = c .before .before .before .pre .1 .checked .sized
+view-requires c κs = c .before .before .before .pre .checked .sized
 
 outlook-requires : tie.Need-outlook-requires
-outlook-requires c κs = let q = c .before .before .before .before .pre in (q .1 .checked .sized, (q .0, (q .1, c .view .ensures)))
+outlook-requires c κs = let q = c .before .before .before .before .pre in (q, c .view .ensures)
 
 any-owed-requires : tie.Need-any-owed-requires
-any-owed-requires c κs = let q = c .before .before .before .before .before .pre in (q .1 .checked .sized, (q .0, c .before .view .ensures))
+any-owed-requires c κs = let q = c .before .before .before .before .before .pre in (q, c .before .view .ensures)
 
 open-sets-requires : tie.Need-open-sets-requires
 open-sets-requires c κs =
     let q = c .before .before .before .before .before .before .pre in
-    (q .1 .checked .sized, (q .1 .checked .signatures-few, (q .0, (q .1, (c .before .before .view .ensures, (c .before .outlook .ensures, c .any-owed .ensures))))))
+    (q, (c .before .before .view .ensures, (c .before .outlook .ensures, c .any-owed .ensures)))
 
 open-sets-requires-2 : tie.Need-open-sets-requires-2
 open-sets-requires-2 c κs =
     let q = c .before .before .before .before .before .before .before .pre in
-    (q .1 .checked .sized, (q .1 .checked .signatures-few, (q .0, (q .1, (c .before .before .before .view .ensures, (c .before .before .outlook .ensures, c .before .any-owed .ensures))))))
+    (q, (c .before .before .before .view .ensures, (c .before .before .outlook .ensures, c .before .any-owed .ensures)))
 
 open-sets-requires-3 : tie.Need-open-sets-requires-3
 open-sets-requires-3 c κs =
     let q = c .before .before .before .before .before .before .before .before .pre in
-    (q .1 .checked .sized, (q .1 .checked .signatures-few, (q .0, (q .1, (c .before .before .before .before .view .ensures, (c .before .before .before .outlook .ensures, c .before .before .any-owed .ensures))))))
+    (q, (c .before .before .before .before .view .ensures, (c .before .before .before .outlook .ensures, c .before .before .any-owed .ensures)))
 
 write-fitting-requires : tie.Need-write-fitting-requires
 write-fitting-requires c κs = search needs

@@ -1,5 +1,5 @@
 -- The sum over the sets before i.
-use Rattle.output.specs.Emitted.{openCount}
+use Rattle.output.specs.Forms.Emitted.{openCount}
 use Rattle.output.proofs.Lengths.{count-bound}
 use Rattle.laws.specs.Sum.{sumBelow, bitsBelow, sum-start, sum-more, sum-done}
 use Rattle.laws.specs.Ones.{bits-short, bits-low}

@@ -1,5 +1,5 @@
 -- The steps of the destinations before d.
-use Rattle.output.specs.Emitted.{emitted, emittedAt, opens}
+use Rattle.output.specs.Forms.Emitted.{emitted, emittedAt, opens}
 use Rattle.laws.specs.Wrote.{Turns, turns-start, turn-room, turn-end, turn-more, turns-done}
 use mathlib.Core.Bool.{Bool}
 use mathlib.Core.List.{List}

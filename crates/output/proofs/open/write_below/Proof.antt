@@ -1,5 +1,5 @@
 -- None, or the steps on the transactions before t.
-use Rattle.output.specs.Emitted.{belowBytes}
+use Rattle.output.specs.Forms.Emitted.{belowBytes}
 use Rattle.output.proofs.Three.{none-below}
 use Rattle.laws.specs.Over.{over-none}
 use Rattle.laws.specs.Wrote.{Turns, turns-start, turn-room, turn-end, turn-more, turns-done}

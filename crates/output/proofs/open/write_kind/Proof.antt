@@ -1,5 +1,5 @@
 -- The steps on the transactions, then those of byte 255.
-use Rattle.output.specs.Emitted.{belowBytes, lastBytes, kindBytes}
+use Rattle.output.specs.Forms.Emitted.{belowBytes, lastBytes, kindBytes}
 use Rattle.laws.specs.Gather.{gather}
 use Rattle.laws.specs.Wrote.{Wrote, wrote-first, wrote-room, wrote-more, front-fits}
 use borrow.Rule.Slice.PartMut.{putMid}

@@ -1,5 +1,5 @@
 -- The steps of the kinds before k + 1.
-use Rattle.output.specs.Emitted.{kindBytes, actorBytes}
+use Rattle.output.specs.Forms.Emitted.{kindBytes, actorBytes}
 use Rattle.laws.specs.Wrote.{Turns, turns-start, turn-room, turn-end, turn-more, turns-done}
 use Prim.Native.Nat.{_-_}
 use native.Mathlib.Omega.{arith}

@@ -1,5 +1,5 @@
 -- Four stores, or none.
-use Rattle.output.specs.Emitted.{emitted}
+use Rattle.output.specs.Forms.Emitted.{emitted}
 use Rattle.output.proofs.Lengths.{four-fit}
 use Rattle.laws.specs.Over.{over-none, stores-over}
 use lib.ListN.{length-set}

@@ -1,5 +1,5 @@
 -- Two stores, then three numbers, each after what is written.
-use Rattle.output.specs.Row.{rowBytes}
+use Rattle.output.specs.Forms.Row.{rowBytes}
 use Rattle.laws.specs.Little.{bytesOf}
 use Rattle.laws.specs.Over.{stores-over}
 use Rattle.laws.specs.Wrote.{Wrote, wrote-first, wrote-room, wrote-more}

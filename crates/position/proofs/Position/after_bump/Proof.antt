@@ -1,10 +1,10 @@
 -- The slots.
 use Rattle.position.proofs.BlockSets.{bumped-right}
 use Rattle.position.proofs.NoEntries.{bumped-outside}
-use Rattle.steps.specs.Blocks.{changedSlot, entersIn}
+use Rattle.steps.specs.Forms.Blocks.{changedSlot, entersIn}
 use Rattle.position.specs.Effect.{withSlots, changeSlots, afterBump}
 use Rattle.steps.specs.declared.View.{View}
-use Rattle.slots.specs.Line.{lineSet}
+use Rattle.slots.specs.Forms.Line.{lineSet}
 use Rattle.sheet.specs.Field.{count}
 use Rattle.laws.specs.Sets.{setBelow}
 use mathlib.Core.Path.{ap, _∙_}

@@ -1,10 +1,10 @@
 -- The slots, and one block more.
 use Rattle.position.proofs.BlockSets.{mined-right}
 use Rattle.position.proofs.NoEntries.{mined-outside}
-use Rattle.steps.specs.Blocks.{changedSlot}
+use Rattle.steps.specs.Forms.Blocks.{changedSlot}
 use Rattle.position.specs.Effect.{withSlots, changeSlots, withMined, afterMine}
 use Rattle.steps.specs.declared.View.{View}
-use Rattle.slots.specs.Conflict.{foundIn}
+use Rattle.slots.specs.Forms.Conflict.{foundIn}
 use Rattle.sheet.specs.Field.{count}
 use Rattle.laws.specs.Sets.{setBelow}
 use Rattle.laws.specs.Mask.{bit}

@@ -5,7 +5,7 @@ use Rattle.position.proofs.Position.any_owed.Statement.{statement}
 use Rattle.position.proofs.Position.any_owed.Tie as tie
 
 returns : tie.Need-returns
-returns c = answer-none-owed _ _ _ _ (c .before .before .before .before .before .pre .0 .few) (c .before .before .before .before .before .pre .1 .1) (c .if1 .taken)
+returns c = answer-none-owed _ _ _ _ (c .before .before .before .before .before .pre .0 .checked .sized .few) (c .before .before .before .before .before .pre .1) (c .if1 .taken)
 
 any-owed-among-requires : tie.Need-any-owed-among-requires
 any-owed-among-requires c κs = search needs

@@ -1,9 +1,8 @@
 -- None below t, the next of the pool, is owed.
 use Rattle.position.proofs.MineTests.{any-owed-answer, owed-first, owed-next}
 use Rattle.laws.specs.Below.{anyBelow, any-found, any-done}
-use Rattle.steps.specs.Mining.{owedIn}
-use Rattle.steps.specs.Parent.{slotAbove, blockAbove}
-use Rattle.position.specs.View.{sinceIn}
+use Rattle.steps.specs.Forms.Mining.{owedIn}
+use Rattle.position.specs.Forms.View.{sinceIn}
 use Rattle.position.specs.Position.{slot}
 use mathlib.Core.Path.{_≡_}
 use mathlib.Core.Bool.{false}
@@ -50,7 +49,7 @@ owed-at-requires c κs = search needs
 
 returns : tie.Need-returns Inv-loop μ-loop
 unfolding sinceIn slot
-returns c = any-owed-answer _ _ _ (search needs) (search (length-of-map, c .before .before .before .before .before .before .before .before .before .before .before .before .good)) _ _ _ _ (c .before .before .before .before .before .before .before .before .before .before .before .before .pre .1 .1) (c .before .before .before .before .before .before .before .before .per-day .ensures) (c .before .before .before .before .before .before .before .before .before .count .ensures .is) (sym (any-found _ _ _ (c .before .before .before .before .before .loop-test .taken) (rw (← (c .before .before .before .before .slot-above .ensures .0), ← (c .before .before .block-above .ensures), ← (c .before .owed-at .ensures)) (c .if1 .taken))))
+returns c = any-owed-answer _ _ _ (search needs) (search (length-of-map, c .before .before .before .before .before .before .before .before .before .before .before .before .good)) _ _ _ _ (c .before .before .before .before .before .before .before .before .before .before .before .before .pre .1) (c .before .before .before .before .before .before .before .before .per-day .ensures) (c .before .before .before .before .before .before .before .before .before .count .ensures .is) (sym (any-found _ _ _ (c .before .before .before .before .before .loop-test .taken) (rw (← (c .before .before .before .before .slot-above .ensures .0), ← (c .before .before .block-above .ensures), ← (c .before .owed-at .ensures)) (c .if1 .taken))))
 
 add-next : tie.Need-add-next Inv-loop μ-loop
 add-next c = search needs
@@ -66,7 +65,7 @@ unfolding sinceIn slot
 loop-again c = (c .next2 .ensures .high, owed-next (now (c .before .before .before .before .before .before .before .before .before .before .before .before .before .args .sheet)) (c .before .before .before .before .before .before .before .before .before .per-day .result) (c .before .before .before .before .before .before .before .before .before .before .before .before .before .args .view) (c .before .before .before .before .before .before .before .before .before .before .before .before .before .args .t1) _ _ _ (c .next2 .ensures) (c .before .before .before .before .before .before .before .loop .inv .1) (rw (← (c .before .before .before .before .before .slot-above .ensures .0), ← (c .before .before .before .block-above .ensures), ← (c .before .before .owed-at .ensures)) (c .before .if1 .left)))
 
 returns-2 : tie.Need-returns-2 Inv-loop μ-loop
-returns-2 c = any-owed-answer _ _ _ (search needs) (search (length-of-map, c .before .before .before .before .before .before .before .good)) _ _ _ _ (c .before .before .before .before .before .before .before .pre .1 .1) (c .before .before .before .per-day .ensures) (c .before .before .before .before .count .ensures .is) (any-done _ _ _ _ (c .before .loop .inv .0) (c .loop-test .left) (c .before .loop .inv .1))
+returns-2 c = any-owed-answer _ _ _ (search needs) (search (length-of-map, c .before .before .before .before .before .before .before .good)) _ _ _ _ (c .before .before .before .before .before .before .before .pre .1) (c .before .before .before .per-day .ensures) (c .before .before .before .before .count .ensures .is) (any-done _ _ _ _ (c .before .loop .inv .0) (c .loop-test .left) (c .before .loop .inv .1))
 
 pub any-owed-among-spec : {M : Type 1} → statement M
 any-owed-among-spec =

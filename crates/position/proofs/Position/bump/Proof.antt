@@ -10,14 +10,14 @@ wide-requires : tie.Need-wide-requires
 wide-requires c κs = search needs
 
 bump-refusal-requires : tie.Need-bump-refusal-requires
-bump-refusal-requires c κs = let p = c .before .before .before .pre in (p .0, (p .1 .0, (p .1 .1 .1 .0, rw (c .wide .ensures .is) (p .1 .1 .1 .1))))
+bump-refusal-requires c κs = let p = c .before .before .before .pre in (p .0, (p .1 .0, rw (c .wide .ensures .is) (p .1 .1)))
 
 returns : tie.Need-returns
 unfolding stepRefusal tests
 returns c = refuses _ _ _ _ _ (rw (← (c .before .before .wide .ensures .is)) (c .before .bump-refusal .ensures)) (c .if1 .taken)
 
 after-bump-requires : tie.Need-after-bump-requires
-after-bump-requires c κs = let p = c .before .before .before .before .before .pre in (p .0, (p .1 .1 .1 .0, rw (c .before .before .wide .ensures .is) (p .1 .1 .1 .1)))
+after-bump-requires c κs = let p = c .before .before .before .before .before .pre in (p .0 .checked .sized, (p .1 .0, rw (c .before .before .wide .ensures .is) (p .1 .1)))
 
 returns-2 : tie.Need-returns-2
 unfolding stepRefusal tests effect

@@ -1,5 +1,5 @@
 -- Owed, or 21.
-use Rattle.steps.specs.Mining.{bumpTestsIn}
+use Rattle.steps.specs.Forms.Mining.{bumpTestsIn}
 use Rattle.position.specs.Tests.{bumpTests}
 use borrow.Author.Needs.{needs}
 use Rattle.position.proofs.Position.bump_refusal.Statement.{statement}

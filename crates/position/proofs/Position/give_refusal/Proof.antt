@@ -1,13 +1,12 @@
 -- Allowed and met, or 13.
 use Rattle.position.proofs.ShareTests.{give-answer}
-use Rattle.steps.specs.Sharing.{giveMetIn}
 use mathlib.Core.Path.{_∙_}
 use borrow.Author.Needs.{needs}
 use Rattle.position.proofs.Position.give_refusal.Statement.{statement}
 use Rattle.position.proofs.Position.give_refusal.Tie as tie
 
 outlook-requires : tie.Need-outlook-requires
-outlook-requires c κs = (c .before .before .pre .0, (c .before .before .pre .1 .0, (c .before .before .pre .1 .1 .0, c .before .before .pre .1 .1 .1 .0)))
+outlook-requires c κs = (c .before .before .pre .0, c .before .before .pre .1 .0)
 
 give-allowed-requires : tie.Need-give-allowed-requires
 give-allowed-requires c κs = search needs
@@ -19,7 +18,7 @@ keys-requires-2 : tie.Need-keys-requires-2
 keys-requires-2 c κs = search needs
 
 give-met-requires : tie.Need-give-met-requires
-give-met-requires c κs = c .before .before .before .before .before .before .pre .1 .1 .1 .1
+give-met-requires c κs = c .before .before .before .before .before .before .pre .1 .1
 
 conduct-refusal-requires : tie.Need-conduct-refusal-requires
 conduct-refusal-requires c κs = search needs

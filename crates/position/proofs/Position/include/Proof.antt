@@ -11,14 +11,14 @@ wide-requires : tie.Need-wide-requires
 wide-requires c κs = search needs
 
 include-refusal-requires : tie.Need-include-refusal-requires
-include-refusal-requires c κs = let p = c .before .before .before .pre in (p .0, (p .1 .0, (p .1 .1 .0, (p .1 .1 .1 .0, rw (c .wide .ensures .is) (p .1 .1 .1 .1)))))
+include-refusal-requires c κs = let p = c .before .before .before .pre in (p .0, (p .1 .0, rw (c .wide .ensures .is) (p .1 .1)))
 
 returns : tie.Need-returns
 unfolding stepRefusal tests
 returns c = refuses _ _ _ _ _ (rw (← (c .before .before .wide .ensures .is)) (c .before .include-refusal .ensures)) (c .if1 .taken)
 
 after-include-requires : tie.Need-after-include-requires
-after-include-requires c κs = let p = c .before .before .before .before .before .pre in rw (c .before .before .wide .ensures .is) (omega (arith, p .1 .1 .1 .1, p .0 .few))
+after-include-requires c κs = let p = c .before .before .before .before .before .pre in rw (c .before .before .wide .ensures .is) (omega (arith, p .1 .1, p .0 .checked .sized .few))
 
 returns-2 : tie.Need-returns-2
 unfolding stepRefusal tests effect

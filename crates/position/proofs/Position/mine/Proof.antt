@@ -6,12 +6,11 @@ use Rattle.position.specs.Tests.{mineTests}
 use Rattle.laws.specs.Failing.{passed}
 use borrow.Author.Tests.{ltb-true}
 use mathlib.Core.Path.{refl, sym, _∙_}
-use borrow.Author.Needs.{needs}
 use Rattle.position.proofs.Position.mine.Statement.{statement}
 use Rattle.position.proofs.Position.mine.Tie as tie
 
 mine-refusal-requires : tie.Need-mine-refusal-requires
-mine-refusal-requires c κs = let p = c .before .before .pre in (p .0, (p .1 .0, (p .1 .1 .0, p .1 .1 .1)))
+mine-refusal-requires c κs = let p = c .before .before .pre in (p .0, p .1)
 
 returns : tie.Need-returns
 unfolding stepRefusal tests
@@ -19,7 +18,7 @@ returns c = refuses _ _ _ _ _ (c .before .mine-refusal .ensures) (c .if1 .taken)
 
 after-mine-requires : tie.Need-after-mine-requires
 unfolding mineTests
-after-mine-requires c κs = let p = c .before .before .before .before .pre in (p .0, (p .1 .1 .1, ltb-true _ _ (passed _ refl (sym (c .before .mine-refusal .ensures) ∙ c .if1 .left) 23)))
+after-mine-requires c κs = let p = c .before .before .before .before .pre in (p .0 .checked .sized, (p .1, ltb-true _ _ (passed _ refl (sym (c .before .mine-refusal .ensures) ∙ c .if1 .left) 23)))
 
 returns-2 : tie.Need-returns-2
 unfolding stepRefusal tests effect

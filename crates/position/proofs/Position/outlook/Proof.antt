@@ -1,7 +1,7 @@
 -- Open, or made of its parts.
 use Rattle.position.specs.Position.{slot}
 use Rattle.position.specs.Conduct.{isOpen}
-use Rattle.position.specs.Outlook.{openOutlook, outlook}
+use Rattle.position.specs.Forms.Outlook.{openOutlook, outlook}
 use Rattle.position.proofs.Outlooks.{success-there, outlook-made}
 use mathlib.Core.Path.{sym, _∙_}
 use borrow.Author.Tests.{eq-eqb}
@@ -26,7 +26,7 @@ phase-requires : tie.Need-phase-requires
 phase-requires c κs = search needs
 
 late-requires : tie.Need-late-requires
-late-requires c κs = (c .before .before .before .before .before .before .before .pre .0, (c .before .before .before .before .before .before .before .pre .1 .0, success-there (c .before .before .before .before .before .before .before .pre .1 .1 .0) _ (c .before .before .before .before .conduct .ensures) (c .before .before .before .if1 .left)))
+late-requires c κs = (c .before .before .before .before .before .before .before .pre .0, success-there (c .before .before .before .before .before .before .before .pre .0) _ (c .before .before .before .before .conduct .ensures) (c .before .before .before .if1 .left))
 
 is-sent-requires : tie.Need-is-sent-requires
 is-sent-requires c κs = search needs
@@ -39,7 +39,7 @@ sender-requires c κs = search needs
 
 returns-2 : tie.Need-returns-2
 unfolding slot
-returns-2 c = outlook-made _ _ _ _ _ _ _ _ _ _ (c .before .before .before .before .before .before .before .before .before .conduct .ensures) (c .before .before .before .before .before .before .before .before .if1 .left) (c .before .before .before .before .before .phase .ensures) (c .before .before .before .before .late .ensures) (c .before .before .before .is-sent .ensures) (c .before .has .ensures) (c .before .before .before .before .before .before .before .before .before .before .before .before .pre .1 .1 .1) (c .sender .ensures)
+returns-2 c = outlook-made _ _ _ _ _ _ _ _ _ _ (c .before .before .before .before .before .before .before .before .before .conduct .ensures) (c .before .before .before .before .before .before .before .before .if1 .left) (c .before .before .before .before .before .phase .ensures) (c .before .before .before .before .late .ensures) (c .before .before .before .is-sent .ensures) (c .before .has .ensures) (c .before .before .before .before .before .before .before .before .before .before .before .before .pre .1) (c .sender .ensures)
 
 pub outlook-spec : {M : Type 1} → statement M
 outlook-spec =

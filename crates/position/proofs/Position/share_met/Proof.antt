@@ -2,7 +2,7 @@
 use Rattle.position.proofs.Fields.{share-one-fits}
 use Rattle.position.specs.Tests.{shareMet}
 use Rattle.position.specs.Position.{slot, marked}
-use Rattle.steps.specs.Sharing.{shareMetIn}
+use Rattle.steps.specs.Forms.Sharing.{shareMetIn}
 use borrow.Author.Tests.{eq-eqb, ne-eqb}
 use borrow.Author.Needs.{needs}
 use Rattle.position.proofs.Position.share_met.Statement.{statement}

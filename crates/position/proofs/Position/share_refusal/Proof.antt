@@ -5,13 +5,13 @@ use Rattle.position.proofs.Position.share_refusal.Statement.{statement}
 use Rattle.position.proofs.Position.share_refusal.Tie as tie
 
 outlook-requires : tie.Need-outlook-requires
-outlook-requires c κs = (c .before .before .pre .0, (c .before .before .pre .1 .0, (c .before .before .pre .1 .1 .0, c .before .before .pre .1 .1 .1 .0)))
+outlook-requires c κs = (c .before .before .pre .0, c .before .before .pre .1 .0)
 
 share-allowed-requires : tie.Need-share-allowed-requires
 share-allowed-requires c κs = search needs
 
 share-met-requires : tie.Need-share-met-requires
-share-met-requires c κs = (c .before .before .before .before .pre .0, (c .before .before .before .before .pre .1 .1 .1 .1 .0, c .before .before .before .before .pre .1 .1 .1 .1 .1))
+share-met-requires c κs = (c .before .before .before .before .pre .0 .checked .sized, (c .before .before .before .before .pre .1 .1 .0, c .before .before .before .before .pre .1 .1 .1))
 
 conduct-refusal-requires : tie.Need-conduct-refusal-requires
 conduct-refusal-requires c κs = search needs

@@ -7,19 +7,19 @@ use Rattle.position.proofs.Position.step.Statement.{statement}
 use Rattle.position.proofs.Position.step.Tie as tie
 
 decode-requires : tie.Need-decode-requires
-decode-requires c κs = (c .before .before .pre .1 .checked .sized, c .before .before .pre .0)
+decode-requires c κs = c .before .before .pre
 
 enum-known-x : tie.Need-enum-known-x
 enum-known-x c = search needs
 
 view-requires : tie.Need-view-requires
-view-requires c κs = c .before .before .before .before .before .before .pre .1 .checked .sized
+view-requires c κs = c .before .before .before .before .before .before .pre .checked .sized
 
 take-requires : tie.Need-take-requires
 take-requires c κs =
     let p = c .before .before .before .before .before .before .before .pre in
     let d = sym (c .before .before .before .before .decode .ensures) ∙ c .before .before .x .given .1 in
-    (p .1 .checked .sized, (p .1 .checked .signatures-few, (p .0, (p .1, (c .view .ensures, decodes _ _ _ _ _ _ _ d .fields)))))
+    (p, (c .view .ensures, decodes _ _ _ _ _ _ _ d .fields))
 
 enum-told : tie.Need-enum-told
 enum-told c = search needs

@@ -18,43 +18,43 @@ enum-known-x : tie.Need-enum-known-x
 enum-known-x c = search needs
 
 share-requires : tie.Need-share-requires
-share-requires c κs = let p = c .before .before .before .before .before .pre in (p .0, (p .1 .1 .0, (p .1 .1 .1 .0, (p .1 .1 .1 .1 .0, share-fields _ _ _ _ _ _ (c .before .x .given .1) (p .1 .1 .1 .0) (p .1 .1 .1 .1 .1)))))
+share-requires c κs = let p = c .before .before .before .before .before .pre in (p .0, (p .1 .0, share-fields _ _ _ _ _ _ (c .before .x .given .1) (p .0) (p .1 .1)))
 
 enum-known-x-2 : tie.Need-enum-known-x-2
 enum-known-x-2 c = search needs
 
 give-requires : tie.Need-give-requires
-give-requires c κs = let p = c .before .before .before .before .before .pre in (p .0, (p .1 .1 .0, (p .1 .1 .1 .0, (p .1 .1 .1 .1 .0, give-fields _ _ _ _ _ _ (c .before .x2 .given .1) (p .1 .0) (p .1 .1 .1 .1 .1)))))
+give-requires c κs = let p = c .before .before .before .before .before .pre in (p .0, (p .1 .0, give-fields _ _ _ _ _ _ (c .before .x2 .given .1) (p .0 .checked .signatures-few) (p .1 .1)))
 
 enum-known-x-3 : tie.Need-enum-known-x-3
 enum-known-x-3 c = search needs
 
 send-to-pool-requires : tie.Need-send-to-pool-requires
-send-to-pool-requires c κs = let p = c .before .before .before .before .before .pre in (p .0, (p .1 .0, (p .1 .1 .0, (p .1 .1 .1 .0, (p .1 .1 .1 .1 .0, pool-fields _ _ _ _ _ _ (c .before .x3 .given .1) (p .1 .1 .1 .1 .1))))))
+send-to-pool-requires c κs = let p = c .before .before .before .before .before .pre in (p .0, (p .1 .0, pool-fields _ _ _ _ _ _ (c .before .x3 .given .1) (p .1 .1)))
 
 enum-known-x-4 : tie.Need-enum-known-x-4
 enum-known-x-4 c = search needs
 
 hand-to-miner-requires : tie.Need-hand-to-miner-requires
-hand-to-miner-requires c κs = let p = c .before .before .before .before .before .pre in (p .0, (p .1 .0, (p .1 .1 .0, (p .1 .1 .1 .0, (p .1 .1 .1 .1 .0, miner-fields _ _ _ _ _ _ (c .before .x4 .given .1) (p .1 .1 .1 .1 .1))))))
+hand-to-miner-requires c κs = let p = c .before .before .before .before .before .pre in (p .0, (p .1 .0, miner-fields _ _ _ _ _ _ (c .before .x4 .given .1) (p .1 .1)))
 
 enum-known-x-5 : tie.Need-enum-known-x-5
 enum-known-x-5 c = search needs
 
 include-requires : tie.Need-include-requires
-include-requires c κs = let p = c .before .before .before .before .before .pre in (p .0, (p .1 .1 .0, (p .1 .1 .1 .0, (p .1 .1 .1 .1 .0, include-listed _ _ _ _ _ _ (c .before .x5 .given .1) (p .1 .1 .1 .1 .1)))))
+include-requires c κs = let p = c .before .before .before .before .before .pre in (p .0, (p .1 .0, include-listed _ _ _ _ _ _ (c .before .x5 .given .1) (p .1 .1)))
 
 enum-known-x-6 : tie.Need-enum-known-x-6
 enum-known-x-6 c = search needs
 
 mine-requires : tie.Need-mine-requires
-mine-requires c κs = let p = c .before .before .before .before .before .pre in (p .0, (p .1 .1 .0, (p .1 .1 .1 .0, p .1 .1 .1 .1 .0)))
+mine-requires c κs = let p = c .before .before .before .before .before .pre in (p .0, p .1 .0)
 
 enum-known-x-7 : tie.Need-enum-known-x-7
 enum-known-x-7 c = search needs
 
 bump-requires : tie.Need-bump-requires
-bump-requires c κs = let p = c .before .before .before .before .before .pre in (p .0, (p .1 .1 .0, (p .1 .1 .1 .0, (p .1 .1 .1 .1 .0, bump-listed _ _ _ _ _ _ (c .before .x7 .given .1) (p .1 .1 .1 .1 .1)))))
+bump-requires c κs = let p = c .before .before .before .before .before .pre in (p .0, (p .1 .0, bump-listed _ _ _ _ _ _ (c .before .x7 .given .1) (p .1 .1)))
 
 returns : tie.Need-returns
 returns c = rw (c .before .before .x .given .1) (c .share .ensures)

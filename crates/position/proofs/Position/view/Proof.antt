@@ -1,6 +1,6 @@
 -- The view of the transactions below k.
 use Rattle.position.proofs.Views.{view-start, view-more, view-done}
-use Rattle.position.specs.View.{viewBelow}
+use Rattle.position.specs.Forms.View.{viewBelow}
 use Rattle.position.specs.Position.{slot}
 use mathlib.Core.Path.{_≡_, refl}
 use Prim.Native.Nat.{_≤_, _-_}

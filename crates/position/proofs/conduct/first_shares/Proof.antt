@@ -1,5 +1,5 @@
 -- One of the two sets.
-use Rattle.position.specs.FirstSet.{firstSet}
+use Rattle.position.specs.Forms.FirstShares.{firstSet}
 use borrow.Author.Tests.{eq-eqb, ne-eqb}
 use Rattle.position.proofs.conduct.first_shares.Statement.{statement}
 use Rattle.position.proofs.conduct.first_shares.Tie as tie

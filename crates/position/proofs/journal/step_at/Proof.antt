@@ -1,5 +1,5 @@
 -- The four bytes from place i on.
-use Rattle.position.specs.Journal.{stepAt}
+use Rattle.position.specs.Forms.Journal.{stepAt}
 use borrow.Author.Needs.{needs}
 use Rattle.position.proofs.journal.step_at.Statement.{statement}
 use Rattle.position.proofs.journal.step_at.Tie as tie

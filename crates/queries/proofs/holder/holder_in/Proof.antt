@@ -3,7 +3,7 @@ use Rattle.queries.proofs.ReportRows.{payee-right}
 use Rattle.readings.proofs.Holders.{held-by, held-none}
 use Rattle.steps.specs.declared.View.{View}
 use Rattle.position.specs.Position.{slot, isConfirmed}
-use Rattle.position.specs.View.{viewBelow}
+use Rattle.position.specs.Forms.View.{viewBelow}
 use Rattle.position.specs.Report.{payee}
 use Rattle.position.specs.Holder.{holderIn}
 use mathlib.Core.Path.{ap, _∙_}

@@ -1,5 +1,5 @@
 -- The sets at the places below i.
-use Rattle.queries.specs.OpenSets.{openSet, belowSets}
+use Rattle.queries.specs.Forms.OpenSets.{openSet, belowSets}
 use Rattle.laws.specs.Each.{rewriteFirst, rewrite-start, rewrite-again, rewrite-done}
 use lib.ListN.{length, replicate}
 use mathlib.Core.Path.{_≡_}
@@ -27,7 +27,7 @@ cast-open-set : tie.Need-cast-open-set Inv-loop μ-loop
 cast-open-set c = search needs
 
 open-set-requires : tie.Need-open-set-requires Inv-loop μ-loop
-open-set-requires c κs = ((c .before .before .before .before .pre .0), ((c .before .before .before .before .pre .1 .0), ((c .before .before .before .before .pre .1 .1 .0), ((c .before .before .before .before .pre .1 .1 .1 .0), ((c .before .before .before .before .pre .1 .1 .1 .1 .0), ((c .before .before .before .before .pre .1 .1 .1 .1 .1), search needs))))))
+open-set-requires c κs = (c .before .before .before .before .pre .0, ((c .before .before .before .before .pre .1 .0), ((c .before .before .before .before .pre .1 .1), search needs)))
 
 mul-below : tie.Need-mul-below Inv-loop μ-loop
 mul-below c = search needs

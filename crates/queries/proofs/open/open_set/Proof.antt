@@ -16,13 +16,13 @@ give-set-requires : tie.Need-give-set-requires
 give-set-requires c κs = search needs
 
 returns-2 : tie.Need-returns-2
-returns-2 c = set-given _ _ _ _ _ _ _ _ _ (c .before .before .before .before .before .before .pre .1 .1 .1 .0) (c .before .before .before .before .before .before .pre .1 .0) (c .before .before .before .before .before .before .pre .1 .1 .1 .1 .0) (c .before .before .before .may-stand .ensures) (c .before .before .if1 .left) (c .before .before .before .before .before .before .pre .1 .1 .1 .1 .1 .1) (c .before .if2 .taken) (c .give-set .ensures)
+returns-2 c = set-given _ _ _ _ _ _ _ _ _ (c .before .before .before .before .before .before .pre .0) (c .before .before .before .before .before .before .pre .0 .checked .signatures-few) (c .before .before .before .before .before .before .pre .1 .0) (c .before .before .before .may-stand .ensures) (c .before .before .if1 .left) (c .before .before .before .before .before .before .pre .1 .1 .1) (c .before .if2 .taken) (c .give-set .ensures)
 
 sheet-set-requires : tie.Need-sheet-set-requires
-sheet-set-requires c κs = ((c .before .before .before .before .before .pre .0), ((c .before .before .before .before .before .pre .1 .0), ((c .before .before .before .before .before .pre .1 .1 .0), ((c .before .before .before .before .before .pre .1 .1 .1 .0), ((c .before .before .before .before .before .pre .1 .1 .1 .1 .0), ((c .before .before .before .before .before .pre .1 .1 .1 .1 .1 .0), (sym (c .before .before .may-stand .ensures) ∙ not-false _ (c .before .if1 .left), (c .if2 .left, (c .before .before .before .before .before .pre .1 .1 .1 .1 .1 .1)))))))))
+sheet-set-requires c κs = (c .before .before .before .before .before .pre .0, ((c .before .before .before .before .before .pre .1 .0), ((c .before .before .before .before .before .pre .1 .1 .0), (sym (c .before .before .may-stand .ensures) ∙ not-false _ (c .before .if1 .left), (c .if2 .left, (c .before .before .before .before .before .pre .1 .1 .1))))))
 
 returns-3 : tie.Need-returns-3
-returns-3 c = set-sheet _ _ _ _ _ _ _ (c .before .before .before .before .before .before .pre .0 .few) (c .before .if2 .left) (c .sheet-set .ensures)
+returns-3 c = set-sheet _ _ _ _ _ _ _ (c .before .before .before .before .before .before .pre .0 .checked .sized .few) (c .before .if2 .left) (c .sheet-set .ensures)
 
 pub open-set-spec : {M : Type 1} → statement M
 open-set-spec =

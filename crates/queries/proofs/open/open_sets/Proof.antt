@@ -7,16 +7,16 @@ sight-requires : tie.Need-sight-requires
 sight-requires c κs = c .before .before .pre
 
 goes-for-requires : tie.Need-goes-for-requires
-goes-for-requires c κs = c .before .before .before .pre .0
+goes-for-requires c κs = c .before .before .before .pre .0 .checked .sized
 
 below-sets-requires : tie.Need-below-sets-requires
-below-sets-requires c κs = ((c .before .before .before .before .pre .0), ((c .before .before .before .before .pre .1 .0), ((c .before .before .before .before .pre .1 .1 .0), ((c .before .before .before .before .pre .1 .1 .1 .0), (c .before .sight .ensures, c .goes-for .ensures)))))
+below-sets-requires c κs = (c .before .before .before .before .pre .0, (c .before .sight .ensures, c .goes-for .ensures))
 
 last-set-requires : tie.Need-last-set-requires
-last-set-requires c κs = c .before .before .before .before .before .pre .1 .1 .0
+last-set-requires c κs = c .before .before .before .before .before .pre .0 .setup .size
 
 returns : tie.Need-returns
-returns c = sets-made _ _ _ (c .before .before .before .before .before .before .pre .1 .1 .1 .0) (c .before .before .before .before .before .before .pre .1 .0) _ _ _ _ (c .before .before .before .sight .ensures) (c .before .below-sets .ensures) (c .last-set .ensures)
+returns c = sets-made _ _ _ (c .before .before .before .before .before .before .pre .0) (c .before .before .before .before .before .before .pre .0 .checked .signatures-few) _ _ _ _ (c .before .before .before .sight .ensures) (c .before .below-sets .ensures) (c .last-set .ensures)
 
 pub open-sets-spec : {M : Type 1} → statement M
 open-sets-spec = tie.close (tie.spec sight-requires goes-for-requires below-sets-requires last-set-requires returns)

@@ -3,7 +3,7 @@ use Rattle.position.proofs.ReportLengths.{row-length, rows-room}
 use Rattle.queries.proofs.ReportRows.{row-written}
 use Rattle.position.specs.Report.{row, reportBytes}
 use Rattle.position.specs.Position.{slot}
-use Rattle.position.specs.View.{sinceIn}
+use Rattle.position.specs.Forms.View.{sinceIn}
 use Rattle.laws.specs.Each.{length-of-map}
 use Rattle.laws.specs.Wrote.{Turns, turns-start, turn-room, turn-end, turn-more, turns-done}
 use mathlib.Core.Path.{_≡_, refl, sym}
@@ -36,7 +36,7 @@ loop-holds : tie.Need-loop-holds Inv-loop μ-loop
 loop-holds c =
     let k = c .before .before .before .before .before .before .before in
     let n = c .before .before .before .count in
-    turns-start _ _ _ (rows-room (k .args .sheet .now) (k .args .setup .now) (k .args .t1) (n .result) _ (n .ensures .is) (k .pre .1 .1))
+    turns-start _ _ _ (rows-room (k .args .sheet .now) (k .args .setup .now) (k .args .t1) (n .result) _ (n .ensures .is) (k .pre .1))
 
 mul-x : tie.Need-mul-x Inv-loop μ-loop
 mul-x c = search needs
@@ -95,7 +95,7 @@ loop-again c =
     let n = c .before .before .before .before .before .before .before .before .before .before .before .before .before .before .count in
     let l : length (k .args .t1 .slots) ≡ 32 = search (length-of-map, k .good) in
     let wrote =
-    row-written (k .args .sheet .now) (k .args .setup .now) (k .args .t1) (i .t) _ _ _ _ _ _ (k .pre .0 .few) l (omega (arith, m, n .ensures .is))
+    row-written (k .args .sheet .now) (k .args .setup .now) (k .args .t1) (i .t) _ _ _ _ _ _ (k .pre .0 .checked .sized .few) l (omega (arith, m, n .ensures .is))
     (c .before .before .before .before .before .before .before .before .before .before .before .before .before .per-day .ensures) (c .before .before .before .before .before .before .before .before .before .before .before .before .view .ensures) (c .before .before .before .before .before .before .before .before .before .before .before .conflicts-of .ensures) refl (rw (← (c .before .before .before .before .before .before .before .slot-above .ensures .0)) (c .before .before .before .before .before .block-above .ensures)) (c .before .before .before .before .row .ensures) in
     turn-more _ _ _ _ _ _ _ 14 (i .inv) m (sym (row-length (k .args .sheet .now) (k .args .setup .now) (k .args .t1) (i .t))) (rw wrote at (c .before .before .write-row .ensures))
 

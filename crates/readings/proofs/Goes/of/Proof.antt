@@ -1,5 +1,5 @@
 -- By the destination.
-use Rattle.readings.specs.Sight.{goesOf}
+use Rattle.readings.specs.Forms.Sight.{goesOf}
 use borrow.Author.Tests.{ne-eqb}
 use borrow.Author.Needs.{needs}
 use Rattle.readings.proofs.Goes.of.Statement.{statement}

@@ -1,6 +1,7 @@
 -- The last of those below t.
 use Rattle.readings.proofs.Holders.{end-start, end-more, end-done}
-use Rattle.readings.specs.Holder.{endsCoin, payeeBelow, holder, coinEnd}
+use Rattle.readings.specs.Holder.{endsCoin, payeeBelow, holder}
+use Rattle.readings.specs.Forms.Holder.{coinEnd}
 use Rattle.laws.specs.Mask.{bit}
 use mathlib.Core.Path.{_≡_}
 use Prim.Native.Nat.{_≤_, _-_}

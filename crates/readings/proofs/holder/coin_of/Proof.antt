@@ -1,5 +1,5 @@
 -- From t itself.
-use Rattle.readings.specs.Holder.{coinFrom}
+use Rattle.readings.specs.Forms.Holder.{coinFrom}
 use Rattle.ledger.specs.Coin.{coinOf}
 use borrow.Author.Needs.{needs}
 use Rattle.readings.proofs.holder.coin_of.Statement.{statement}

@@ -1,5 +1,5 @@
 -- By the kind.
-use Rattle.readings.specs.Sight.{refusalAs}
+use Rattle.readings.specs.Forms.Sight.{refusalAs}
 use borrow.Author.Tests.{ne-eqb}
 use borrow.Author.Needs.{needs}
 use Rattle.readings.proofs.open.accepted_as.Statement.{statement}

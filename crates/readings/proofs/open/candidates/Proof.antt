@@ -1,5 +1,5 @@
 -- By the kind.
-use Rattle.readings.specs.Sight.{candidatesIn}
+use Rattle.readings.specs.Forms.Sight.{candidatesIn}
 use borrow.Author.Tests.{le-leb, lt-leb}
 use borrow.Author.Needs.{needs}
 use Rattle.readings.proofs.open.candidates.Statement.{statement}

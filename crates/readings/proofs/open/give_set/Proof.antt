@@ -1,6 +1,6 @@
 -- The set of those below i.
 use Rattle.laws.specs.Sets.{setBelow, set-start, set-more, set-done}
-use Rattle.readings.specs.Sight.{givesIn}
+use Rattle.readings.specs.Forms.Sight.{givesIn}
 use mathlib.Core.Path.{_≡_}
 use Prim.Native.Nat.{_≤_, _-_}
 use borrow.Author.Needs.{needs}

@@ -1,5 +1,5 @@
 -- Of a party, by destination.
-use Rattle.readings.specs.Sight.{goesFor}
+use Rattle.readings.specs.Forms.Sight.{goesFor}
 use Rattle.slots.specs.Destination.{isParty}
 use borrow.Author.Tests.{lt-ltb, le-ltb}
 use borrow.Author.Needs.{needs}

@@ -1,5 +1,5 @@
 -- By the destination.
-use Rattle.readings.specs.Sight.{goesTo}
+use Rattle.readings.specs.Forms.Sight.{goesTo}
 use borrow.Author.Tests.{ne-eqb}
 use borrow.Author.Needs.{needs}
 use Rattle.readings.proofs.open.goes_to.Statement.{statement}

@@ -1,5 +1,5 @@
 -- By the actor.
-use Rattle.readings.specs.Sight.{lastIn}
+use Rattle.readings.specs.Forms.Sight.{lastIn}
 use Rattle.slots.specs.Destination.{isParty}
 use borrow.Author.Tests.{lt-ltb, le-ltb}
 use borrow.Author.Needs.{needs}

@@ -1,5 +1,5 @@
 -- By the actor, then the kind.
-use Rattle.readings.specs.Sight.{mayStand}
+use Rattle.readings.specs.Forms.Sight.{mayStand}
 use Rattle.slots.specs.Destination.{isParty}
 use Rattle.laws.specs.Booleans.{tests}
 use borrow.Author.Tests.{lt-ltb, ne-eqb}

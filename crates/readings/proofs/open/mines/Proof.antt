@@ -1,5 +1,5 @@
 -- The miner, and no test fails.
-use Rattle.readings.specs.Sight.{minesIn}
+use Rattle.readings.specs.Forms.Sight.{minesIn}
 use borrow.Author.Tests.{ne-eqb}
 use borrow.Author.Needs.{needs}
 use Rattle.readings.proofs.open.mines.Statement.{statement}

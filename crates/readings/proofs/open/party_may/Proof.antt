@@ -1,5 +1,5 @@
 -- By the kind.
-use Rattle.readings.specs.Sight.{partyMay}
+use Rattle.readings.specs.Forms.Sight.{partyMay}
 use borrow.Author.Tests.{ne-eqb}
 use borrow.Author.Needs.{needs}
 use Rattle.readings.proofs.open.party_may.Statement.{statement}

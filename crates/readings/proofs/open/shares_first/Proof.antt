@@ -1,5 +1,5 @@
 -- Not under open conduct; else allowed and new.
-use Rattle.readings.specs.Sight.{sharesFirst}
+use Rattle.readings.specs.Forms.Sight.{sharesFirst}
 use borrow.Author.Tests.{ne-eqb}
 use borrow.Author.Needs.{needs}
 use Rattle.readings.proofs.open.shares_first.Statement.{statement}

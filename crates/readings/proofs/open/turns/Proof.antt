@@ -1,5 +1,5 @@
 -- By the kind.
-use Rattle.readings.specs.Sight.{turnsIn}
+use Rattle.readings.specs.Forms.Sight.{turnsIn}
 use borrow.Author.Tests.{ne-eqb}
 use borrow.Author.Needs.{needs}
 use Rattle.readings.proofs.open.turns.Statement.{statement}

@@ -1,5 +1,5 @@
 -- Not confirmed, and its line meets the set.
-use Rattle.readings.specs.Report.{deadIn}
+use Rattle.readings.specs.Forms.Report.{deadIn}
 use borrow.Author.Needs.{needs}
 use Rattle.readings.proofs.report.dead_in.Statement.{statement}
 use Rattle.readings.proofs.report.dead_in.Tie as tie

@@ -1,5 +1,5 @@
 -- The confirmation's destination, or 255.
-use Rattle.readings.specs.Report.{payeeIn}
+use Rattle.readings.specs.Forms.Report.{payeeIn}
 use Rattle.laws.specs.Booleans.{tests}
 use borrow.Author.Needs.{needs}
 use Rattle.readings.proofs.report.payee_of.Statement.{statement}

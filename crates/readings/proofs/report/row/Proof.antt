@@ -1,5 +1,5 @@
 -- Field by field.
-use Rattle.readings.specs.Report.{rowIn}
+use Rattle.readings.specs.Forms.Report.{rowIn}
 use borrow.Author.Needs.{needs}
 use Rattle.readings.proofs.report.row.Statement.{statement}
 use Rattle.readings.proofs.report.row.Tie as tie

@@ -1,5 +1,5 @@
 -- The sum of its four parts.
-use Rattle.readings.specs.Report.{statusIn}
+use Rattle.readings.specs.Forms.Report.{statusIn}
 use borrow.Author.Needs.{needs}
 use Rattle.readings.proofs.report.status_in.Statement.{statement}
 use Rattle.readings.proofs.report.status_in.Tie as tie

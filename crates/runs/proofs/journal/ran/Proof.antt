@@ -1,6 +1,6 @@
 -- Refused before any step, or run.
 use mathlib.Core.Path.{sym, _∙_}
-use Rattle.runs.proofs.Calls.{call-fit, setup-size, journal-whole}
+use Rattle.runs.proofs.Calls.{call-fit, journal-whole}
 use Rattle.runs.proofs.Runs.{ran-refused, ran-allowed}
 use borrow.Author.Needs.{needs}
 use Rattle.runs.proofs.journal.ran.Statement.{statement}
@@ -21,7 +21,7 @@ returns c = c .ran-to .ensures ∙ ran-refused _ _ _ _ _ (c .before .before .bef
 run-from-requires : tie.Need-run-from-requires
 run-from-requires c κs =
     let h = sym (c .before .before .call-refusal .ensures) ∙ c .if1 .left in
-    (setup-size _ _ _ h, (call-fit _ _ _ h, journal-whole _ _ _ h .1))
+    (call-fit _ _ _ h, journal-whole _ _ _ h .1)
 
 returns-2 : tie.Need-returns-2
 returns-2 c = ran-allowed _ _ _ _ _ _ (c .before .before .before .call-refusal .ensures) (c .before .if1 .left) (c .before .before .start .ensures) (c .run-from .ensures)

@@ -23,10 +23,10 @@ mul-step-at c = search needs
 step-at-requires : tie.Need-step-at-requires Inv-loop μ-loop
 step-at-requires c κs =
     let p = c .before .before .before .before .before .pre in
-    (p .0, (p .1 .0, omega (arith, c .loop-test .taken)))
+    (p .0, omega (arith, c .loop-test .taken))
 
 ran-to-requires : tie.Need-ran-to-requires Inv-loop μ-loop
-ran-to-requires c κs = omega (arith, c .before .before .before .loop-test .taken, c .before .before .before .before .before .before .before .before .pre .1 .1)
+ran-to-requires c κs = omega (arith, c .before .before .before .loop-test .taken, c .before .before .before .before .before .before .before .before .pre .1)
 
 returns : tie.Need-returns Inv-loop μ-loop
 returns c = c .ran-to .ensures ∙ left-stopped _ _ _ _ _ _ _ (c .before .before .before .before .before .loop .inv .1) (omega (arith, c .before .before .before .before .loop-test .taken)) (c .before .before .before .step-at .ensures) (c .before .if1 .taken)
@@ -41,7 +41,7 @@ loop-again : tie.Need-loop-again Inv-loop μ-loop
 loop-again c = (omega (arith, c .before .before .before .before .loop-test .taken), left-on _ _ _ _ _ _ _ (c .before .before .before .before .before .loop .inv .1) (omega (arith, c .before .before .before .before .loop-test .taken)) (c .before .before .before .step-at .ensures) (c .before .if1 .left))
 
 ran-to-requires-2 : tie.Need-ran-to-requires-2 Inv-loop μ-loop
-ran-to-requires-2 c κs = omega (arith, c .before .loop .inv .0, c .before .before .before .before .before .pre .1 .1)
+ran-to-requires-2 c κs = omega (arith, c .before .loop .inv .0, c .before .before .before .before .before .pre .1)
 
 returns-2 : tie.Need-returns-2 Inv-loop μ-loop
 returns-2 c = c .ran-to2 .ensures ∙ left-ended _ _ _ _ _ _ (c .before .before .loop .inv .1) (omega (arith, c .before .loop-test .left))

@@ -1,5 +1,5 @@
 -- A rule for all transactions. Each transaction below t passes.
-use Rattle.sheet.specs.Check.{arrayRule}
+use Rattle.sheet.specs.Forms.Check.{arrayRule}
 use Rattle.laws.specs.Below.{allBelow, all-start, all-more, all-broken, all-done}
 use borrow.Author.Tests.{not-true, not-false}
 use mathlib.Core.Bool.{true}

@@ -1,5 +1,6 @@
 -- The first of the rules 5 to 8 that fails.
-use Rattle.sheet.specs.Check.{arrayRule, arrayTests}
+use Rattle.sheet.specs.Check.{arrayTests}
+use Rattle.sheet.specs.Forms.Check.{arrayRule}
 use Rattle.laws.specs.Failing.{none-left, fails, passes}
 use borrow.Author.Needs.{needs}
 use Rattle.sheet.proofs.check.array_refusal.Statement.{statement}

@@ -1,5 +1,5 @@
 -- A rule by its number.
-use Rattle.sheet.specs.Check.{arrayRule}
+use Rattle.sheet.specs.Forms.Check.{arrayRule}
 use Rattle.laws.specs.Booleans.{tests}
 use borrow.Author.Needs.{needs}
 use Rattle.sheet.proofs.check.array_rule.Statement.{statement}

@@ -1,6 +1,6 @@
 -- The parents of the members below k.
 use Rattle.sheet.proofs.ParentSets.{parents-start, parents-more, parents-done}
-use Rattle.sheet.specs.Parents.{Parents}
+use Rattle.sheet.specs.Forms.Parents.{Parents}
 use Rattle.laws.specs.Mask.{bit}
 use Prim.Native.Nat.{_≤_, _-_}
 use borrow.Author.Needs.{needs}

@@ -1,6 +1,6 @@
 -- None below k, the next of the set, is a child.
 use Rattle.slots.proofs.Children.{child-first, child-next, child-found}
-use Rattle.sheet.specs.Parents.{isParentBelow}
+use Rattle.sheet.specs.Forms.Parents.{isParentBelow}
 use Rattle.laws.specs.Below.{any-done}
 use Rattle.laws.specs.Mask.{bit}
 use mathlib.Core.Bool.{true, false}

@@ -1,5 +1,5 @@
 -- The one that is asked for.
-use Rattle.slots.specs.Conflict.{foundIn}
+use Rattle.slots.specs.Forms.Conflict.{foundIn}
 use borrow.Author.Needs.{needs}
 use Rattle.slots.proofs.conflict.found_in.Statement.{statement}
 use Rattle.slots.proofs.conflict.found_in.Tie as tie

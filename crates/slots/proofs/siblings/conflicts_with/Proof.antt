@@ -1,5 +1,5 @@
 -- The set of those below t.
-use Rattle.slots.specs.Conflict.{foundIn}
+use Rattle.slots.specs.Forms.Conflict.{foundIn}
 use Rattle.laws.specs.Sets.{setBelow, set-start, set-more, set-done}
 use Rattle.laws.specs.Mask.{bit}
 use mathlib.Core.Bool.{false}

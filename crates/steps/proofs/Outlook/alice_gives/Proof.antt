@@ -1,7 +1,7 @@
 -- Phase, signature, what Alice holds, and the time.
 use borrow.Author.Tests.{eq-eqb}
 use Rattle.laws.specs.Booleans.{tests}
-use Rattle.steps.specs.Conduct.{aliceGivesIn}
+use Rattle.steps.specs.Forms.Conduct.{aliceGivesIn}
 use borrow.Author.Needs.{needs}
 use Rattle.steps.proofs.Outlook.alice_gives.Statement.{statement}
 use Rattle.steps.proofs.Outlook.alice_gives.Tie as tie

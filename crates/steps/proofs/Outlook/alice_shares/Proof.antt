@@ -1,7 +1,7 @@
 -- Phase, transaction, refund_1, and the time.
 use borrow.Author.Tests.{eq-eqb, not-true, not-false}
 use Rattle.laws.specs.Booleans.{tests}
-use Rattle.steps.specs.Conduct.{aliceSharesIn}
+use Rattle.steps.specs.Forms.Conduct.{aliceSharesIn}
 use borrow.Author.Needs.{needs}
 use Rattle.steps.proofs.Outlook.alice_shares.Statement.{statement}
 use Rattle.steps.proofs.Outlook.alice_shares.Tie as tie

@@ -1,6 +1,6 @@
 -- Phase, signature, what Bob has for success, and the time.
 use Rattle.laws.specs.Booleans.{tests}
-use Rattle.steps.specs.Conduct.{bobGivesIn}
+use Rattle.steps.specs.Forms.Conduct.{bobGivesIn}
 use borrow.Author.Tests.{not-true, not-false}
 use borrow.Author.Needs.{needs}
 use Rattle.steps.proofs.Outlook.bob_gives.Statement.{statement}

@@ -1,6 +1,6 @@
 -- Open, or Alice's gift, or Bob's.
 use Rattle.laws.specs.Booleans.{tests}
-use Rattle.steps.specs.Conduct.{giveAllowedIn}
+use Rattle.steps.specs.Forms.Conduct.{giveAllowedIn}
 use mathlib.Core.Bool.{or-false}
 use borrow.Author.Needs.{needs}
 use Rattle.steps.proofs.Outlook.give_allowed.Statement.{statement}

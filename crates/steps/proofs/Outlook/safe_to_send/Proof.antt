@@ -1,6 +1,6 @@
 -- Not Alice, or refund_1, or the others.
 use Rattle.laws.specs.Booleans.{tests}
-use Rattle.steps.specs.Conduct.{safeToSendIn}
+use Rattle.steps.specs.Forms.Conduct.{safeToSendIn}
 use borrow.Author.Needs.{needs}
 use Rattle.steps.proofs.Outlook.safe_to_send.Statement.{statement}
 use Rattle.steps.proofs.Outlook.safe_to_send.Tie as tie

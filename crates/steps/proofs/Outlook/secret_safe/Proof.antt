@@ -1,6 +1,6 @@
 -- Not needed, or not known to Alice, or spend_B.
 use Rattle.laws.specs.Booleans.{tests}
-use Rattle.steps.specs.Conduct.{secretSafeIn}
+use Rattle.steps.specs.Forms.Conduct.{secretSafeIn}
 use borrow.Author.Tests.{not-true, not-false}
 use borrow.Author.Needs.{needs}
 use Rattle.steps.proofs.Outlook.secret_safe.Statement.{statement}

@@ -1,6 +1,6 @@
 -- Open, or in phase and, if careful, safe.
 use Rattle.laws.specs.Booleans.{tests}
-use Rattle.steps.specs.Conduct.{sendAllowedIn}
+use Rattle.steps.specs.Forms.Conduct.{sendAllowedIn}
 use borrow.Author.Tests.{not-true, not-false}
 use borrow.Author.Needs.{needs}
 use Rattle.steps.proofs.Outlook.send_allowed.Statement.{statement}

@@ -1,5 +1,5 @@
 -- Allowed, and not held back.
-use Rattle.steps.specs.Conduct.{sendHeldIn}
+use Rattle.steps.specs.Forms.Conduct.{sendHeldIn}
 use borrow.Author.Tests.{not-true, not-false}
 use borrow.Author.Needs.{needs}
 use Rattle.steps.proofs.Outlook.send_held.Statement.{statement}

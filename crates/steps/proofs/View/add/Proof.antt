@@ -1,5 +1,5 @@
 -- Each part joined.
-use Rattle.steps.specs.View.{viewWith}
+use Rattle.steps.specs.Forms.View.{viewWith}
 use Rattle.slots.specs.Slot.{standing}
 use borrow.Author.Needs.{needs}
 use Rattle.steps.proofs.View.add.Statement.{statement}

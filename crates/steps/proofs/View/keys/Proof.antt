@@ -1,6 +1,6 @@
 -- By party number.
 use Rattle.laws.specs.Booleans.{tests}
-use Rattle.steps.specs.View.{keysIn}
+use Rattle.steps.specs.Forms.View.{keysIn}
 use borrow.Author.Needs.{needs}
 use Rattle.steps.proofs.View.keys.Statement.{statement}
 use Rattle.steps.proofs.View.keys.Tie as tie

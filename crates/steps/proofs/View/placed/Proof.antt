@@ -1,6 +1,6 @@
 -- The union.
 use mathlib.Core.Path.{refl}
-use Rattle.steps.specs.View.{placedSet}
+use Rattle.steps.specs.Forms.View.{placedSet}
 use borrow.Author.Needs.{needs}
 use Rattle.steps.proofs.View.placed.Statement.{statement}
 use Rattle.steps.proofs.View.placed.Tie as tie

@@ -1,5 +1,5 @@
 -- Keys, shared secrets, and what is shared of the transaction.
-use Rattle.steps.specs.View.{senderIn}
+use Rattle.steps.specs.Forms.View.{senderIn}
 use borrow.Author.Needs.{needs}
 use Rattle.steps.proofs.View.sender.Statement.{statement}
 use Rattle.steps.proofs.View.sender.Tie as tie

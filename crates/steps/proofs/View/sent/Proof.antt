@@ -1,6 +1,6 @@
 -- The union.
 use mathlib.Core.Path.{refl}
-use Rattle.steps.specs.View.{sentSet}
+use Rattle.steps.specs.Forms.View.{sentSet}
 use borrow.Author.Needs.{needs}
 use Rattle.steps.proofs.View.sent.Statement.{statement}
 use Rattle.steps.proofs.View.sent.Tie as tie

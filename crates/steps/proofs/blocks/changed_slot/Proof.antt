@@ -1,5 +1,5 @@
 -- The one that is asked for.
-use Rattle.steps.specs.Blocks.{changedSlot}
+use Rattle.steps.specs.Forms.Blocks.{changedSlot}
 use borrow.Author.Needs.{needs}
 use Rattle.steps.proofs.blocks.changed_slot.Statement.{statement}
 use Rattle.steps.proofs.blocks.changed_slot.Tie as tie

@@ -1,6 +1,6 @@
 -- The slots below t, the next of the set, are done.
 use Rattle.steps.proofs.Kept.{changed-upto}
-use Rattle.steps.specs.Blocks.{changedSlot}
+use Rattle.steps.specs.Forms.Blocks.{changedSlot}
 use Rattle.laws.specs.Each.{rewriteFirst, rewrite-start, rewrite-again, rewrite-done}
 use lib.ListN.{length}
 use mathlib.Core.Path.{_≡_}

@@ -1,5 +1,5 @@
 -- In, out, or as it was.
-use Rattle.steps.specs.Blocks.{bumpedSlot}
+use Rattle.steps.specs.Forms.Blocks.{bumpedSlot}
 use Rattle.steps.proofs.Unmoved.{block-out}
 use Rattle.laws.specs.Mask.{bit}
 use Rattle.slots.specs.Ancestry.{inAncestry}

@@ -1,5 +1,5 @@
 -- The set of those below k.
-use Rattle.steps.specs.Blocks.{entersIn}
+use Rattle.steps.specs.Forms.Blocks.{entersIn}
 use Rattle.laws.specs.Sets.{setBelow, set-start, set-more, set-done}
 use mathlib.Core.Path.{_≡_}
 use Prim.Native.Nat.{_≤_, _-_}

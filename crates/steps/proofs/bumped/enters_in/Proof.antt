@@ -1,5 +1,5 @@
 -- In the pool, not in the block, of the line.
-use Rattle.steps.specs.Blocks.{entersIn}
+use Rattle.steps.specs.Forms.Blocks.{entersIn}
 use borrow.Author.Tests.{not-true, not-false}
 use borrow.Author.Needs.{needs}
 use Rattle.steps.proofs.bumped.enters_in.Statement.{statement}

@@ -1,5 +1,5 @@
 -- Both hold, or 13.
-use Rattle.steps.specs.Conduct.{conductTests}
+use Rattle.steps.specs.Forms.Conduct.{conductTests}
 use Rattle.laws.specs.Failing.{firstFailing}
 use borrow.Author.Tests.{not-true, not-false}
 use borrow.Author.Needs.{needs}

@@ -1,5 +1,5 @@
 -- A block entry is confirmed; any other slot stays.
-use Rattle.steps.specs.Blocks.{confirmEntry}
+use Rattle.steps.specs.Mined.{confirmEntry}
 use Rattle.slots.specs.Slot.{standing, entryTo}
 use borrow.Author.Tests.{lt-ltb}
 use native.Mathlib.Omega.{arith}

@@ -1,5 +1,5 @@
 -- Confirmed, and out of the pool where the line meets the set.
-use Rattle.steps.specs.Blocks.{minedSlot}
+use Rattle.steps.specs.Forms.Blocks.{minedSlot}
 use Rattle.steps.proofs.Unmoved.{pool-out}
 use Rattle.laws.specs.Mask.{bit}
 use mathlib.Core.Bool.{_||_, or-true}

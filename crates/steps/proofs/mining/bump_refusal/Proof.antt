@@ -1,5 +1,5 @@
 -- Owed, or 21.
-use Rattle.steps.specs.Mining.{bumpTestsIn}
+use Rattle.steps.specs.Forms.Mining.{bumpTestsIn}
 use Rattle.laws.specs.Failing.{none-left, fails, passes}
 use mathlib.Core.Path.{refl}
 use borrow.Author.Needs.{needs}

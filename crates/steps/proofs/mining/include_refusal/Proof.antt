@@ -1,6 +1,6 @@
 -- The tests in their order.
 use mathlib.Core.Path.{_≡_, sym, _∙_}
-use Rattle.steps.specs.Mining.{includeTestsIn}
+use Rattle.steps.specs.Forms.Mining.{includeTestsIn}
 use Rattle.slots.specs.Conflict.{noConflict}
 use Rattle.laws.specs.Failing.{none-left, fails, passes, fails-not, passes-not}
 use mathlib.Core.Path.{refl}

@@ -4,7 +4,7 @@ use Rattle.sheet.specs.Refusal.{stepBlocks}
 use mathlib.Core.Path.{_≡_}
 use mathlib.Core.List.{[], _∷_}
 use lib.Dec.{ltb}
-use Rattle.steps.specs.Mining.{mineTestsIn}
+use Rattle.steps.specs.Forms.Mining.{mineTestsIn}
 use Rattle.laws.specs.Failing.{none-left, fails, passes, fails-not, passes-not, firstFailing}
 use Rattle.laws.specs.Booleans.{tests}
 use mathlib.Core.Path.{refl}

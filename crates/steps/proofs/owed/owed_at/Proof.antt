@@ -1,5 +1,5 @@
 -- Waiting, outside the block, and at its deadline.
-use Rattle.steps.specs.Mining.{owedIn}
+use Rattle.steps.specs.Forms.Mining.{owedIn}
 use borrow.Author.Tests.{not-true, not-false}
 use borrow.Author.Needs.{needs}
 use Rattle.steps.proofs.owed.owed_at.Statement.{statement}

@@ -1,5 +1,5 @@
 -- Stealth, then the tests that both kinds share.
-use Rattle.steps.specs.Sending.{minerTestsIn}
+use Rattle.steps.specs.Forms.Sending.{minerTestsIn}
 use Rattle.laws.specs.Failing.{firstFailing}
 use Rattle.laws.specs.Booleans.{tests}
 use borrow.Author.Needs.{needs}

@@ -1,5 +1,5 @@
 -- A payee, and by kind 3 or by kind 4.
-use Rattle.steps.specs.Sending.{paysIn}
+use Rattle.steps.specs.Forms.Sending.{paysIn}
 use Rattle.laws.specs.Booleans.{tests}
 use borrow.Author.Tests.{not-true, not-false}
 use borrow.Author.Needs.{needs}

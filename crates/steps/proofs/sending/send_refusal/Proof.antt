@@ -1,5 +1,5 @@
 -- The tests in their order.
-use Rattle.steps.specs.Sending.{sendTestsIn}
+use Rattle.steps.specs.Forms.Sending.{sendTestsIn}
 use Rattle.slots.specs.Conflict.{noConflict}
 use Rattle.laws.specs.Failing.{none-left, fails, passes, fails-not, passes-not}
 use mathlib.Core.Path.{refl}

@@ -1,5 +1,5 @@
 -- The giver's bit, and not the receiver's.
-use Rattle.steps.specs.Sharing.{giveMetIn}
+use Rattle.steps.specs.Forms.Sharing.{giveMetIn}
 use borrow.Author.Needs.{needs}
 use Rattle.steps.proofs.sharing.give_met.Statement.{statement}
 use Rattle.steps.proofs.sharing.give_met.Tie as tie

@@ -1,5 +1,5 @@
 -- New, and not empty.
-use Rattle.steps.specs.Sharing.{shareMetIn}
+use Rattle.steps.specs.Forms.Sharing.{shareMetIn}
 use borrow.Author.Needs.{needs}
 use Rattle.steps.proofs.sharing.share_met.Statement.{statement}
 use Rattle.steps.proofs.sharing.share_met.Tie as tie

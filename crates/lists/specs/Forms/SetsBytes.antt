@@ -3,7 +3,7 @@
 use Prim.Native.Nat.{ℕ, _+_}
 use mathlib.Core.List.{List, _++_}
 use Rattle.slots.specs.Destination.{alice, bob, miner}
-use Rattle.output.specs.Emitted.{actorBytes, openCount}
+use Rattle.output.specs.Forms.Emitted.{actorBytes, openCount}
 use Rattle.queries.specs.declared.OpenSets.{OpenSets}
 
 -- ".. then Bob's in the part that follows, then the miner's"

@@ -16,7 +16,7 @@ use Rattle.slots.specs.Deadline.{deadline}
 use Rattle.slots.specs.Destination.{isPayee}
 use Rattle.slots.specs.Signatures.{signed}
 use Rattle.steps.specs.declared.View.{View}
-use Rattle.steps.specs.View.{sentSet, placedSet, senderIn}
+use Rattle.steps.specs.Forms.View.{sentSet, placedSet, senderIn}
 
 -- what kinds 3 and 4 share, against the set `there`, for a sender who has `have`; Slip 3: "The lock is now tested first."
 unfoldable pub sendTestsIn : Bool → List ℕ → ℕ → ℕ → ℕ → ℕ → ℕ → ℕ → List (ℕ × Bool)

@@ -7,7 +7,7 @@ use Rattle.laws.specs.Sets.{setBelow}
 use Rattle.sheet.specs.Field.{count}
 use Rattle.slots.specs.Slot.{sharedAny}
 use Rattle.steps.specs.declared.View.{View}
-use Rattle.steps.specs.Parent.{slotAbove, blockAbove}
+use Rattle.steps.specs.Forms.Parent.{slotAbove, blockAbove}
 use Rattle.position.specs.declared.Position.{Position}
 use Rattle.position.specs.Position.{slot, inPool, inBlock, isConfirmed}
 

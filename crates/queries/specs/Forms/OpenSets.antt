@@ -22,8 +22,8 @@ use Rattle.position.specs.Position.{slotCount}
 use Rattle.position.specs.FirstShares.{firstSharesMade}
 use Rattle.position.specs.Owed.{anyOwed}
 use Rattle.position.specs.Conduct.{isCareful, canPay}
-use Rattle.position.specs.Outlook.{outlook}
-use Rattle.position.specs.View.{viewBelow}
+use Rattle.position.specs.Forms.Outlook.{outlook}
+use Rattle.position.specs.Forms.View.{viewBelow}
 use Rattle.position.specs.StepRefusal.{stepRefusal}
 use Rattle.position.specs.Open.{kinds}
 

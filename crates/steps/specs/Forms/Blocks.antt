@@ -10,18 +10,11 @@ use Rattle.laws.specs.Booleans.{pick}
 use Rattle.laws.specs.Mask.{bit}
 use Rattle.sheet.specs.Field.{count}
 use Rattle.slots.specs.declared.Slot.{Slot}
-use Rattle.slots.specs.Slot.{emptySlot, standing, entryTo, withPool, withBlock, withConfirmed, withShared}
+use Rattle.slots.specs.Slot.{emptySlot, withPool, withBlock}
 use Rattle.slots.specs.Ancestry.{inAncestry}
-use Rattle.slots.specs.Signatures.{exposedMask}
 use Rattle.steps.specs.declared.View.{View}
 use Rattle.steps.specs.declared.Change.{Change}
-
--- "the block is confirmed and its entries shared as in 3": a block entry is confirmed in block b, and out of the block being filled
-unfoldable pub confirmEntry : List ℕ → ℕ → ℕ → Slot → Slot
-confirmEntry s b t x =
-    pick (standing (x .block))
-    (withBlock 0 (withConfirmed (x .block) b (withShared (entryTo (x .block)) (exposedMask s t) x)))
-    x
+use Rattle.steps.specs.Mined.{confirmEntry}
 
 -- confirmed in block b if it was in the block, out of the pool if it enters the chain or its line meets the set
 unfoldable pub minedSlot : List ℕ → ℕ → ℕ → ℕ → ℕ → Slot → Slot

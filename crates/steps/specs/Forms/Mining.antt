@@ -10,7 +10,7 @@ use Rattle.slots.specs.Conflict.{noConflict}
 use Rattle.slots.specs.Ancestry.{hasParent}
 use Rattle.slots.specs.Deadline.{deadline}
 use Rattle.steps.specs.declared.View.{View}
-use Rattle.steps.specs.View.{placedSet}
+use Rattle.steps.specs.Forms.View.{placedSet}
 
 -- "owed when a pool entry is outside the block and blocks mined + 1 is its deadline": with `since`, its parent's block
 unfoldable pub owedIn : List ℕ → ℕ → View → ℕ → ℕ → Bool

@@ -21,11 +21,11 @@ use Rattle.steps.specs.declared.Outlook.{Outlook}
 use Rattle.steps.specs.declared.Decoded.{Decoded}
 use Rattle.steps.specs.declared.Decoded.the-variants.{Read, Refused}
 use Rattle.steps.specs.Decode.{noTransaction}
-use Rattle.steps.specs.View.{keysIn}
-use Rattle.steps.specs.Conduct.{shareAllowedIn, giveAllowedIn, sendHeldIn, conductTests}
-use Rattle.steps.specs.Sharing.{shareMetIn, giveMetIn}
-use Rattle.steps.specs.Sending.{poolTestsIn, minerTestsIn}
-use Rattle.steps.specs.Mining.{owedIn, includeTestsIn, mineTestsIn, bumpTestsIn}
+use Rattle.steps.specs.Forms.View.{keysIn}
+use Rattle.steps.specs.Forms.Conduct.{shareAllowedIn, giveAllowedIn, sendHeldIn, conductTests}
+use Rattle.steps.specs.Forms.Sharing.{shareMetIn, giveMetIn}
+use Rattle.steps.specs.Forms.Sending.{poolTestsIn, minerTestsIn}
+use Rattle.steps.specs.Forms.Mining.{owedIn, includeTestsIn, mineTestsIn, bumpTestsIn}
 
 -- a share is new and not empty; of the first shares, 255: they are new
 unfoldable pub shareNewIn : List ℕ → Sight → Slot → ℕ → ℕ → ℕ → Bool

@@ -1,0 +1,4 @@
+pub mod View
+pub mod FirstShares
+pub mod Outlook
+pub mod Journal

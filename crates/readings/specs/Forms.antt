@@ -1,0 +1,3 @@
+pub mod Holder
+pub mod Report
+pub mod Sight

@@ -1,0 +1,4 @@
+pub mod Conflict
+pub mod Height
+pub mod Line
+pub mod Next
