@@ -1,5 +1,6 @@
 //! The four outward calls of each version, as functions that can be put in one another's place.
 
+use crate::fast::{ByValue, Lent};
 use crate::model::calls as model;
 use crate::random::Case;
 use crate::{engine, fast};
@@ -89,7 +90,18 @@ pub const MODEL: Calls = Calls {
 /// The plain, fast version.
 pub const FAST: Calls = Calls {
     check: fast::check,
-    run: fast::run,
-    list: fast::list,
-    report: fast::report,
+    run: fast::run::<Lent>,
+    list: fast::list::<Lent>,
+    report: fast::report::<Lent>,
 };
+
+/// The fast version with the position passed by value through one function for each kind of step.
+pub const BY_VALUE: Calls = Calls {
+    check: fast::check,
+    run: fast::run::<ByValue<true>>,
+    list: fast::list::<ByValue<true>>,
+    report: fast::report::<ByValue<true>>,
+};
+
+/// That form of a run without any test or effect: every step is accepted and moves nothing.
+pub const COPIES: fn(&[u8], &[u8], &[u8]) -> u32 = fast::run::<ByValue<false>>;

@@ -1,32 +1,49 @@
-//! The speed of the built library against the model and against the plain, fast version, all built for release, in one run.
-//! Every timed call gave the model's answer and output. No time is held to any bound.
+//! The speed of the built library against the model and against the plain, fast version in two forms, all built for
+//! release, in one run. Every timed call gave the model's answer and output. No time is held to any bound.
 //!
 //! Usage: cargo run --release --example bench
 
 mod clock;
 mod works;
 
-use clock::{accepted, measure, Buffer, Times};
+use clock::{measure, steps, Buffer, Times};
 use swap_tests::calls::Call;
-use swap_tests::random::{Case, MINE};
+use swap_tests::random::Case;
 
-/// A row of a table: what was timed, the three rates or times, and the ratios of the times.
-fn row(name: &str, values: [f64; 3], times: &Times) {
-    let [library, model, fast] = values;
-    let to_model = times.library / times.model;
-    let to_fast = times.library / times.fast;
-    println!(
-        "{name:<50} {library:>10.3} {model:>10.3} {fast:>10.3} {to_model:>10.3} {to_fast:>10.2}"
-    );
-}
+/// What the tables tell.
+const LEGEND: &str = "\
+(a) the model
+(b) the fast version: the position is lent to each step, which changes it in its place
+(c) the fast version by value: one function for each kind of step, not inlined, gets the position and hands it back
+floor: a run by (c) without any test or effect: the sheet read, and two copies of the position for each step
+lib/(a), lib/(b), lib/(c): the library's time as a ratio to each.
+Buffer kept: not cleared between calls. Buffer cleared: filled with zeros before each call, in the time.";
 
-/// The head of a table, with the unit of its values.
+/// The head of a table, with the unit of its times.
 fn head(title: &str, unit: &str) {
     println!("\n{title}");
-    println!(
-        "{unit:<50} {:>10} {:>10} {:>10} {:>10} {:>10}",
-        "library", "model", "fast", "lib/model", "lib/fast"
-    );
+    print!("{unit:<50}");
+    for name in ["library", "(a)", "(b)", "(c)", "floor"] {
+        print!(" {name:>10}");
+    }
+    println!(" {:>8} {:>8} {:>8}", "lib/(a)", "lib/(b)", "lib/(c)");
+}
+
+/// A row of a table: what was timed, the times of one of so many parts, and the library's as ratios to the others'.
+fn row(name: &str, times: &Times, parts: u32) {
+    let part = |time: f64| time / f64::from(parts);
+    print!("{name:<50} {:>10.1}", part(times.library));
+    for time in times.others {
+        print!(" {:>10.1}", part(time));
+    }
+    match times.floor {
+        Some(time) => print!(" {:>10.1}", part(time)),
+        None => print!(" {:>10}", "-"),
+    }
+    for time in times.others {
+        print!(" {:>8.2}", times.library / time);
+    }
+    println!();
 }
 
 /// The name of a call or of what is done to a buffer.
@@ -34,95 +51,69 @@ fn lower(named: impl std::fmt::Debug) -> String {
     format!("{named:?}").to_lowercase()
 }
 
-/// A value for each version, from the time of one call in nanoseconds.
-fn each(times: &Times, value: impl Fn(f64) -> f64) -> [f64; 3] {
-    [times.library, times.model, times.fast].map(value)
+/// The row of a run, by its steps.
+fn run_row(name: &str, case: &Case) {
+    let steps = steps(case);
+    let times = measure(Call::Run, case, Buffer::Kept);
+    row(&format!("{name}, {steps} steps"), &times, steps);
 }
 
-fn run_rates() {
-    head("run", "million steps per second");
-    let works = [
-        ("SASwap open, one swap", works::swap(0, 0)),
-        ("SASwap careful, one swap", works::swap(2, 0)),
-        (
-            "SASwap careful, swap and empty blocks",
-            works::swap(2, 4_096),
-        ),
-        ("chain of 32, no empty blocks", works::chain(32, 0)),
-        ("chain of 32", works::chain(32, 4_096)),
-        ("31 rivals", works::rivals(32, 4_096)),
-    ];
-    for (name, case) in works {
-        let steps = accepted(&case);
-        let times = measure(Call::Run, &case, Buffer::Kept);
-        let rates = each(&times, |time| f64::from(steps) / time * 1e3);
-        row(&format!("{name}, {steps} steps"), rates, &times);
-    }
+fn runs() {
+    head("run", "nanoseconds a step");
+    run_row("SASwap open, one swap", &works::swap(0, 0));
+    run_row("SASwap careful, one swap", &works::swap(2, 0));
+    run_row(
+        "SASwap careful, swap and empty blocks",
+        &works::swap(2, 4_096),
+    );
+    run_row("chain of 32, no empty blocks", &works::chain(32, 0));
+    run_row("chain of 32", &works::chain(32, 666));
+    run_row("chain of 32", &works::chain(32, 4_096));
+    run_row("31 rivals", &works::rivals(32, 4_096));
 }
 
-fn call_rates(call: Call) {
-    head(&lower(call), "thousand calls per second");
+fn calls(call: Call) {
+    head(&lower(call), "nanoseconds a call");
     let works = [
         ("SASwap careful", works::fresh(2)),
         ("SASwap careful", works::swap(2, 0)),
         ("SASwap careful", works::swap(2, 4_096)),
+        ("chain of 32", works::chain(32, 666)),
         ("chain of 32", works::chain(32, 4_096)),
         ("32 openings", works::openings()),
     ];
     for (name, case) in works {
-        let steps = accepted(&case);
+        let steps = steps(&case);
         for buffer in [Buffer::Kept, Buffer::Cleared] {
-            let times = measure(call, &case, buffer);
             let name = format!("{name}, {steps} steps, buffer {}", lower(buffer));
-            row(&name, each(&times, |time| 1e6 / time), &times);
+            row(&name, &measure(call, &case, buffer), 1);
         }
     }
 }
 
-fn check_rates() {
-    head("check", "thousand calls per second");
+fn checks() {
+    head("check", "nanoseconds a call");
     for (name, case) in [
         ("SASwap", works::fresh(0)),
-        ("chain of 32", works::chain(32, 1_024)),
+        ("chain of 32", works::chain(32, 0)),
     ] {
-        let times = measure(Call::Check, &case, Buffer::Kept);
-        row(name, each(&times, |time| 1e6 / time), &times);
+        row(name, &measure(Call::Check, &case, Buffer::Kept), 1);
     }
-}
-
-/// The case with so many steps in all; those that are added get 23.
-fn filled(mut case: Case, steps: usize) -> Case {
-    let missing = steps - case.2.len() / 4;
-    case.2.extend(MINE.repeat(missing));
-    case
 }
 
 fn growth_with_steps() {
-    head(
-        "run, by steps of the journal",
-        "nanoseconds per accepted step",
-    );
-    for steps in [1_024, 2_048, 4_096, 8_192, 12_000] {
-        let works = [
-            ("chain of 32", filled(works::chain(32, steps), steps)),
-            ("SASwap careful", works::swap(2, steps)),
-        ];
-        for (name, case) in works {
-            let accepted = accepted(&case);
-            let times = measure(Call::Run, &case, Buffer::Kept);
-            let name = format!("{name}, {steps} steps, {accepted} accepted");
-            row(
-                &name,
-                each(&times, |time| time / f64::from(accepted)),
-                &times,
-            );
-        }
+    head("run, by steps of the journal", "nanoseconds a step");
+    for steps in [512, 1_024, 2_048, 4_096, 8_192, 10_000] {
+        run_row("chain of 32", &works::chain(32, steps));
+    }
+    for steps in [512, 1_024, 2_048, 4_096, 8_192, 10_000] {
+        run_row("SASwap careful", &works::swap(2, steps));
     }
 }
 
 fn growth_with_transactions(shape: &str, work: fn(u8, usize) -> Case) {
     let title = format!("{shape}, by transactions");
-    head(&title, "nanoseconds per step, or per call without steps");
+    head(&title, "nanoseconds a step, or a call without steps");
     for count in [2, 4, 8, 16, 32] {
         growth(count, work(count, 1_024));
     }
@@ -130,30 +121,21 @@ fn growth_with_transactions(shape: &str, work: fn(u8, usize) -> Case) {
 
 /// A run of the journal, and the other calls on the same sheet without a step.
 fn growth(count: u8, case: Case) {
-    let steps = accepted(&case);
-    let times = measure(Call::Run, &case, Buffer::Kept);
-    let per_step = each(&times, |time| time / f64::from(steps));
-    row(
-        &format!("{count} transactions, run, {steps} steps"),
-        per_step,
-        &times,
-    );
+    run_row(&format!("{count} transactions, run"), &case);
     let (sheet, setup, _) = case;
     let empty = (sheet, setup, vec![]);
     for call in [Call::Run, Call::List, Call::Report] {
-        let times = measure(call, &empty, Buffer::Kept);
         let name = format!("{count} transactions, {}, 0 steps", lower(call));
-        row(&name, each(&times, |time| time), &times);
+        row(&name, &measure(call, &empty, Buffer::Kept), 1);
     }
 }
 
 fn main() {
-    println!("lib/model and lib/fast: the library's time as a ratio to the model's and to the fast version's.");
-    println!("Buffer kept: not cleared between calls. Buffer cleared: filled with zeros before each call, in the time.");
-    run_rates();
-    check_rates();
-    call_rates(Call::List);
-    call_rates(Call::Report);
+    println!("{LEGEND}");
+    runs();
+    checks();
+    calls(Call::List);
+    calls(Call::Report);
     growth_with_steps();
     growth_with_transactions("chain", works::chain);
     growth_with_transactions("rivals", works::rivals);

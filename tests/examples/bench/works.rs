@@ -17,8 +17,6 @@ const SWAP: [[u8; 4]; 10] = [
     [5, 2, 8, 2],
     MINE,
 ];
-/// The most blocks of a journal.
-const MOST_BLOCKS: usize = 10_000;
 
 /// The SASwap sheet at 3 blocks per day with an empty journal.
 pub fn fresh(conduct: u8) -> Case {
@@ -61,41 +59,35 @@ fn gives_and_shares(count: u8, paying: u8) -> Vec<[u8; 4]> {
     gives.chain(shares).collect()
 }
 
-/// A pool entry into a block of its own.
-fn confirm(t: u8) -> [[u8; 4]; 2] {
-    [[5, 2, t, 2], MINE]
-}
-
-/// So many transactions in a row, each the parent of the next, and a journal of so many steps. All wait in the pool; each
-/// block with a transaction in it empties the pool, so the others are sent again. Before each of these blocks some empty
-/// ones are mined, as many as the steps leave room for; without any, 32 transactions make 666 steps.
+/// So many transactions in a row, each the parent of the next, and a journal of so many steps: all gives and shares, then
+/// all transactions sent to the pool, then each mined in a block of its own, in turn included from the pool and handed to
+/// the miner. Before each of these blocks but the first some empty ones are mined while the rest of the chain waits in the
+/// pool, as many as the steps leave room for.
 ///
-/// No journal has 12,000 accepted steps, and this one has 10,634 at most. Beside 10,000 blocks there are 8 gives, 128
-/// shares, 32 entries into a block, since what a bump puts out of it cannot come back, and 528 sends to the pool, since
-/// a transaction is sent once between two blocks that are not empty and never again once it is confirmed.
+/// Without empty blocks 32 transactions make 170 steps, and no journal of this sheet has more: beside the blocks there are
+/// 8 gives, 66 shares, and of each transaction one send to the pool and one entry into a block, since it stays in the pool
+/// until it is mined. With 10,000 blocks these are 10,138 steps.
 pub fn chain(count: u8, steps: usize) -> Case {
     let row = |t: u8| match t {
         0 => [255, 0, 1, 0],
         t => [t - 1, if t + 1 == count { 3 } else { 0 }, 1, 0],
     };
     let rows = (0..count).map(|t| (row(t), [0, 0])).collect();
-    let send = |t: u8| [3, 0, t, if t + 1 == count { 0 } else { 2 }];
-    let rounds: Vec<Vec<[u8; 4]>> = (0..count).map(|t| (t..count).map(send).collect()).collect();
-    let first = gives_and_shares(count, count - 1);
-    let busy = first.len() + rounds.iter().map(|sends| sends.len() + 2).sum::<usize>();
-    let mut idle = steps.saturating_sub(busy).min(MOST_BLOCKS - rounds.len());
-    let mut journal = first;
-    for (t, sends) in rounds.into_iter().enumerate() {
-        journal.extend(sends);
-        // Empty blocks need the first transaction confirmed.
-        let blocks = if t == 0 {
-            0
-        } else {
-            idle / (usize::from(count) - t)
-        };
-        journal.extend(vec![MINE; blocks]);
+    let to = |t: u8| if t + 1 == count { 0 } else { 2 };
+    let mut journal = gives_and_shares(count, count - 1);
+    journal.extend((0..count).map(|t| [3, 0, t, to(t)]));
+    let enter = |t: u8| match t % 2 {
+        0 => [5, 2, t, 2],
+        _ => [4, 0, t, to(t)],
+    };
+    let busy = journal.len() + 2 * usize::from(count);
+    let mut idle = steps.saturating_sub(busy);
+    journal.extend([enter(0), MINE]);
+    for t in 1..count {
+        let blocks = idle / usize::from(count - t);
         idle -= blocks;
-        journal.extend(confirm(t as u8));
+        journal.extend(vec![MINE; blocks]);
+        journal.extend([enter(t), MINE]);
     }
     (sheet(255, 0, rows), vec![1, 0, 0, 1], journal.concat())
 }
@@ -110,9 +102,7 @@ pub fn rivals(count: u8, steps: usize) -> Case {
     };
     let rows = (0..count).map(row).collect();
     let mut journal = gives_and_shares(count, 1);
-    journal.push([3, 0, 0, 2]);
-    journal.extend(confirm(0));
-    journal.push([3, 0, 1, 0]);
+    journal.extend([[3, 0, 0, 2], [5, 2, 0, 2], MINE, [3, 0, 1, 0]]);
     journal.resize(steps, MINE);
     (sheet(255, 0, rows), vec![232, 3, 0, 1], journal.concat())
 }

@@ -1,54 +1,33 @@
 //! The four calls, each answering refusal × 65,536 + count.
 
 use super::contract::{check_sheet, Contract};
+use super::form::{Form, Ran};
 use super::open::Steps;
 use super::position::Position;
 use super::rows;
-use super::step;
 use super::{require, Checked};
 
 /// "over 65,536 bytes".
 const MOST_BYTES: usize = 65_536;
 
-/// What stands after the accepted steps of a journal.
-struct Outcome {
-    contract: Contract,
-    position: Position,
-    refusal: u32,
-    accepted: u32,
-}
-
-/// The journal played up to its first refused step, or the refusal before any step.
-fn play(sheet: &[u8], setup: &[u8], journal: &[u8]) -> Result<Outcome, u32> {
+/// The contract, and the journal played up to its first refused step, or the refusal before any step.
+fn play<F: Form>(sheet: &[u8], setup: &[u8], journal: &[u8]) -> Result<(Contract, Ran), u32> {
     let contract = Contract::read(sheet, setup)?;
-    require(
-        journal.len().is_multiple_of(4) && journal.len() <= MOST_BYTES,
-        24,
-    )?;
-    let mut position = Position::new(&contract);
-    let mut accepted = 0;
-    let mut refusal = 0;
-    for bytes in journal.chunks_exact(4) {
-        let bytes = [bytes[0], bytes[1], bytes[2], bytes[3]];
-        if let Err(number) = step::take(&contract, &mut position, bytes) {
-            refusal = number;
-            break;
-        }
-        accepted += 1;
-    }
-    Ok(Outcome {
-        contract,
-        position,
-        refusal,
-        accepted,
-    })
+    let (steps, rest) = journal.as_chunks();
+    require(rest.is_empty() && journal.len() <= MOST_BYTES, 24)?;
+    let ran = F::run(&contract, steps);
+    Ok((contract, ran))
 }
 
-/// The outcome of a journal that is accepted whole, or its refusal.
-fn play_whole(sheet: &[u8], setup: &[u8], journal: &[u8]) -> Result<Outcome, u32> {
-    let outcome = play(sheet, setup, journal)?;
-    require(outcome.refusal == 0, outcome.refusal)?;
-    Ok(outcome)
+/// The same of a journal that is accepted whole, or its refusal.
+fn play_whole<F: Form>(
+    sheet: &[u8],
+    setup: &[u8],
+    journal: &[u8],
+) -> Result<(Contract, Position), u32> {
+    let (contract, ran) = play::<F>(sheet, setup, journal)?;
+    require(ran.refusal == 0, ran.refusal)?;
+    Ok((contract, ran.position))
 }
 
 fn number(refusal: u32, count: u32) -> u32 {
@@ -65,24 +44,29 @@ pub fn check(sheet: &[u8]) -> u32 {
 }
 
 /// Runs a journal.
-pub fn run(sheet: &[u8], setup: &[u8], journal: &[u8]) -> u32 {
-    match play(sheet, setup, journal) {
-        Ok(outcome) => number(outcome.refusal, outcome.accepted),
+pub fn run<F: Form>(sheet: &[u8], setup: &[u8], journal: &[u8]) -> u32 {
+    match play::<F>(sheet, setup, journal) {
+        Ok((_, ran)) => number(ran.refusal, ran.accepted as u32),
         Err(refusal) => number(refusal, 0),
     }
 }
 
 /// Lists the open steps after a journal.
-pub fn list(sheet: &[u8], setup: &[u8], journal: &[u8], output: &mut [u8]) -> u32 {
-    match write_list(sheet, setup, journal, output) {
+pub fn list<F: Form>(sheet: &[u8], setup: &[u8], journal: &[u8], output: &mut [u8]) -> u32 {
+    match write_list::<F>(sheet, setup, journal, output) {
         Ok(count) => number(0, count),
         Err(refusal) => number(refusal, 0),
     }
 }
 
-fn write_list(sheet: &[u8], setup: &[u8], journal: &[u8], output: &mut [u8]) -> Result<u32, u32> {
-    let outcome = play_whole(sheet, setup, journal)?;
-    let steps = Steps::open(&outcome.contract, &outcome.position);
+fn write_list<F: Form>(
+    sheet: &[u8],
+    setup: &[u8],
+    journal: &[u8],
+    output: &mut [u8],
+) -> Result<u32, u32> {
+    let (contract, position) = play_whole::<F>(sheet, setup, journal)?;
+    let steps = Steps::open(&contract, &position);
     let bytes = steps.as_slice().as_flattened();
     let written = output.get_mut(..bytes.len()).ok_or(25u32)?;
     written.copy_from_slice(bytes);
@@ -90,14 +74,14 @@ fn write_list(sheet: &[u8], setup: &[u8], journal: &[u8], output: &mut [u8]) -> 
 }
 
 /// Reports the position after a journal.
-pub fn report(sheet: &[u8], setup: &[u8], journal: &[u8], output: &mut [u8]) -> u32 {
-    checked(write_report(sheet, setup, journal, output))
+pub fn report<F: Form>(sheet: &[u8], setup: &[u8], journal: &[u8], output: &mut [u8]) -> u32 {
+    checked(write_report::<F>(sheet, setup, journal, output))
 }
 
-fn write_report(sheet: &[u8], setup: &[u8], journal: &[u8], output: &mut [u8]) -> Checked {
-    let outcome = play_whole(sheet, setup, journal)?;
-    let length = rows::ROW * outcome.contract.count;
+fn write_report<F: Form>(sheet: &[u8], setup: &[u8], journal: &[u8], output: &mut [u8]) -> Checked {
+    let (contract, position) = play_whole::<F>(sheet, setup, journal)?;
+    let length = rows::ROW * contract.count;
     let part = output.get_mut(..length).ok_or(25u32)?;
-    rows::write(&outcome.contract, &outcome.position, part);
+    rows::write(&contract, &position, part);
     Ok(())
 }

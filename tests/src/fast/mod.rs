@@ -1,15 +1,18 @@
 //! The four calls of document 01 in plain Rust with masks and arrays: what the benchmark measures the library by. Each
-//! call answers the one number that C gets. The sheet is read once for each call.
+//! call answers the one number that C gets. The sheet is read once for each call. The steps are taken in one of two forms:
+//! the position is lent to them, or goes in and comes back by value.
 
 mod calls;
 mod conduct;
 mod contract;
+mod form;
 mod open;
 mod position;
 mod rows;
 mod step;
 
 pub use calls::{check, list, report, run};
+pub use form::{ByValue, Lent};
 
 /// The most transactions of a sheet.
 const MOST: usize = 32;

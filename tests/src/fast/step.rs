@@ -8,7 +8,9 @@ use super::{bits, require, Checked, ALICE, ALL, BOB, CONTRACT, MINER};
 /// "10,000 blocks mined".
 const MOST_BLOCKS: u32 = 10_000;
 
-/// Takes a step, or refuses it and leaves the position as it is.
+/// Takes a step, or refuses it and leaves the position as it is. It is inlined, so that where the kind is known only its
+/// own tests and effect remain.
+#[inline(always)]
 pub fn take(contract: &Contract, position: &mut Position, step: [u8; 4]) -> Checked {
     let [kind, party, t, to] = step;
     match kind {
@@ -34,6 +36,7 @@ fn is_payee(contract: &Contract, t: usize, party: u8) -> bool {
 
 // 1 Share.
 
+#[inline(always)]
 fn take_share(contract: &Contract, position: &mut Position, party: u8, t: u8, to: u8) -> Checked {
     require(is_party(party) && shares_to(contract, t, to), 11)?;
     check_share(contract, position, party, t, to)?;
@@ -80,6 +83,7 @@ fn share_set(contract: &Contract, position: &Position, party: u8, t: usize) -> u
 
 // 2 Give.
 
+#[inline(always)]
 fn take_give(contract: &Contract, position: &mut Position, party: u8, i: u8, to: u8) -> Checked {
     require(is_party(party) && is_party(to) && party != to, 11)?;
     require(i < contract.signatures, 11)?;
@@ -113,6 +117,7 @@ fn check_conduct(contract: &Contract, position: &Position, party: u8, t: usize) 
     require(sendable >> t & 1 == 1, 13)
 }
 
+#[inline(always)]
 fn take_send(contract: &Contract, position: &mut Position, party: u8, t: u8, to: u8) -> Checked {
     require(sends_to(contract, party, t, to), 11)?;
     let t = usize::from(t);
@@ -155,6 +160,7 @@ fn check_both(
     require(x.needs & !signatures == 0, 16)
 }
 
+#[inline(always)]
 fn take_hand_in(contract: &Contract, position: &mut Position, party: u8, t: u8, to: u8) -> Checked {
     require(sends_to(contract, party, t, to), 11)?;
     require(contract.stealth, 12)?;
@@ -181,6 +187,7 @@ pub fn check_hand_in(
 
 // 5 Include.
 
+#[inline(always)]
 fn take_include(contract: &Contract, position: &mut Position, party: u8, t: u8, to: u8) -> Checked {
     require(party == MINER && contract.has(t) && to == CONTRACT, 11)?;
     let t = usize::from(t);
@@ -202,6 +209,7 @@ pub fn check_include(contract: &Contract, position: &Position, t: usize, owed: b
 
 // 6 Mine.
 
+#[inline(always)]
 fn take_mine(contract: &Contract, position: &mut Position, party: u8, t: u8, to: u8) -> Checked {
     require(party == MINER && t == ALL && to == CONTRACT, 11)?;
     check_mine(position, position.any_owed(contract))?;
@@ -243,6 +251,7 @@ fn meeting(contract: &Contract, entries: u32, set: u32) -> u32 {
 
 // 7 Bump.
 
+#[inline(always)]
 fn take_bump(contract: &Contract, position: &mut Position, party: u8, t: u8, to: u8) -> Checked {
     require(party == MINER && contract.has(t) && to == CONTRACT, 11)?;
     let t = usize::from(t);
