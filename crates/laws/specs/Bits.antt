@@ -3,17 +3,17 @@
 use Prim.Native.Nat.{ℕ, zero, suc, _/_, _%_, _^_, _<_, _≤_}
 use native.Mathlib.Omega.{arith}
 use native.Mathlib.Nat.{zero-div, pow-le-pow-right, div-eq-of-lt}
-use mathlib.Core.Path.{_≡_, refl, sym, _∙_}
+use mathlib.Core.Path.{_≡_, refl, sym, ap, _∙_}
 use mathlib.Core.Logic.{_⊎_, inl, inr}
-use mathlib.Core.Bool.{true, false, not, _&&_, _||_}
+use mathlib.Core.Bool.{Bool, true, false, not, _&&_, _||_}
 use lib.Dec.{eqb}
 use lib.Bits.{bitAnd, bitOr, or-shr, and-shr, or-mod, and-mod}
 use borrow.Author.Tests.{ne-eqb}
 use Rattle.laws.specs.Booleans.{either, clash, or-parts}
-use Rattle.laws.specs.Below.{all-at}
+use Rattle.laws.specs.Below.{all-at, all-from}
 use Rattle.laws.specs.Mask.{bit, subset, unionBelow}
 
-digit : (n : ℕ) → n < 2 → (n ≡ 0) ⊎ (n ≡ 1)
+pub digit : (n : ℕ) → n < 2 → (n ≡ 0) ⊎ (n ≡ 1)
 digit zero h = inl refl
 digit (suc zero) h = inr refl
 digit (suc (suc n)) h = absurd (omega arith)
@@ -61,6 +61,15 @@ union-bit (suc n) f i h =
 pub subset-bit : (n a b : ℕ) → subset n a b ≡ true → (i : ℕ) → i < n → bit a i ≡ true → bit b i ≡ true
 unfolding subset
 subset-bit n a b h i l e = rw e at (all-at n (λ k. not (bit a k) || bit b k) h i l)
+
+implied : (x y : Bool) → x ≡ (x && y) → (not x || y) ≡ true
+implied true y h = sym h
+implied false y h = refl
+
+-- a mask that the whole leaves as it is is a subset
+pub and-subset : (n a b : ℕ) → bitAnd a b ≡ a → subset n a b ≡ true
+unfolding subset
+and-subset n a b h = all-from n (λ i. not (bit a i) || bit b i) (λ i l. implied (bit a i) (bit b i) (ap (λ (m : ℕ). bit m i) (sym h) ∙ bit-and a b i))
 
 -- a number of n bits has none from place n on
 pub bit-above : (m n k : ℕ) → m < 2 ^ n → n ≤ k → bit m k ≡ false

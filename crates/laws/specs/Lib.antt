@@ -18,3 +18,4 @@ pub mod All
 pub mod Wrote
 pub mod Sum
 pub mod Ones
+pub mod Unions

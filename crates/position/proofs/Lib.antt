@@ -16,3 +16,4 @@ pub mod FirstSets
 pub mod SharedNone
 pub mod ReportLengths
 pub mod Passing
+pub mod SeenAfter

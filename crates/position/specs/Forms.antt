@@ -2,3 +2,4 @@ pub mod View
 pub mod FirstShares
 pub mod Outlook
 pub mod Journal
+pub mod Seen

@@ -2,11 +2,13 @@
 use crate::Position;
 use crate::Stepped;
 use slots::Slot;
+use steps::View;
 ghost use Prim.Native.Nat.{_+_, _≤_};
 ghost use mathlib.Core.Path.{_≡_};
 ghost use lib.ListN.{length};
-ghost use Rattle.sheet.specs.Field.{byte};
+ghost use Rattle.sheet.specs.Field.{byte, count};
 ghost use Rattle.sheet.specs.Checked.{Fit};
+ghost use Rattle.position.specs.Forms.View.{viewBelow};
 ghost use Rattle.position.specs.Forms.Journal.{stepAt};
 ghost use Rattle.position.specs.Play.{step};
 ghost use Rattle.position.specs.Position.{start};
@@ -44,18 +46,38 @@ pub fn start(sheet: &[u8]) -> Position
     }
 }
 
-// The step that starts at byte i of any bytes: the refusal, and the position after it, whole, accepted or not.
-pub fn step_at(position: Position, sheet: &[u8], setup: &[u8], journal: &[u8], i: usize) -> Stepped
+// The step that starts at byte i of any bytes, where the view is the position's: the refusal, and the position after it, whole,
+// accepted or not.
+pub fn step_seen(
+    position: Position,
+    sheet: &[u8],
+    setup: &[u8],
+    view: View,
+    journal: &[u8],
+    i: usize,
+) -> Stepped
     requires { ⌜ Fit (now sheet) (now setup) ⌝ }
+    requires { ⌜ view ≡ viewBelow (count (now sheet)) position ⌝ }
     requires { ⌜ i + 4 ≤ length (now journal) ⌝ }
     ensures { λ r. ⌜ r ≡ step (now (sheet .entry)) (now (setup .entry)) position (stepAt (now (journal .entry)) i) ⌝ }
 {
     position.step(
         sheet,
         setup,
+        view,
         journal[i],
         journal[i + 1],
         journal[i + 2],
         journal[i + 3],
     )
+}
+
+// The same, with the view made here.
+pub fn step_at(position: Position, sheet: &[u8], setup: &[u8], journal: &[u8], i: usize) -> Stepped
+    requires { ⌜ Fit (now sheet) (now setup) ⌝ }
+    requires { ⌜ i + 4 ≤ length (now journal) ⌝ }
+    ensures { λ r. ⌜ r ≡ step (now (sheet .entry)) (now (setup .entry)) position (stepAt (now (journal .entry)) i) ⌝ }
+{
+    let view = position.view(sheet);
+    step_seen(position, sheet, setup, view, journal, i)
 }

@@ -12,6 +12,7 @@ pub mod journal;
 mod mined;
 mod owed;
 mod refusal;
+pub mod seen;
 pub mod step;
 
 use slots::Slot;

@@ -258,19 +258,18 @@ impl Position {
         self,
         sheet: &[u8],
         setup: &[u8],
+        view: View,
         kind: u8,
         party: u8,
         t: u8,
         destination: u8,
     ) -> Stepped
         requires { ⌜ Fit (now sheet) (now setup) ⌝ }
+        requires { ⌜ view ≡ viewBelow (count (now sheet)) self ⌝ }
         ensures { λ r. ⌜ r ≡ step (now (sheet .entry)) (now (setup .entry)) self (record { kind = kind; party = party; transaction = t; destination = destination }) ⌝ }
     {
         match decode::decode(sheet, setup, kind, party, t, destination) {
-            Decoded::Read(x) => {
-                let view = self.view(sheet);
-                self.take(sheet, setup, view, x)
-            }
+            Decoded::Read(x) => self.take(sheet, setup, view, x),
             Decoded::Refused => Stepped {
                 refusal: refusal::STEP_FIELD,
                 position: self,

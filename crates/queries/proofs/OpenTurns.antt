@@ -9,7 +9,7 @@ use lib.Dec.{eqb, leb}
 use lib.ListN.{length}
 use borrow.Author.Tests.{eqb-true, eqb-false, ne-eqb}
 use Rattle.laws.specs.Below.{allBelow, all-at}
-use Rattle.laws.specs.Bits.{bit-and}
+use Rattle.laws.specs.Bits.{bit-and, no-bit}
 use Rattle.laws.specs.Booleans.{pick, split, clash, and-parts, beq-same}
 use Rattle.laws.specs.Failing.{firstFailing}
 use Rattle.laws.specs.Mask.{bit}
@@ -196,3 +196,7 @@ module _ (s u : List ℕ) (p : Position) (k a d : ℕ) (fit : Fit s u) (few : d 
     next-turn t i f r b h e q y =
         set-more t (λ j. isOpenStep s u p k a j d) f r b e q y
         ∙ sym (set-upto i (t + 1) (λ j. isOpenStep s u p k a j d) (h .low) (λ j l o. turn-closed j (omega (arith, o, h .high)) (h .gap j l o)))
+
+-- the empty set has no next member
+pub none-next : (c n : ℕ) → c ≡ 0 → Next c 0 n n
+none-next c n e = record { low = omega arith; high = omega arith; gap = λ k l m. rw e (no-bit k); here = λ m. absurd (omega (arith, m)) }

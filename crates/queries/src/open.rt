@@ -129,6 +129,10 @@ fn open_set(
     if kind == 2 {
         return open::give_set(sheet, sight, actor, destination);
     }
+    let c = open::candidates(setup, sight, goes, kind, actor, destination);
+    if c == 0 {
+        return 0;
+    }
     sheet_set(
         position,
         sheet,

@@ -2,7 +2,8 @@
 use position::Position;
 use position::Ran;
 use position::journal::start;
-use position::journal::step_at;
+use position::journal::step_seen;
+use position::seen;
 use sheet::refusal;
 ghost use Prim.Native.Nat.{_<_, _≤_};
 ghost use mathlib.Core.Path.{_≡_};
@@ -59,17 +60,30 @@ pub fn run_from(from: Position, sheet: &[u8], setup: &[u8], journal: &[u8]) -> R
     ensures { λ r. ⌜ r ≡ runFrom (now (sheet .entry)) (now (setup .entry)) (journalSteps (now (journal .entry))) 0 from ⌝ }
 {
     let n = journal.len() / 4;
+    if n == 0 {
+        return ran_to(refusal::ACCEPTED, 0, from);
+    }
     let mut position = from;
+    let mut view = from.view(sheet);
     let mut k: usize = 0;
     while k < n {
-        let before = position;
-        let stepped = step_at(before, sheet, setup, journal, 4 * k);
+        let stepped = step_seen(position, sheet, setup, view, journal, 4 * k);
         if stepped.refusal != 0 {
-            return ran_to(stepped.refusal, k, before);
+            return ran_to(stepped.refusal, k, position);
         }
-        let next = stepped.position;
-        position = next;
+        position = stepped.position;
+        let kind = journal[4 * k];
+        let t = journal[4 * k + 2];
         k += 1;
+        if seen::changes_many(view, kind, t) {
+            let anew = position.view(sheet);
+            view = anew;
+            continue;
+        }
+        let at = seen::changed_place(kind, t);
+        let x = position.slots[at];
+        let after = view.after(at, x, position.mined, position.alice, position.bob);
+        view = after;
     }
     ran_to(refusal::ACCEPTED, k, position)
 }

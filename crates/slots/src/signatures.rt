@@ -40,18 +40,18 @@ fn all_at_hand(n: u8, need: u8, have: u8) -> bool
     true
 }
 
-// Whether what a sender has is enough for t.
+// Whether what a sender has is enough for t: the whole mask at once, and where that fails each signature.
 pub fn signed(sheet: &[u8], have: u8, t: usize) -> bool
     requires { ⌜ Sized (now sheet) ⌝ }
     requires { ⌜ signatures (now sheet) ≤ 8 ⌝ }
     requires { ⌜ t < count (now sheet) ⌝ }
     ensures { λ r. ⌜ r ≡ signed (now (sheet .entry)) have t ⌝ }
 {
-    all_at_hand(
-        sheet::field::signatures(sheet),
-        sheet::field::required(sheet, t),
-        have,
-    )
+    let need = sheet::field::required(sheet, t);
+    if need & have == need {
+        return true;
+    }
+    all_at_hand(sheet::field::signatures(sheet), need, have)
 }
 
 // Keys held, shared secrets, and what is shared for the same transaction and destination.

@@ -1,7 +1,7 @@
 // The steps as bytes, and what each kind of step reads and changes: over the sheet, a view of the position and single slots.
 ghost use Prim.Native.Nat.{_<_};
 ghost use mathlib.Core.Path.{_≡_};
-ghost use Rattle.steps.specs.Forms.View.{viewWith};
+ghost use Rattle.steps.specs.Forms.View.{viewWith, viewAfter};
 
 pub mod blocks;
 pub mod bumped;
@@ -75,6 +75,23 @@ impl View {
             shared: self.shared | x.shared_any(),
             alice: self.alice,
             bob: self.bob,
+        }
+    }
+
+    // The view after a step that changed no other slot than k's, which is x then, nor took an entry away.
+    pub fn after(self, k: usize, x: Slot, mined: u16, alice: u8, bob: u8) -> View
+        requires { ⌜ k < 32 ⌝ }
+        ensures { λ r. ⌜ r ≡ viewAfter self k x mined alice bob ⌝ }
+    {
+        let w = self.add(k, x);
+        View {
+            pool: w.pool,
+            block: w.block,
+            confirmed: w.confirmed,
+            mined,
+            shared: w.shared,
+            alice,
+            bob,
         }
     }
 }

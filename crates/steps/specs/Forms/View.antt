@@ -26,6 +26,19 @@ viewWith v k x =
       bob = v .bob;
     }
 
+-- after a step that changed no other slot than k's, which is x then, nor took an entry away: with the blocks mined and the keys held then
+unfoldable pub viewAfter : View → ℕ → Slot → ℕ → ℕ → ℕ → View
+viewAfter v k x mined alice bob =
+    record {
+      pool = joined (v .pool) (standing (x .pool)) k;
+      block = joined (v .block) (standing (x .block)) k;
+      confirmed = joined (v .confirmed) (ltb 0 (x .height)) k;
+      mined = mined;
+      shared = bitOr (v .shared) (sharedAny x);
+      alice = alice;
+      bob = bob;
+    }
+
 -- "in pool or confirmed"
 unfoldable pub sentSet : View → ℕ
 sentSet v = bitOr (v .pool) (v .confirmed)

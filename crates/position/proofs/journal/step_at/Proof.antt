@@ -1,47 +1,16 @@
--- The four bytes from place i on.
-use Rattle.position.specs.Forms.Journal.{stepAt}
+-- The view, then the step.
 use borrow.Author.Needs.{needs}
 use Rattle.position.proofs.journal.step_at.Statement.{statement}
 use Rattle.position.proofs.journal.step_at.Tie as tie
 
-shared-slice-read-step : tie.Need-shared-slice-read-step
-shared-slice-read-step c = search needs
+view-requires : tie.Need-view-requires
+view-requires c κs = search needs
 
-add-step : tie.Need-add-step
-add-step c = search needs
-
-shared-slice-read-step-2 : tie.Need-shared-slice-read-step-2
-shared-slice-read-step-2 c = search needs
-
-add-step-2 : tie.Need-add-step-2
-add-step-2 c = search needs
-
-shared-slice-read-step-3 : tie.Need-shared-slice-read-step-3
-shared-slice-read-step-3 c = search needs
-
-add-step-3 : tie.Need-add-step-3
-add-step-3 c = search needs
-
-shared-slice-read-step-4 : tie.Need-shared-slice-read-step-4
-shared-slice-read-step-4 c = search needs
-
-step-requires : tie.Need-step-requires
-step-requires c κs = search needs
+step-seen-requires : tie.Need-step-seen-requires
+step-seen-requires c κs = search needs
 
 returns : tie.Need-returns
-unfolding stepAt
-returns c = c .step .ensures
+returns c = c .step-seen .ensures
 
 pub step-at-spec : {M : Type 1} → statement M
-step-at-spec =
-    tie.close
-    (tie.spec
-    shared-slice-read-step
-    add-step
-    shared-slice-read-step-2
-    add-step-2
-    shared-slice-read-step-3
-    add-step-3
-    shared-slice-read-step-4
-    step-requires
-    returns)
+step-at-spec = tie.close (tie.spec view-requires step-seen-requires returns)

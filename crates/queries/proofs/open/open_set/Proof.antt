@@ -1,6 +1,7 @@
--- None can stand, or the signatures, or the transactions of the sheet.
+-- None can stand, or the signatures, or none is tested, or the transactions of the sheet.
 use Rattle.queries.proofs.OpenReach.{set-none, set-sheet, set-given}
-use mathlib.Core.Path.{sym, _∙_}
+use Rattle.queries.proofs.OpenTurns.{first-turn, none-next}
+use mathlib.Core.Path.{refl, sym, _∙_}
 use borrow.Author.Tests.{not-false}
 use borrow.Author.Needs.{needs}
 use Rattle.queries.proofs.open.open_set.Statement.{statement}
@@ -18,12 +19,24 @@ give-set-requires c κs = search needs
 returns-2 : tie.Need-returns-2
 returns-2 c = set-given _ _ _ _ _ _ _ _ _ (c .before .before .before .before .before .before .pre .0) (c .before .before .before .before .before .before .pre .0 .checked .signatures-few) (c .before .before .before .before .before .before .pre .1 .0) (c .before .before .before .may-stand .ensures) (c .before .before .if1 .left) (c .before .before .before .before .before .before .pre .1 .1 .1) (c .before .if2 .taken) (c .give-set .ensures)
 
-sheet-set-requires : tie.Need-sheet-set-requires
-sheet-set-requires c κs = (c .before .before .before .before .before .pre .0, ((c .before .before .before .before .before .pre .1 .0), ((c .before .before .before .before .before .pre .1 .1 .0), (sym (c .before .before .may-stand .ensures) ∙ not-false _ (c .before .if1 .left), (c .if2 .left, (c .before .before .before .before .before .pre .1 .1 .1))))))
+candidates-requires : tie.Need-candidates-requires
+candidates-requires c κs = search needs
 
 returns-3 : tie.Need-returns-3
-returns-3 c = set-sheet _ _ _ _ _ _ _ (c .before .before .before .before .before .before .pre .0 .checked .sized .few) (c .before .if2 .left) (c .sheet-set .ensures)
+returns-3 c =
+    let p = c .before .before .before .before .before .before .before .pre in
+    let other = c .before .before .if2 .left in
+    set-sheet _ _ _ _ _ _ _ (p .0 .checked .sized .few) other
+    (first-turn _ _ _ _ _ _ (p .0) (p .1 .1 .1) (sym (c .before .before .before .before .may-stand .ensures) ∙ not-false _ (c .before .before .before .if1 .left)) other _ _ _ _ (p .1 .0) (p .1 .1 .0) (c .before .candidates .ensures) refl _ (none-next _ _ (c .if3 .taken)))
+
+sheet-set-requires : tie.Need-sheet-set-requires
+sheet-set-requires c κs =
+    let p = c .before .before .before .before .before .before .before .pre in
+    (p .0, (p .1 .0, (p .1 .1 .0, (sym (c .before .before .before .before .may-stand .ensures) ∙ not-false _ (c .before .before .before .if1 .left), (c .before .before .if2 .left, p .1 .1 .1)))))
+
+returns-4 : tie.Need-returns-4
+returns-4 c = set-sheet _ _ _ _ _ _ _ (c .before .before .before .before .before .before .before .before .pre .0 .checked .sized .few) (c .before .before .before .if2 .left) (c .sheet-set .ensures)
 
 pub open-set-spec : {M : Type 1} → statement M
 open-set-spec =
-    tie.close (tie.spec may-stand-requires returns give-set-requires returns-2 sheet-set-requires returns-3)
+    tie.close (tie.spec may-stand-requires returns give-set-requires returns-2 candidates-requires returns-3 sheet-set-requires returns-4)
