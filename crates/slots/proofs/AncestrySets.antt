@@ -8,6 +8,8 @@ use mathlib.Core.List.{List}
 use lib.Dec.{ltb}
 use borrow.Author.Tests.{ltb-true}
 use Rattle.laws.specs.Booleans.{pick, split}
+use Rattle.laws.specs.Mask.{bit}
+use Rattle.laws.specs.Bits.{no-bit}
 use Rattle.laws.specs.Climb.{climb-step}
 use Rattle.sheet.specs.Field.{parent}
 use Rattle.slots.specs.Ancestry.{inAncestry}
@@ -31,3 +33,17 @@ same-up s a b (suc n) t l h =
 -- two sets with the same members up to t
 pub inAncestry-same : (s : List ℕ) (a b : ℕ → Bool) (t : ℕ) → ((k : ℕ) → k ≤ t → a k ≡ b k) → inAncestry s a t ≡ inAncestry s b t
 inAncestry-same s a b t h = same-up s a b (suc t) t (omega arith) h
+
+none-up : (s : List ℕ) (p : ℕ → Bool) (n t : ℕ) → t < n → ((k : ℕ) → p k ≡ false) → inAncestry s p t ≡ false
+none-up s p zero t l h = absurd (omega arith)
+none-up s p (suc n) t l h =
+    rw (line-step s p t, h t)
+    (split (ltb (parent s t) t)
+    (λ e.
+    let m = ltb-true (parent s t) t e in
+    rw e (none-up s p n (parent s t) (omega arith) h))
+    (λ e. rw e))
+
+-- no line meets the empty set
+pub line-none : (s : List ℕ) (t : ℕ) → inAncestry s (bit 0) t ≡ false
+line-none s t = none-up s (bit 0) (suc t) t (omega arith) no-bit

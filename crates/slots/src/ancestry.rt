@@ -13,6 +13,9 @@ pub fn in_ancestry(sheet: &[u8], there: u32, t: usize) -> bool
     requires { ⌜ t < count (now sheet) ⌝ }
     ensures { λ r. ⌜ r ≡ inAncestry (now (sheet .entry)) (bit there) t ⌝ }
 {
+    if there == 0 {
+        return false;
+    }
     if set::has(there, t) {
         return true;
     }

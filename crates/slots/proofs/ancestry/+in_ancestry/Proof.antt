@@ -1,6 +1,6 @@
 -- A transaction's line: itself, and the line of its parent, which is a lower number.
 use Rattle.laws.specs.Booleans.{tests}
-use Rattle.slots.proofs.AncestrySets.{line-step}
+use Rattle.slots.proofs.AncestrySets.{line-step, line-none}
 use borrow.Author.Needs.{needs}
 use Prim.Native.Nat.{ℕ, _<_}
 use borrow.Fn.Kinds.{In}
@@ -24,6 +24,16 @@ abbrev in-ancestry-below : ℕ → In 1 in-ancestry-kinds.ps
 in-ancestry-below t =
     and 1 in-ancestry-kinds.ps (falls 1 in-ancestry-kinds.ps _<_ μ-in-ancestry t) in-ancestry.Pre
 
+in-ancestry-returns : (t : ℕ) → in-ancestry-lts.Need-returns (
+  has-reads.Asked,
+  has-reads.Learnt,
+  parent-reads.Asked,
+  parent-reads.Learnt,
+  in-ancestry-below t,
+  in-ancestry.Post,
+) (in-ancestry-at t) in-ancestry.Post
+in-ancestry-returns t c = rw (c .if1 .taken, line-none)
+
 in-ancestry-has-requires : (t : ℕ) → in-ancestry-lts.Need-has-requires (
   has-reads.Asked,
   has-reads.Learnt,
@@ -34,7 +44,7 @@ in-ancestry-has-requires : (t : ℕ) → in-ancestry-lts.Need-has-requires (
 ) (in-ancestry-at t) in-ancestry.Post
 in-ancestry-has-requires t c κs = search needs
 
-in-ancestry-returns : (t : ℕ) → in-ancestry-lts.Need-returns (
+in-ancestry-returns-2 : (t : ℕ) → in-ancestry-lts.Need-returns-2 (
   has-reads.Asked,
   has-reads.Learnt,
   parent-reads.Asked,
@@ -42,7 +52,7 @@ in-ancestry-returns : (t : ℕ) → in-ancestry-lts.Need-returns (
   in-ancestry-below t,
   in-ancestry.Post,
 ) (in-ancestry-at t) in-ancestry.Post
-in-ancestry-returns t c = rw line-step (simp (← (c .before .has .ensures), c .if1 .taken))
+in-ancestry-returns-2 t c = rw line-step (simp (← (c .before .has .ensures), c .if2 .taken))
 
 in-ancestry-parent-requires : (t : ℕ) → in-ancestry-lts.Need-parent-requires (
   has-reads.Asked,
@@ -64,18 +74,6 @@ in-ancestry-in-ancestry-requires : (t : ℕ) → in-ancestry-lts.Need-in-ancestr
 ) (in-ancestry-at t) in-ancestry.Post
 in-ancestry-in-ancestry-requires t c κs = search needs
 
-in-ancestry-returns-2 : (t : ℕ) → in-ancestry-lts.Need-returns-2 (
-  has-reads.Asked,
-  has-reads.Learnt,
-  parent-reads.Asked,
-  parent-reads.Learnt,
-  in-ancestry-below t,
-  in-ancestry.Post,
-) (in-ancestry-at t) in-ancestry.Post
-in-ancestry-returns-2 t c =
-    rw line-step
-    (simp (tests, ← (c .before .before .before .before .has .ensures), c .before .before .before .if1 .left, ← (c .before .before .parent .ensures .is), c .before .if2 .taken, ← (c .in-ancestry .ensures)))
-
 in-ancestry-returns-3 : (t : ℕ) → in-ancestry-lts.Need-returns-3 (
   has-reads.Asked,
   has-reads.Learnt,
@@ -86,7 +84,19 @@ in-ancestry-returns-3 : (t : ℕ) → in-ancestry-lts.Need-returns-3 (
 ) (in-ancestry-at t) in-ancestry.Post
 in-ancestry-returns-3 t c =
     rw line-step
-    (simp (tests, ← (c .before .before .before .has .ensures), c .before .before .if1 .left, ← (c .before .parent .ensures .is), c .if2 .left))
+    (simp (tests, ← (c .before .before .before .before .has .ensures), c .before .before .before .if2 .left, ← (c .before .before .parent .ensures .is), c .before .if3 .taken, ← (c .in-ancestry .ensures)))
+
+in-ancestry-returns-4 : (t : ℕ) → in-ancestry-lts.Need-returns-4 (
+  has-reads.Asked,
+  has-reads.Learnt,
+  parent-reads.Asked,
+  parent-reads.Learnt,
+  in-ancestry-below t,
+  in-ancestry.Post,
+) (in-ancestry-at t) in-ancestry.Post
+in-ancestry-returns-4 t c =
+    rw line-step
+    (simp (tests, ← (c .before .before .before .has .ensures), c .before .before .if2 .left, ← (c .before .parent .ensures .is), c .if3 .left))
 
 pub +in-ancestry-spec : {M : Type 1} → statement M
 +in-ancestry-spec = close μ-in-ancestry λ t. in-ancestry-lts.spec (
@@ -99,9 +109,10 @@ pub +in-ancestry-spec : {M : Type 1} → statement M
 )
     (in-ancestry-at t)
     in-ancestry.Post
-    (in-ancestry-has-requires t)
     (in-ancestry-returns t)
+    (in-ancestry-has-requires t)
+    (in-ancestry-returns-2 t)
     (in-ancestry-parent-requires t)
     (in-ancestry-in-ancestry-requires t)
-    (in-ancestry-returns-2 t)
     (in-ancestry-returns-3 t)
+    (in-ancestry-returns-4 t)
