@@ -1,3 +1,4 @@
 pub mod Lengths
 pub mod Three
 pub mod Examples
+pub mod Numbers

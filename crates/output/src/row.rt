@@ -7,7 +7,7 @@ ghost use Rattle.laws.specs.Over.{over};
 ghost use Rattle.output.specs.Forms.Row.{rowBytes};
 
 // The four bytes of a number, the lowest first.
-fn write_number(out: &mut [u8], x: u32)
+pub fn write_number(out: &mut [u8], x: u32)
     requires { ⌜ 4 ≤ length (now out) ⌝ }
     ensures { λ _. ⌜ now (out .exit) ≡ over (bytesOf 4 x) (now (out .entry)) ⌝ }
 {

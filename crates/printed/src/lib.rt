@@ -1,10 +1,10 @@
 // The numbers that the program swapreport prints.
+use output::number::number;
 use runs::journal;
 ghost use Prim.Native.Nat.{suc, _+_, _*_, _≤_};
 ghost use mathlib.Core.Path.{_≡_};
 ghost use mathlib.Core.List.{[], _∷_};
 ghost use lib.ListN.{length, getD};
-ghost use Rattle.laws.specs.Little.{numberAt};
 ghost use Rattle.readings.specs.Reported.{reportedLine};
 ghost use Rattle.position.specs.Printed.{printed};
 
@@ -48,23 +48,6 @@ pub fn first_line(sheet: &[u8], setup: &[u8], journal: &[u8]) -> First
         blocks: position.mined as u32,
         lines: sheet::field::count(sheet),
     }
-}
-
-// A byte as a wider number.
-fn wide(x: u8) -> u32
-    ensures { λ r. ⌜ r ≡ x ⌝ }
-    ensures { λ r. ⌜ r ≤ 255 ⌝ }
-{
-    x as u32
-}
-
-// The number in the four bytes from place i on.
-fn number(bytes: &[u8], i: usize) -> u32
-    requires { ⌜ i + 4 ≤ length (now bytes) ⌝ }
-    ensures { λ r. ⌜ r ≡ numberAt 4 (now (bytes .entry)) i ⌝ }
-{
-    wide(bytes[i])
-        + 256 * (wide(bytes[i + 1]) + 256 * (wide(bytes[i + 2]) + 256 * wide(bytes[i + 3])))
 }
 
 // The line of transaction t, read from a report.

@@ -48,15 +48,15 @@ module _ (s u j : List ℕ) where
   unfolding sheetRefusal callTests
   by-sheet a e n = e ∙ sym (failed-append (sheetTests s) (setupTests s u ++ journalTests) (λ z. n (e ∙ z)))
 
-  pub by-setup : (a b : ℕ) → a ≡ sheetRefusal s → a ≡ 0 → b ≡ setupRefusal s u → (b ≡ 0 → ⊥) → b ≡ firstFailing (callTests s u j)
+  pub by-setup : (b : ℕ) → sheetRefusal s ≡ 0 → b ≡ setupRefusal s u → (b ≡ 0 → ⊥) → b ≡ firstFailing (callTests s u j)
   unfolding setupRefusal
-  by-setup a b e z f n = f ∙ sym (failed-append (setupTests s u) journalTests (λ y. n (f ∙ y))) ∙ sym (after-sheet (sym e ∙ z))
+  by-setup b h f n = f ∙ sym (failed-append (setupTests s u) journalTests (λ y. n (f ∙ y))) ∙ sym (after-sheet h)
 
-  pub by-journal : (a b : ℕ) (r : Bool) → a ≡ sheetRefusal s → a ≡ 0 → b ≡ setupRefusal s u → b ≡ 0 → r ≡ journalRight j → not r ≡ true → 24 ≡ firstFailing (callTests s u j)
-  by-journal a b r e z f y g n = fails 24 (journalRight j) r [] g n ∙ sym (after-setup (sym e ∙ z) (sym f ∙ y))
+  pub by-journal : (b : ℕ) (r : Bool) → sheetRefusal s ≡ 0 → b ≡ setupRefusal s u → b ≡ 0 → r ≡ journalRight j → not r ≡ true → 24 ≡ firstFailing (callTests s u j)
+  by-journal b r h f y g n = fails 24 (journalRight j) r [] g n ∙ sym (after-setup h (sym f ∙ y))
 
-  pub by-none : (a b : ℕ) (r : Bool) → a ≡ sheetRefusal s → a ≡ 0 → b ≡ setupRefusal s u → b ≡ 0 → r ≡ journalRight j → not r ≡ false → 0 ≡ firstFailing (callTests s u j)
-  by-none a b r e z f y g n = passes 24 0 (journalRight j) r [] g n none-left ∙ sym (after-setup (sym e ∙ z) (sym f ∙ y))
+  pub by-none : (b : ℕ) (r : Bool) → sheetRefusal s ≡ 0 → b ≡ setupRefusal s u → b ≡ 0 → r ≡ journalRight j → not r ≡ false → 0 ≡ firstFailing (callTests s u j)
+  by-none b r h f y g n = passes 24 0 (journalRight j) r [] g n none-left ∙ sym (after-setup h (sym f ∙ y))
 
   module _ (h : firstFailing (callTests s u j) ≡ 0) where
     pub sheet-passes : sheetRefusal s ≡ 0

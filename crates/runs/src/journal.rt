@@ -9,6 +9,8 @@ ghost use Prim.Native.Nat.{_<_, _≤_};
 ghost use mathlib.Core.Path.{_≡_};
 ghost use lib.ListN.{length};
 ghost use Rattle.laws.specs.Failing.{firstFailing};
+ghost use Rattle.sheet.specs.Refusal.{accepted};
+ghost use Rattle.sheet.specs.Check.{sheetRefusal};
 ghost use Rattle.sheet.specs.Checked.{Fit};
 ghost use Rattle.position.specs.Play.{journalSteps, runFrom, journalRight, callTests, run};
 
@@ -22,14 +24,11 @@ fn journal_right(journal: &[u8]) -> bool
     journal.len() <= 65536
 }
 
-// The checks before any step: 1 to 10 and 24.
+// The checks before any step, on a sheet that passed its own: 9, 10 and 24.
 fn call_refusal(sheet: &[u8], setup: &[u8], journal: &[u8]) -> u32
+    requires { ⌜ sheetRefusal (now sheet) ≡ accepted ⌝ }
     ensures { λ r. ⌜ r ≡ firstFailing (callTests (now (sheet .entry)) (now (setup .entry)) (now (journal .entry))) ⌝ }
 {
-    let of_sheet = sheet::check::sheet_refusal(sheet);
-    if of_sheet != 0 {
-        return of_sheet;
-    }
     let of_setup = sheet::setup::setup_refusal(sheet, setup);
     if of_setup != 0 {
         return of_setup;
@@ -88,8 +87,9 @@ pub fn run_from(from: Position, sheet: &[u8], setup: &[u8], journal: &[u8]) -> R
     ran_to(refusal::ACCEPTED, k, position)
 }
 
-// The run of a journal from the empty journal's position, after the checks.
-pub fn ran(sheet: &[u8], setup: &[u8], journal: &[u8]) -> Ran
+// The run of a journal from the empty journal's position, after the other checks, on a sheet that passed its own.
+pub fn ran_checked(sheet: &[u8], setup: &[u8], journal: &[u8]) -> Ran
+    requires { ⌜ sheetRefusal (now sheet) ≡ accepted ⌝ }
     ensures { λ r. ⌜ r ≡ run (now (sheet .entry)) (now (setup .entry)) (now (journal .entry)) ⌝ }
 {
     let refusal = call_refusal(sheet, setup, journal);
@@ -98,4 +98,15 @@ pub fn ran(sheet: &[u8], setup: &[u8], journal: &[u8]) -> Ran
         return ran_to(refusal, 0, position);
     }
     run_from(position, sheet, setup, journal)
+}
+
+// The run of a journal from the empty journal's position, after all checks.
+pub fn ran(sheet: &[u8], setup: &[u8], journal: &[u8]) -> Ran
+    ensures { λ r. ⌜ r ≡ run (now (sheet .entry)) (now (setup .entry)) (now (journal .entry)) ⌝ }
+{
+    let of_sheet = sheet::check::sheet_refusal(sheet);
+    if of_sheet != 0 {
+        return ran_to(of_sheet, 0, start(sheet));
+    }
+    ran_checked(sheet, setup, journal)
 }

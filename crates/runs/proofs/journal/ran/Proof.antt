@@ -1,13 +1,13 @@
--- Refused before any step, or run.
+-- Refused with the sheet, or run.
 use mathlib.Core.Path.{sym, _∙_}
-use Rattle.runs.proofs.Calls.{call-fit, journal-whole}
-use Rattle.runs.proofs.Runs.{ran-refused, ran-allowed}
+use Rattle.runs.proofs.Calls.{by-sheet}
+use Rattle.runs.proofs.Runs.{ran-refused}
 use borrow.Author.Needs.{needs}
 use Rattle.runs.proofs.journal.ran.Statement.{statement}
 use Rattle.runs.proofs.journal.ran.Tie as tie
 
-call-refusal-requires : tie.Need-call-refusal-requires
-call-refusal-requires c κs = search needs
+sheet-refusal-requires : tie.Need-sheet-refusal-requires
+sheet-refusal-requires c κs = search needs
 
 start-requires : tie.Need-start-requires
 start-requires c κs = search needs
@@ -16,15 +16,13 @@ ran-to-requires : tie.Need-ran-to-requires
 ran-to-requires c κs = search needs
 
 returns : tie.Need-returns
-returns c = c .ran-to .ensures ∙ ran-refused _ _ _ _ _ (c .before .before .before .call-refusal .ensures) (c .before .if1 .taken) (c .before .before .start .ensures)
+returns c = c .ran-to .ensures ∙ ran-refused _ _ _ _ _ (by-sheet _ _ _ _ (c .before .before .before .sheet-refusal .ensures) (c .before .before .if1 .taken)) (c .before .before .if1 .taken) (c .before .start .ensures)
 
-run-from-requires : tie.Need-run-from-requires
-run-from-requires c κs =
-    let h = sym (c .before .before .call-refusal .ensures) ∙ c .if1 .left in
-    (call-fit _ _ _ h, journal-whole _ _ _ h .1)
+ran-checked-requires : tie.Need-ran-checked-requires
+ran-checked-requires c κs = sym (c .before .sheet-refusal .ensures) ∙ c .if1 .left
 
 returns-2 : tie.Need-returns-2
-returns-2 c = ran-allowed _ _ _ _ _ _ (c .before .before .before .call-refusal .ensures) (c .before .if1 .left) (c .before .before .start .ensures) (c .run-from .ensures)
+returns-2 c = c .ran-checked .ensures
 
 pub ran-spec : {M : Type 1} → statement M
-ran-spec = tie.close (tie.spec call-refusal-requires start-requires ran-to-requires returns run-from-requires returns-2)
+ran-spec = tie.close (tie.spec sheet-refusal-requires start-requires ran-to-requires returns ran-checked-requires returns-2)

@@ -1,8 +1,8 @@
 -- Four bytes, little-endian.
-use Rattle.printed.proofs.Lines.{number-parts}
+use Rattle.output.proofs.Numbers.{number-parts}
 use borrow.Author.Needs.{needs}
-use Rattle.printed.proofs.number.Statement.{statement}
-use Rattle.printed.proofs.number.Tie as tie
+use Rattle.output.proofs.number.number.Statement.{statement}
+use Rattle.output.proofs.number.number.Tie as tie
 
 shared-slice-read-wide : tie.Need-shared-slice-read-wide
 shared-slice-read-wide c = search needs
