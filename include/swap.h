@@ -48,7 +48,7 @@ enum swap_refusal {
     SWAP_STEP_EMPTY_BLOCK = 22, /* empty block too soon */
     SWAP_STEP_BLOCKS = 23,      /* 10,000 blocks mined */
     SWAP_JOURNAL_LENGTH = 24,   /* journal not a multiple of 4, or over 65,536 bytes */
-    SWAP_BUFFER_SHORT = 25      /* buffer too short for list or report */
+    SWAP_BUFFER_SHORT = 25,     /* buffer too short for what is written */
 };
 
 /* The two parts of an answer. */

@@ -1,8 +1,8 @@
 //! The reference model, one file for each idea of document 01. In its order:
 //! sheet, setup, heights, report (holders and payouts), ledger, position, step,
 //! conduct, journal, open, calls, swapreport; slips, document 02's changes of
-//! them; claims, what demand 3 says of them; and faults, rules that the claims
-//! fail without.
+//! them; claims, what demand 3 says of them; faults, rules that the claims
+//! fail without; and a file for each further call.
 
 pub mod calls;
 pub mod claims;
