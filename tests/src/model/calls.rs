@@ -4,7 +4,7 @@
 use super::journal::{self, Course};
 use super::setup::{self, Setup};
 use super::sheet::{self, Sheet};
-use super::{open, report as rows};
+use super::{open, outage, report as rows};
 
 /// The answer of run: "the number (0 if none) and steps accepted, with the rest
 /// of the journal as a part of the caller's bytes, starting at the refused step,
@@ -174,5 +174,40 @@ pub fn report_number(sheet: &[u8], setup: &[u8], journal: &[u8], output: &mut [u
 
 /// The same where these are the rows.
 pub fn report_answer(output: &mut [u8], rows: &[u8]) -> u32 {
+    number(write(output, rows), 0)
+}
+
+/// The bytes of the outage call after a journal, or its refusal.
+pub fn outage_bytes(
+    sheet: &[u8],
+    setup: &[u8],
+    journal: &[u8],
+    blocks: u32,
+) -> Result<Vec<u8>, u32> {
+    let Outcome {
+        sheet,
+        setup,
+        course,
+        ..
+    } = accepted(sheet, setup, journal)?;
+    Ok(outage::bytes(&sheet, &setup, &course.position, blocks))
+}
+
+/// The number that C gets from outage: "the report's refusals and order, 25 last; count 0".
+pub fn outage_number(
+    sheet: &[u8],
+    setup: &[u8],
+    journal: &[u8],
+    blocks: u32,
+    output: &mut [u8],
+) -> u32 {
+    match outage_bytes(sheet, setup, journal, blocks) {
+        Err(refusal) => number(refusal, 0),
+        Ok(rows) => outage_answer(output, &rows),
+    }
+}
+
+/// The same where these are the rows.
+pub fn outage_answer(output: &mut [u8], rows: &[u8]) -> u32 {
     number(write(output, rows), 0)
 }

@@ -12,6 +12,7 @@ pub mod heights;
 pub mod journal;
 pub mod ledger;
 pub mod open;
+pub mod outage;
 pub mod position;
 pub mod report;
 pub mod setup;
