@@ -3,6 +3,7 @@ pub mod Waiting
 pub mod MinedBlock
 pub mod BumpedBlock
 pub mod EachKind
+pub mod Standing
 pub mod SoundSteps
 pub mod PoolLeft
 pub mod Coins

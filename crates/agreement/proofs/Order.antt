@@ -29,7 +29,7 @@ use Rattle.agreement.proofs.EachKind.{wide}
 use Rattle.agreement.proofs.Confirming.{StepConfirms, nothing, the-block, step-confirms, entries-taken, entries-refused}
 
 -- two lists in order, each entry of the first before each of the second
-order-append : {P Q : Entry → Type 0} → ((x y : Entry) → P x → Q y → before x y ≡ true) → {a b : List Entry} → All P a → All Q b → inOrder a ≡ true → inOrder b ≡ true → inOrder (a ++ b) ≡ true
+pub order-append : {P Q : Entry → Type 0} → ((x y : Entry) → P x → Q y → before x y ≡ true) → {a b : List Entry} → All P a → All Q b → inOrder a ≡ true → inOrder b ≡ true → inOrder (a ++ b) ≡ true
 unfolding inOrder
 order-append f empty r h k = k
 order-append f (also p empty) empty h k = refl
@@ -39,7 +39,7 @@ order-append f (also {x = x} p (also {x = y} {l = l} q t)) r h k =
     rw (w .0) (order-append f (also q t) r (w .1) k)
 
 -- an entry of the block after m, of a number below n
-record InBlock (m n : ℕ) (e : Entry) : Type 0 where
+pub record InBlock (m n : ℕ) (e : Entry) : Type 0 where
   pub block : e .block ≡ m + 1
   pub number : e .transaction < n
 
@@ -85,7 +85,7 @@ module _ (s : List ℕ) (p : Position) where
   rows-order zero = refl
   rows-order (suc n) = order-append (by-number (p .mined) n) (rows-in n) (row-in n) (rows-order n) (row-order n)
 
-  block-in : All (InBlock (p .mined) (count s)) (blockEntries s p)
+  pub block-in : All (InBlock (p .mined) (count s)) (blockEntries s p)
   unfolding blockEntries
   block-in = rows-in (count s)
 

@@ -3,29 +3,28 @@
 use Prim.Native.Nat.{ℕ, _+_, _≤_, _<_}
 use native.Mathlib.Omega.{arith}
 use mathlib.Core.Path.{_≡_}
+use mathlib.Core.Logic.{inr}
 use mathlib.Core.Bool.{true, false}
 use mathlib.Core.List.{List}
 use lib.ListN.{length}
-use borrow.Author.Tests.{eq-eqb}
-use Rattle.laws.specs.Booleans.{split, either, clash}
-use Rattle.laws.specs.Below.{any-none}
+use Rattle.laws.specs.Booleans.{split, either}
 use Rattle.sheet.specs.Field.{count, parent}
 use Rattle.sheet.specs.Checked.{Checked}
 use Rattle.slots.specs.declared.Step.{Step}
 use Rattle.slots.specs.Conflict.{conflict}
 use Rattle.slots.specs.Ancestry.{meetsOther}
-use Rattle.slots.proofs.Conflicts.{conflict-self, conflict-sym}
-use Rattle.slots.proofs.Ancestors.{Above, here, up, above-le, other-find}
+use Rattle.slots.proofs.Conflicts.{conflict-self}
+use Rattle.slots.proofs.Ancestors.{other-find}
 use Rattle.position.specs.declared.Position.{Position}
 use Rattle.position.specs.Position.{inPool, inBlock, blockOf, deadlineIn}
 use Rattle.steps.specs.Decode.{fieldsRight}
-use Rattle.position.specs.Owed.{waiting, owed, anyOwed}
+use Rattle.position.specs.Owed.{anyOwed}
 use Rattle.position.specs.StepRefusal.{stepRefusal}
 use Rattle.position.specs.Effect.{leavesPool, afterMine, effect}
 use Rattle.moves.proofs.AfterBlocks.{mine-blocks, mine-pool, mine-mined}
 use Rattle.moves.proofs.Quiet.{Quiet, lasting}
 use Rattle.agreement.proofs.Sound.{Sound}
-use Rattle.agreement.proofs.BumpedBlock.{settled-up}
+use Rattle.agreement.proofs.Standing.{met-at, not-owed}
 
 pub data Fate (s u : List ℕ) (p q : Position) (t : ℕ) : Type 0 where
   same : inPool q t ≡ true → q .mined ≡ p .mined → Fate s u p q t
@@ -45,14 +44,6 @@ module _ (s u : List ℕ) (ok : Checked s) (p : Position) (g : Sound s u p) wher
   few : count s ≤ length (p .slots)
   few = omega (arith, g .sized, ok .sized .few)
 
-  -- below a confirmed parent, a line meets a rival of a block entry at its own transaction alone
-  met-at : {x t : ℕ} → Above s x t → t < count s → 0 < blockOf p (parent s t) → (k : ℕ) → k < count s → conflict s k x ≡ true
-      → inBlock p k ≡ true → conflict s k t ≡ true
-  met-at here l c k n h b = h
-  met-at {x} (up a r) l c k n h b =
-      let free = g .block .free k x n (omega (arith, above-le r)) b (conflict-sym s k x h) in
-      absurd (omega (arith, settled-up ok (g .settled) r (omega arith) c))
-
   mined-block : (k : ℕ) → inBlock p k ≡ true → 0 < blockOf (afterMine s p) k
   mined-block k b = rw (mine-blocks s p few (g .beyond), b) (omega arith)
 
@@ -60,11 +51,6 @@ module _ (s u : List ℕ) (ok : Checked s) (p : Position) (g : Sound s u p) wher
   mined-kept t l c =
       rw (mine-blocks s p few (g .beyond))
       (split (inBlock p t) (λ b. absurd (omega (arith, g .block .free t t l l b (conflict-self s t)))) (λ b. rw b))
-
-  not-owed : anyOwed s u p ≡ false → (t : ℕ) → t < count s → inPool p t ≡ true → inBlock p t ≡ false → p .mined + 1 ≡ deadlineIn s u p t → ⊥
-  unfolding anyOwed owed waiting
-  not-owed none t l i b e =
-      clash {b = owed s u p t} (rw (i, b, eq-eqb (p .mined + 1) (deadlineIn s u p t) e)) (any-none (count s) (owed s u p) none t l)
 
   mined-fate : anyOwed s u p ≡ false → (t : ℕ) → t < count s → 0 < blockOf p (parent s t) → inPool p t ≡ true → Fate s u p (afterMine s p) t
   unfolding leavesPool
@@ -75,8 +61,8 @@ module _ (s u : List ℕ) (ok : Checked s) (p : Position) (g : Sound s u p) wher
       split (meetsOther s (inBlock p) t)
       (λ h.
       let w = other-find s (inBlock p) t h in
-      ousted (w .1) (w .3) (met-at (w .2) l c (w .1) (w .3) (w .4) (w .5)) (w .5) (mined-block (w .1) (w .5)))
-      (λ h. waits (rw (mine-pool s p few (g .beyond), i, b, h)) (mine-mined s p few (g .beyond)) (not-owed none t l i b)))
+      ousted (w .1) (w .3) (met-at s u ok p g (w .2) l (inr c) (w .1) (w .3) (w .4) (w .5)) (w .5) (mined-block (w .1) (w .5)))
+      (λ h. waits (rw (mine-pool s p few (g .beyond), i, b, h)) (mine-mined s p few (g .beyond)) (not-owed s u p none t l i b)))
 
   lasts-mine : anyOwed s u p ≡ false → Lasts s u p (afterMine s p)
   lasts-mine none = record { time = omega (arith, mine-mined s p few (g .beyond)); confirmed = mined-kept; pool = mined-fate none }
