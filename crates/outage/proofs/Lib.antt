@@ -1,0 +1,14 @@
+pub mod Least
+pub mod Locks
+pub mod Chain
+pub mod Sandwich
+pub mod Play
+pub mod Between
+pub mod Pool
+pub mod Entries
+pub mod Reach
+pub mod Overtake
+pub mod Verdicts
+pub mod Read
+pub mod Examples
+pub mod Theorems

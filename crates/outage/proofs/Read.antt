@@ -1,0 +1,98 @@
+-- The byte that a caller reads is the verdict on the position that the journal leads to.
+-- Assumes nothing.
+use Prim.Native.Nat.{ℕ, zero, suc, _+_, _*_, _≤_, _<_}
+use native.Mathlib.Omega.{arith}
+use native.Mathlib.Nat.{not-suc-le-zero, le-of-suc-le-suc, add-zero}
+use mathlib.Core.Path.{_≡_, refl, sym, ap, _∙_}
+use mathlib.Core.List.{List, [], _∷_}
+use lib.Dec.{eqb, ltb}
+use lib.ListN.{length, getD}
+use borrow.Author.Tests.{eqb-true, eqb-false, eq-eqb, ltb-true, ltb-false}
+use Rattle.laws.specs.Booleans.{split, clash}
+use Rattle.laws.specs.Failing.{firstFailing}
+use Rattle.laws.specs.Gather.{gather-at}
+use Rattle.laws.specs.Over.{over}
+use Rattle.sheet.specs.Refusal.{accepted}
+use Rattle.sheet.specs.Field.{byte, count}
+use Rattle.sheet.specs.Check.{sheetRefusal}
+use Rattle.sheet.specs.Setup.{setupRefusal}
+use Rattle.position.specs.declared.Position.{Position}
+use Rattle.position.specs.declared.Ran.{Ran}
+use Rattle.position.specs.Position.{start}
+use Rattle.position.specs.Play.{FourBytes, journalSteps, step, runFrom, callTests, run, play}
+use Rattle.position.specs.Answers.{Written}
+use Rattle.moves.proofs.Journals.{play-next}
+use Rattle.runs.proofs.Runs.{run-next, run-stops, run-ends, run-allowed, run-refused}
+use Rattle.runs.proofs.Calls.{sheet-passes, setup-passes}
+use Rattle.outages.specs.Verdict.{verdict, outageRow, outageBytes}
+use Rattle.outages.specs.Answer.{outageAnswer}
+use Rattle.outages.proofs.RowLengths.{row-length, rows-length}
+use Rattle.outages.proofs.OutageAnswers.{outage-refused, outage-short, outage-whole}
+
+-- an element of the front is what was written there
+getD-over : (w l : List ℕ) (i : ℕ) → i < length w → length w ≤ length l → getD (over w l) i 0 ≡ getD w i 0
+unfolding over
+getD-over [] l i h f = absurd (not-suc-le-zero h)
+getD-over (x ∷ w) [] i h f = absurd (not-suc-le-zero f)
+getD-over (x ∷ w) (y ∷ l) zero h f = refl
+getD-over (x ∷ w) (y ∷ l) (suc i) h f = getD-over w l i (le-of-suc-le-suc h) (le-of-suc-le-suc f)
+
+-- a run that refuses nothing plays all its steps
+run-plays : (s u : List ℕ) (bs : List FourBytes) (c : ℕ) (p : Position) → runFrom s u bs c p .refusal ≡ accepted → runFrom s u bs c p .position ≡ play s u bs p
+unfolding play
+run-plays s u [] c p z = rw (run-ends s u c p)
+run-plays s u (b ∷ bs) c p z =
+    split (eqb (step s u p b .refusal) accepted)
+    (λ y. rw (run-next s u b bs c p y, play-next s u b bs p) (run-plays s u bs (c + 1) (step s u p b .position) (rw (run-next s u b bs c p y) at z)))
+    (λ y. clash (eq-eqb (step s u p b .refusal) accepted (rw (run-stops s u b bs c p y) at z)) y)
+
+module _ (s u j : List ℕ) (blocks : ℕ) (out : List ℕ) (a : outageAnswer s u j blocks out .refusal ≡ accepted) where
+  abbrev ran : Ran
+  ran = run s u j
+
+  pub run-taken : ran .refusal ≡ accepted
+  run-taken =
+      split (eqb (ran .refusal) accepted)
+      (λ y. eqb-true (ran .refusal) accepted y)
+      (λ y.
+      let n = eqb-false (ran .refusal) accepted y in
+      absurd (n (ap (λ (w : Written). w .refusal) (sym (outage-refused s u j ran refl blocks out n)) ∙ a)))
+
+  room : 10 * count s ≤ length out
+  room =
+      split (ltb (length out) (10 * count s))
+      (λ y.
+      let w = ap (λ (w : Written). w .refusal) (outage-short s u j ran refl blocks out run-taken (ltb-true (length out) (10 * count s) y)) in
+      absurd (omega (arith, w, a)))
+      (λ y. ltb-false (length out) (10 * count s) y)
+
+  pub verdict-read : (t : ℕ) → t < count s → byte (outageAnswer s u j blocks out .buffer) (10 * t) ≡ verdict s u (ran .position) blocks t
+  unfolding outageBytes outageRow
+  verdict-read t l =
+      let bytes = outageBytes s u (ran .position) blocks in
+      let n = rows-length s u (ran .position) blocks in
+      let r = room in
+      ap (λ (w : Written). byte (w .buffer) (10 * t)) (outage-whole s u j ran refl blocks out run-taken room)
+      ∙ getD-over bytes out (10 * t) (omega arith) (omega arith)
+      ∙ ap (λ i. getD bytes i 0) (sym (add-zero (10 * t)))
+      ∙ gather-at (outageRow s u (ran .position) blocks) 10 (row-length s u (ran .position) blocks) (count s) t 0 0 l (omega arith)
+
+  -- the checks before any step passed
+  calls : firstFailing (callTests s u j) ≡ 0
+  calls =
+      split (eqb (firstFailing (callTests s u j)) 0)
+      (λ y. eqb-true (firstFailing (callTests s u j)) 0 y)
+      (λ y.
+      let n = eqb-false (firstFailing (callTests s u j)) 0 y in
+      absurd (n (ap (λ (r : Ran). r .refusal) (sym (run-refused s u j n)) ∙ run-taken)))
+
+  pub sheet-right : sheetRefusal s ≡ accepted
+  sheet-right = sheet-passes s u j calls
+
+  pub setup-right : setupRefusal s u ≡ accepted
+  setup-right = setup-passes s u j calls
+
+  pub position-played : ran .position ≡ play s u (journalSteps j) (start s)
+  position-played =
+      let e = run-allowed s u j calls in
+      rw e (run-plays s u (journalSteps j) 0 (start s) (rw e at run-taken))

@@ -1,0 +1,53 @@
+-- Refused with the run, too short a buffer, or the rows.
+use Rattle.runs.proofs.Runs.{ran-fit}
+use Rattle.outages.proofs.OutageAnswers.{outage-refused, outage-short, outage-whole, answered}
+use mathlib.Core.Path.{_∙_}
+use native.Mathlib.Omega.{arith}
+use borrow.Author.Needs.{needs}
+use Rattle.outages.proofs.outage.Statement.{statement}
+use Rattle.outages.proofs.outage.Tie as tie
+
+ran-requires : tie.Need-ran-requires
+ran-requires c κs = search needs
+
+returns : tie.Need-returns
+returns c =
+    let a = c .before .before .before .before .before .before .before .args in
+    answered _ _ (outage-refused (a .sheet .now) (a .setup .now) (a .journal .now) _ (c .before .before .ran .ensures) (a .blocks) (a .out .now) (c .if1 .taken))
+
+count-requires : tie.Need-count-requires
+count-requires c κs =
+    let h = ran-fit _ _ _ _ (c .before .before .ran .ensures) (c .if1 .left) .checked .sized in
+    omega (arith, h .head, h .size)
+
+mul-if2 : tie.Need-mul-if2
+mul-if2 c = search needs
+
+returns-2 : tie.Need-returns-2
+returns-2 c =
+    let a = c .before .before .before .before .before .before .before .before .before .args in
+    answered _ _
+    (outage-short (a .sheet .now) (a .setup .now) (a .journal .now) _ (c .before .before .before .before .ran .ensures) (a .blocks) (a .out .now)
+    (c .before .before .if1 .left)
+    (omega (arith, c .if2 .taken, c .before .count .ensures .is)))
+
+write-rows-requires : tie.Need-write-rows-requires
+write-rows-requires c κs =
+    let h = ran-fit _ _ _ _ (c .before .before .before .before .before .before .ran .ensures) (c .before .before .before .before .if1 .left) in
+    (h, omega (arith, c .before .before .if2 .left, c .before .before .before .count .ensures .is))
+
+same-length : tie.Need-same-length
+same-length c = search needs
+
+returns-3 : tie.Need-returns-3
+returns-3 c =
+    let a = c .before .before .before .before .before .before .before .before .before .before .before .before .before .before .args in
+    let w =
+    answered _ _
+    (outage-whole (a .sheet .now) (a .setup .now) (a .journal .now) _ (c .before .before .before .before .before .before .before .before .before .ran .ensures) (a .blocks) (a .out .now)
+    (c .before .before .before .before .before .before .before .if1 .left)
+    (omega (arith, c .before .before .before .before .before .if2 .left, c .before .before .before .before .before .before .count .ensures .is))) in
+    (w .0, c .before .before .write-rows .ensures ∙ w .1)
+
+pub outage-spec : {M : Type 1} → statement M
+outage-spec = tie.close (tie.spec ran-requires returns count-requires mul-if2 returns-2 write-rows-requires same-length returns-3)

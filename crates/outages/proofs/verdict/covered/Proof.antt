@@ -1,0 +1,25 @@
+-- In the tests' order.
+use Rattle.outages.specs.Verdict.{isCovered}
+use Rattle.laws.specs.Booleans.{tests}
+use borrow.Author.Tests.{not-true, not-false}
+use borrow.Author.Needs.{needs}
+use Rattle.outages.proofs.verdict.covered.Statement.{statement}
+use Rattle.outages.proofs.verdict.covered.Tie as tie
+
+within-requires : tie.Need-within-requires
+within-requires c κs = search needs
+
+returns : tie.Need-returns
+unfolding isCovered
+returns c = simp (← (c .before .within .ensures), not-true (c .before .within .result) (c .if1 .taken))
+
+returns-2 : tie.Need-returns-2
+unfolding isCovered
+returns-2 c = simp (tests, ← (c .before .before .within .ensures), not-false (c .before .before .within .result) (c .before .if1 .left), c .if2 .taken)
+
+returns-3 : tie.Need-returns-3
+unfolding isCovered
+returns-3 c = simp (tests, ← (c .before .before .within .ensures), not-false (c .before .before .within .result) (c .before .if1 .left), c .if2 .left)
+
+pub covered-spec : {M : Type 1} → statement M
+covered-spec = tie.close (tie.spec within-requires returns returns-2 returns-3)

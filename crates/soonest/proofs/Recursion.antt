@@ -1,0 +1,13 @@
+-- The recursion of the soonest block without its bound.
+-- Assumes nothing.
+use Prim.Native.Nat.{ℕ}
+use mathlib.Core.Path.{_≡_}
+use mathlib.Core.List.{List}
+use Rattle.laws.specs.Climb.{climb-step}
+use Rattle.sheet.specs.Field.{parent}
+use Rattle.soonest.specs.Soonest.{soonestOver, soonestBlock, soonestParent}
+
+pub soonest-is : (s : List ℕ) (perDay : ℕ) (block : ℕ → ℕ) (mined t : ℕ)
+    → soonestBlock s perDay block mined t ≡ soonestOver s perDay (block t) mined t (soonestParent s perDay block mined t)
+unfolding soonestBlock soonestParent
+soonest-is s perDay block mined t = climb-step (parent s) (λ k e. soonestOver s perDay (block k) mined k e) 0 t
