@@ -108,6 +108,35 @@ uint32_t swap_report(const uint8_t *sheet, size_t sheet_length,
                      const uint8_t *journal, size_t journal_length,
                      uint8_t *output, size_t output_length);
 
+/* The verdict of an outage on a transaction, a sum of these; 0: the outage does not reach its soonest deadline. */
+#define SWAP_OUTAGE_SETTLED 1u /* alone: confirmed or dead */
+#define SWAP_OUTAGE_SAFE 2u    /* alone: safe, in the pool with its parent confirmed or none */
+#define SWAP_OUTAGE_COVERED 4u /* the soonest deadline is no later than the outage's last block */
+#define SWAP_OUTAGE_PASSED 8u  /* the soonest deadline is no later than the blocks mined */
+
+/* The bytes of an outage's answer: a row for each transaction, and 32 rows at most. */
+#define SWAP_OUTAGE_ROW 10
+#define SWAP_OUTAGE_SIZE (SWAP_OUTAGE_ROW * 32)
+
+/*
+ * Tells what an outage of the next `blocks` blocks can cost after a journal: 10 bytes (SWAP_OUTAGE_ROW) for each
+ * transaction, in the sheet's order. Any number of blocks is taken. Refusals 1 to 24 are the journal's; the count is 0.
+ *
+ *   byte 0        verdict, a sum of SWAP_OUTAGE_..; PASSED alone: no hand-in is left to lose (stealth 0); PASSED with
+ *                 COVERED: a hand-in may still save it (stealth 1), so any outage risks it
+ *   byte 1        payees of the transaction and of all below it, or-ed: 1 Alice, 2 Bob
+ *   bytes 2 to 5  soonest block: the first that can confirm it, or the one that did; never for a dead one
+ *   bytes 6 to 9  soonest deadline: no rival that is locked later can be confirmed in this block or before
+ *
+ * A height of 2,147,483,647 is "never". The output takes up 10n bytes, 320 (SWAP_OUTAGE_SIZE) at most. Refusal 25 says
+ * that the buffer is shorter than that. Bytes after the output keep their values, and under a refusal all bytes do.
+ */
+uint32_t swap_outage(const uint8_t *sheet, size_t sheet_length,
+                     const uint8_t *setup, size_t setup_length,
+                     const uint8_t *journal, size_t journal_length,
+                     uint32_t blocks,
+                     uint8_t *output, size_t output_length);
+
 #ifdef __cplusplus
 }
 #endif

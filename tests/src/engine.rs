@@ -30,6 +30,17 @@ extern "C" {
         output: *mut u8,
         output_length: usize,
     ) -> u32;
+    fn swap_outage(
+        sheet: *const u8,
+        sheet_length: usize,
+        setup: *const u8,
+        setup_length: usize,
+        journal: *const u8,
+        journal_length: usize,
+        blocks: u32,
+        output: *mut u8,
+        output_length: usize,
+    ) -> u32;
 }
 
 /// The engine's check of a sheet, in one number.
@@ -90,4 +101,22 @@ pub fn list(sheet: &[u8], setup: &[u8], journal: &[u8], output: &mut [u8]) -> u3
 /// The engine's report, in one number.
 pub fn report(sheet: &[u8], setup: &[u8], journal: &[u8], output: &mut [u8]) -> u32 {
     lent(swap_report, sheet, setup, journal, output)
+}
+
+/// The engine's verdicts of an outage of so many blocks, in one number.
+pub fn outage(sheet: &[u8], setup: &[u8], journal: &[u8], blocks: u32, output: &mut [u8]) -> u32 {
+    // SAFETY: each pointer and length are one slice's, and the call writes only to the last one, which is lent alone.
+    unsafe {
+        swap_outage(
+            sheet.as_ptr(),
+            sheet.len(),
+            setup.as_ptr(),
+            setup.len(),
+            journal.as_ptr(),
+            journal.len(),
+            blocks,
+            output.as_mut_ptr(),
+            output.len(),
+        )
+    }
 }

@@ -1,5 +1,6 @@
 // The outward calls for C: each packs the answer of the call in Rattle.
 use lists::list;
+use outages::outage;
 use reports::report;
 use runs::journal::ran;
 use sheet::check::sheet_refusal;
@@ -7,6 +8,7 @@ ghost use mathlib.Core.Path.{_≡_};
 ghost use Rattle.sheet.specs.Check.{sheetRefusal};
 ghost use Rattle.position.specs.Play.{run};
 ghost use Rattle.position.specs.Answers.{packed, listAnswer, reportAnswer};
+ghost use Rattle.outages.specs.Answer.{outageAnswer};
 
 // Checks a sheet: refusal × 65,536.
 #[no_mangle]
@@ -42,4 +44,19 @@ pub extern "C" fn swap_report(sheet: &[u8], setup: &[u8], journal: &[u8], out: &
     ensures { λ _. ⌜ now (out .exit) ≡ reportAnswer (now (sheet .entry)) (now (setup .entry)) (now (journal .entry)) (now (out .entry)) .buffer ⌝ }
 {
     report(sheet, setup, journal, out) * 65536
+}
+
+// What an outage of so many blocks can cost after a journal: refusal × 65,536.
+#[no_mangle]
+pub extern "C" fn swap_outage(
+    sheet: &[u8],
+    setup: &[u8],
+    journal: &[u8],
+    blocks: u32,
+    out: &mut [u8],
+) -> u32
+    ensures { λ r. ⌜ r ≡ packed (outageAnswer (now (sheet .entry)) (now (setup .entry)) (now (journal .entry)) blocks (now (out .entry)) .refusal) 0 ⌝ }
+    ensures { λ _. ⌜ now (out .exit) ≡ outageAnswer (now (sheet .entry)) (now (setup .entry)) (now (journal .entry)) blocks (now (out .entry)) .buffer ⌝ }
+{
+    outage(sheet, setup, journal, blocks, out) * 65536
 }
