@@ -18,6 +18,11 @@ uint8_t payees_of(const struct swap *swap, uint8_t t)
     return swap->sheet[HEAD + 4 * t + 1];
 }
 
+uint8_t needs_of(const struct swap *swap, uint8_t t)
+{
+    return swap->sheet[HEAD + 4 * t + 2];
+}
+
 uint8_t lock_type_of(const struct swap *swap, uint8_t t)
 {
     return swap->sheet[HEAD + 4 * count_of(swap) + 2 * t];

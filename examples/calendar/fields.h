@@ -10,11 +10,15 @@
 /* The types of lock. */
 enum { UNLOCKED = 0, ABSOLUTE = 1, SINCE_PARENT = 2 };
 
+/* The conducts. */
+enum { OPEN = 0, LOOSE = 1, CAREFUL = 2 };
+
 /* The number of transactions. */
 uint8_t count_of(const struct swap *swap);
 
 uint8_t parent_of(const struct swap *swap, uint8_t t);
 uint8_t payees_of(const struct swap *swap, uint8_t t);
+uint8_t needs_of(const struct swap *swap, uint8_t t);
 uint8_t lock_type_of(const struct swap *swap, uint8_t t);
 uint8_t days_of(const struct swap *swap, uint8_t t);
 

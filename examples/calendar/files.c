@@ -2,17 +2,35 @@
 
 #include "files.h"
 
-#include <dirent.h>
 #include <errno.h>
+#include <fcntl.h>
 #include <stdio.h>
-#include <stdlib.h>
 #include <string.h>
 #include <sys/stat.h>
+#include <unistd.h>
+
+#include "arguments.h"
 
 /* A folder's name and a file's; a name has 255 bytes at most. */
 #define PATH_SIZE 512
 
+/* The longest name of a side, a line end and one byte more. */
+#define SIDE_SIZE 8
+
 static const char *const file_names[] = {"sheet.bin", "setup.bin", "journal.bin"};
+
+static struct fault fault(const char *file, const char *reason)
+{
+    struct fault fault = {file, ""};
+
+    snprintf(fault.reason, sizeof fault.reason, "%s", reason);
+    return fault;
+}
+
+static struct fault none(void)
+{
+    return fault(NULL, "");
+}
 
 /* Writes FOLDER/NAME; false, with errno set, where it is too long. */
 static bool join(char path[PATH_SIZE], const char *folder, const char *name)
@@ -26,37 +44,58 @@ static bool join(char path[PATH_SIZE], const char *folder, const char *name)
     return false;
 }
 
-/* Reads at most SIZE bytes of a file; false, with errno set, where it cannot be read. */
-static bool read_file(const char *folder, const char *name, uint8_t *bytes, size_t size, size_t *length)
+/* Reads from a descriptor until SIZE bytes or the end; false, with errno set, where that fails. */
+static bool read_bytes(int descriptor, uint8_t *bytes, size_t size, size_t *length)
 {
-    char path[PATH_SIZE];
-    FILE *file = join(path, folder, name) ? fopen(path, "rb") : NULL;
-    bool sound;
-    int reason;
+    *length = 0;
+    while (*length < size) {
+        ssize_t more = read(descriptor, bytes + *length, size - *length);
 
-    if (file == NULL) {
-        return false;
+        if (more == 0) {
+            return true;
+        }
+        if (more > 0) {
+            *length += (size_t)more;
+        } else if (errno != EINTR) {
+            return false;
+        }
     }
-    *length = fread(bytes, 1, size, file);
-    sound = !ferror(file);
-    reason = errno;
-    fclose(file);
-    errno = reason;
-    return sound;
+    return true;
 }
 
-const char *read_swap(const char *folder, struct swap *swap)
+/* Reads at most SIZE bytes of a plain file. It is opened without waiting, as a named pipe without a writer would. */
+static struct fault read_file(const char *folder, const char *name, uint8_t *bytes, size_t size, size_t *length)
+{
+    char path[PATH_SIZE];
+    int descriptor = join(path, folder, name) ? open(path, O_RDONLY | O_NONBLOCK | O_CLOEXEC) : -1;
+    struct stat status;
+    struct fault found = none();
+
+    if (descriptor < 0) {
+        return fault(name, strerror(errno));
+    }
+    if (fstat(descriptor, &status) != 0) {
+        found = fault(name, strerror(errno));
+    } else if (!S_ISREG(status.st_mode)) {
+        found = fault(name, "not a plain file");
+    } else if (!read_bytes(descriptor, bytes, size, length)) {
+        found = fault(name, strerror(errno));
+    }
+    close(descriptor);
+    return found;
+}
+
+struct fault read_swap(const char *folder, struct swap *swap)
 {
     uint8_t *const bytes[] = {swap->sheet, swap->setup, swap->journal};
     const size_t sizes[] = {sizeof swap->sheet, sizeof swap->setup, sizeof swap->journal};
     size_t *const lengths[] = {&swap->sheet_length, &swap->setup_length, &swap->journal_length};
+    struct fault found = none();
 
-    for (size_t i = 0; i < 3; i++) {
-        if (!read_file(folder, file_names[i], bytes[i], sizes[i], lengths[i])) {
-            return file_names[i];
-        }
+    for (size_t i = 0; i < 3 && found.file == NULL; i++) {
+        found = read_file(folder, file_names[i], bytes[i], sizes[i], lengths[i]);
     }
-    return NULL;
+    return found;
 }
 
 bool is_swap(const char *folder)
@@ -65,47 +104,32 @@ bool is_swap(const char *folder)
     struct stat status;
 
     for (size_t i = 0; i < 3; i++) {
-        if (join(path, folder, file_names[i]) && stat(path, &status) == 0) {
+        if (join(path, folder, file_names[i]) && lstat(path, &status) == 0) {
             return true;
         }
     }
     return false;
 }
 
-static int visible(const struct dirent *entry)
+struct fault read_side(const char *folder, uint8_t *sides)
 {
-    return entry->d_name[0] != '.';
-}
-
-static int by_bytes(const struct dirent **a, const struct dirent **b)
-{
-    return strcmp((*a)->d_name, (*b)->d_name);
-}
-
-/* Whether a name is to be read as a swap: all but what is known to be no folder. A broken link so gets a message. */
-static bool may_be_folder(const char *name)
-{
+    char text[SIDE_SIZE + 1] = "";
+    char path[PATH_SIZE];
     struct stat status;
+    size_t length;
+    struct fault found;
 
-    return stat(name, &status) != 0 || S_ISDIR(status.st_mode);
-}
-
-int each_swap(visitor *visit, void *context)
-{
-    struct dirent **entries;
-    int count = scandir(".", &entries, visible, by_bytes);
-    int swaps = 0;
-
-    if (count < 0) {
-        return -1;
+    *sides = 0;
+    if (join(path, folder, "side") && lstat(path, &status) != 0 && errno == ENOENT) {
+        return none();
     }
-    for (int i = 0; i < count; i++) {
-        if (may_be_folder(entries[i]->d_name)) {
-            visit(entries[i]->d_name, context);
-            swaps++;
-        }
-        free(entries[i]);
+    found = read_file(folder, "side", (uint8_t *)text, SIDE_SIZE, &length);
+    if (found.file != NULL) {
+        return found;
     }
-    free(entries);
-    return swaps;
+    while (length > 0 && (text[length - 1] == '\n' || text[length - 1] == '\r')) {
+        text[--length] = '\0';
+    }
+    *sides = strlen(text) == length ? side_named(text) : 0;
+    return *sides != 0 ? none() : fault("side", "neither alice nor bob");
 }

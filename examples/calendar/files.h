@@ -1,4 +1,4 @@
-/* The three files of a swap, and the folders that hold them. */
+/* The files of a swap. */
 #ifndef FILES_H
 #define FILES_H
 
@@ -22,17 +22,19 @@ struct swap {
     uint8_t journal[JOURNAL_MOST + 1];
 };
 
+/* A file that cannot be read, and why; NULL: there is none. */
+struct fault {
+    const char *file;
+    char reason[64];
+};
+
 /* Whether the folder holds sheet.bin, setup.bin or journal.bin. */
 bool is_swap(const char *folder);
 
-/* Reads the swap of a folder: NULL, or the name of the first file that cannot be read, with the reason in errno. */
-const char *read_swap(const char *folder, struct swap *swap);
+/* Reads the swap of a folder. Only plain files are read: none is waited for. */
+struct fault read_swap(const char *folder, struct swap *swap);
 
-/* What is done with each swap's folder. */
-typedef void visitor(const char *folder, void *context);
-
-/* Visits the subfolders of the working directory, each as one swap, in the order of their names' bytes. Files and names
- * that begin with a dot are passed over. Returns the number of swaps, or -1 with the reason in errno. */
-int each_swap(visitor *visit, void *context);
+/* Reads the file `side` of a folder: the mask of the side that it names, 0 where there is no such file. */
+struct fault read_side(const char *folder, uint8_t *sides);
 
 #endif

@@ -11,36 +11,39 @@ static uint32_t blocks_mined(const struct swap *swap)
     return blocks;
 }
 
-/* The calls that write to a buffer. */
-typedef uint32_t writes(const uint8_t *, size_t, const uint8_t *, size_t, const uint8_t *, size_t, uint8_t *, size_t);
-
-static uint32_t lend(writes *call, const struct swap *swap, uint8_t *output, size_t length)
-{
-    return call(swap->sheet, swap->sheet_length, swap->setup, swap->setup_length, swap->journal, swap->journal_length,
-                output, length);
-}
-
-uint32_t ask(const struct swap *swap, struct position *position)
+uint32_t run(const struct swap *swap)
 {
     uint32_t answer = swap_check(swap->sheet, swap->sheet_length);
 
     if (SWAP_REFUSAL(answer) != SWAP_ACCEPTED) {
         return answer;
     }
-    answer = swap_run(swap->sheet, swap->sheet_length, swap->setup, swap->setup_length, swap->journal,
-                      swap->journal_length);
+    return swap_run(swap->sheet, swap->sheet_length, swap->setup, swap->setup_length, swap->journal,
+                    swap->journal_length);
+}
+
+uint32_t ask_position(const struct swap *swap, uint32_t steps, struct position *position)
+{
+    uint32_t answer = swap_list(swap->sheet, swap->sheet_length, swap->setup, swap->setup_length, swap->journal,
+                                swap->journal_length, position->open, sizeof position->open);
+
     if (SWAP_REFUSAL(answer) != SWAP_ACCEPTED) {
         return answer;
     }
     position->swap = swap;
-    position->steps = SWAP_COUNT(answer);
+    position->steps = steps;
     position->mined = blocks_mined(swap);
-    answer = lend(swap_list, swap, position->open, sizeof position->open);
-    if (SWAP_REFUSAL(answer) != SWAP_ACCEPTED) {
-        return answer;
-    }
     position->open_count = SWAP_COUNT(answer);
-    return lend(swap_report, swap, position->report, sizeof position->report);
+    return swap_report(swap->sheet, swap->sheet_length, swap->setup, swap->setup_length, swap->journal,
+                       swap->journal_length, position->report, sizeof position->report);
+}
+
+uint32_t ask_outage(struct position *position, uint32_t blocks)
+{
+    const struct swap *swap = position->swap;
+
+    return swap_outage(swap->sheet, swap->sheet_length, swap->setup, swap->setup_length, swap->journal,
+                       swap->journal_length, blocks, position->outage, sizeof position->outage);
 }
 
 uint8_t status_of(const struct position *position, uint8_t t)
@@ -53,27 +56,45 @@ uint8_t payee_of(const struct position *position, uint8_t t)
     return position->report[SWAP_REPORT_ROW * t + 1];
 }
 
-/* The value of four bytes at a place of the transaction's row. */
-static uint32_t value(const struct position *position, uint8_t t, size_t at)
+/* The value of four bytes. */
+static uint32_t value(const uint8_t *bytes)
 {
-    const uint8_t *bytes = position->report + SWAP_REPORT_ROW * t + at;
-
     return bytes[0] | (uint32_t)bytes[1] << 8 | (uint32_t)bytes[2] << 16 | (uint32_t)bytes[3] << 24;
 }
 
 uint32_t block_of(const struct position *position, uint8_t t)
 {
-    return value(position, t, 2);
+    return value(position->report + SWAP_REPORT_ROW * t + 2);
 }
 
 uint32_t lock_height_of(const struct position *position, uint8_t t)
 {
-    return value(position, t, 6);
+    return value(position->report + SWAP_REPORT_ROW * t + 6);
 }
 
 uint32_t deadline_of(const struct position *position, uint8_t t)
 {
-    return value(position, t, 10);
+    return value(position->report + SWAP_REPORT_ROW * t + 10);
+}
+
+uint8_t verdict_of(const struct position *position, uint8_t t)
+{
+    return position->outage[SWAP_OUTAGE_ROW * t];
+}
+
+uint8_t payees_below(const struct position *position, uint8_t t)
+{
+    return position->outage[SWAP_OUTAGE_ROW * t + 1];
+}
+
+uint32_t soonest_block_of(const struct position *position, uint8_t t)
+{
+    return value(position->outage + SWAP_OUTAGE_ROW * t + 2);
+}
+
+uint32_t soonest_deadline_of(const struct position *position, uint8_t t)
+{
+    return value(position->outage + SWAP_OUTAGE_ROW * t + 6);
 }
 
 bool is_confirmed(const struct position *position, uint8_t t)
@@ -104,14 +125,25 @@ uint8_t last_confirmed(const struct position *position, uint8_t opening)
     return last;
 }
 
-bool can_be_sent(const struct position *position, uint8_t party, uint8_t t)
+/* Whether an open step sends the transaction: the party's, or another's. */
+static bool is_sent_by(const struct position *position, uint8_t t, uint8_t party, bool own)
 {
     for (uint32_t i = 0; i < position->open_count; i++) {
         const uint8_t *step = position->open + 4 * i;
 
-        if ((step[0] == SEND || step[0] == HAND_IN) && step[1] == party && step[2] == t) {
+        if ((step[0] == SEND || step[0] == HAND_IN) && (step[1] == party) == own && step[2] == t) {
             return true;
         }
     }
     return false;
+}
+
+bool can_be_sent(const struct position *position, uint8_t party, uint8_t t)
+{
+    return is_sent_by(position, t, party, true);
+}
+
+bool others_can_send(const struct position *position, uint8_t party, uint8_t t)
+{
+    return is_sent_by(position, t, party, false);
 }

@@ -25,10 +25,16 @@ struct position {
     uint32_t open_count;
     uint8_t open[SWAP_LIST_SIZE];
     uint8_t report[SWAP_REPORT_SIZE];
+    uint8_t outage[SWAP_OUTAGE_SIZE];
 };
 
-/* Puts a swap to the four calls: the first answer that is a refusal, else one that is none. */
-uint32_t ask(const struct swap *swap, struct position *position);
+/* Checks a swap's sheet and runs its journal: the first answer that is a refusal, else the run's. */
+uint32_t run(const struct swap *swap);
+
+/* Asks for the open steps and the report after a journal of so many steps that is accepted whole; then for an outage of
+ * so many blocks. Each the first answer that is a refusal, else one that is none. */
+uint32_t ask_position(const struct swap *swap, uint32_t steps, struct position *position);
+uint32_t ask_outage(struct position *position, uint32_t blocks);
 
 /* The fields of the report. */
 uint8_t status_of(const struct position *position, uint8_t t);
@@ -36,6 +42,12 @@ uint8_t payee_of(const struct position *position, uint8_t t);
 uint32_t block_of(const struct position *position, uint8_t t);
 uint32_t lock_height_of(const struct position *position, uint8_t t);
 uint32_t deadline_of(const struct position *position, uint8_t t);
+
+/* The fields of the outage's answer. */
+uint8_t verdict_of(const struct position *position, uint8_t t);
+uint8_t payees_below(const struct position *position, uint8_t t);
+uint32_t soonest_block_of(const struct position *position, uint8_t t);
+uint32_t soonest_deadline_of(const struct position *position, uint8_t t);
 
 bool is_confirmed(const struct position *position, uint8_t t);
 
@@ -45,5 +57,8 @@ uint8_t last_confirmed(const struct position *position, uint8_t opening);
 
 /* Whether the party has an open step that sends the transaction, to the pool or to the miner. */
 bool can_be_sent(const struct position *position, uint8_t party, uint8_t t);
+
+/* Whether somebody else has one. */
+bool others_can_send(const struct position *position, uint8_t party, uint8_t t);
 
 #endif

@@ -7,6 +7,9 @@
 #define SASWAP_COUNT 15
 #define SASWAP_SIZE (5 + 6 * SASWAP_COUNT)
 
+/* The bit of sigBob in a mask of signatures. */
+#define SIG_BOB 2u
+
 /* The names of its transactions and of its 4 signatures. */
 const char *saswap_transaction(uint8_t t);
 const char *saswap_signature(uint8_t number);

@@ -2,21 +2,11 @@
 
 #include <stdio.h>
 
-#include "deadline.h"
+#include "after.h"
 #include "saswap.h"
 #include "words.h"
 
-/* Control characters of a folder's name are printed as question marks, so that each line is the calendar's own. */
-void show_name(const char *name)
-{
-    printf("swap ");
-    for (; *name != '\0'; name++) {
-        putchar((unsigned char)*name < ' ' || *name == 127 ? '?' : *name);
-    }
-    putchar('\n');
-}
-
-static void show_inputs(const struct position *position)
+static void show_inputs(const struct position *position, uint32_t base)
 {
     static const char *const conducts[] = {"open", "loose", "careful"};
     const struct swap *swap = position->swap;
@@ -24,8 +14,12 @@ static void show_inputs(const struct position *position)
     printf("  sheet: %s, transactions %u\n", is_saswap(swap) ? "SASwap" : "other", (unsigned)count_of(swap));
     printf("  setup: blocks per day %u, conduct %s, stealth %u\n", blocks_per_day_of(swap), conducts[conduct_of(swap)],
            (unsigned)stealth_of(swap));
-    printf("  journal: steps accepted %lu, blocks mined %lu\n", (unsigned long)position->steps,
+    printf("  journal: steps accepted %lu, blocks mined %lu", (unsigned long)position->steps,
            (unsigned long)position->mined);
+    if (base > 0) {
+        printf(", height %lu", (unsigned long)base + position->mined);
+    }
+    printf("\n");
 }
 
 /* A status in words; "-" where it is 0. */
@@ -44,17 +38,7 @@ static struct label status_label(uint8_t status)
     return label;
 }
 
-static struct label height_label(uint32_t height)
-{
-    struct label label = {"never"};
-
-    if (height != NEVER) {
-        snprintf(label.text, sizeof label.text, "%lu", (unsigned long)height);
-    }
-    return label;
-}
-
-static void show_position(const struct position *position)
+static void show_position(const struct position *position, uint32_t base)
 {
     const char *const form = "    %-22s%-12s%-10s%8s%13s%10s\n";
 
@@ -65,8 +49,8 @@ static void show_position(const struct position *position)
 
         printf(form, transaction_label(position->swap, t).text, status_label(status_of(position, t)).text,
                confirmed ? destination_name(payee_of(position, t)) : "-",
-               confirmed ? height_label(block_of(position, t)).text : "-",
-               height_label(lock_height_of(position, t)).text, height_label(deadline_of(position, t)).text);
+               confirmed ? height_label(base, block_of(position, t)).text : "-",
+               height_label(base, lock_height_of(position, t)).text, height_label(base, deadline_of(position, t)).text);
     }
 }
 
@@ -91,7 +75,7 @@ static void show_open_steps(const struct position *position, uint8_t party)
 }
 
 /* One coin: to whom it is paid out, or where it stands. */
-static void show_coin(const struct position *position, uint8_t opening)
+static void show_coin(const struct position *position, uint8_t opening, uint32_t base)
 {
     const struct swap *swap = position->swap;
     uint8_t last = last_confirmed(position, opening);
@@ -106,42 +90,87 @@ static void show_coin(const struct position *position, uint8_t opening)
     } else {
         printf("paid to %s", destination_name(payee_of(position, last)));
     }
-    printf(" by %s in block %lu\n", transaction_label(swap, last).text, (unsigned long)block_of(position, last));
+    printf(" by %s in block %s\n", transaction_label(swap, last).text,
+           height_label(base, block_of(position, last)).text);
 }
 
-static void show_payouts(const struct position *position)
+static void show_payouts(const struct position *position, uint32_t base)
 {
     printf("  payouts so far\n");
     for (uint8_t t = 0; t < count_of(position->swap); t++) {
         if (parent_of(position->swap, t) == NONE) {
-            show_coin(position, t);
+            show_coin(position, t, base);
         }
     }
 }
 
-/* The last block in which a transaction of ours can be confirmed in time, and what the outage does to that. */
-static void show_verdict(uint32_t deadline, enum verdict verdict)
+/* The window of blocks in which a transaction can be confirmed, and what can be confirmed after it. */
+static void show_window(const struct position *position, uint8_t t, uint32_t base)
 {
-    switch (verdict) {
-    case NO_DEADLINE:
+    printf("in blocks %s to %s", height_label(base, soonest_block_of(position, t)).text,
+           height_label(base, soonest_deadline_of(position, t)).text);
+    print_if(" at the soonest", position, t, base);
+    printf(", ");
+    print_else(position, t, base);
+}
+
+/* A deadline that is passed, or that there is none. */
+static void show_no_window(const struct position *position, uint8_t t, uint32_t base)
+{
+    if (soonest_deadline_of(position, t) == NEVER) {
         printf("no deadline");
+    } else {
+        printf("PASSED: block %s was the latest", height_label(base, soonest_deadline_of(position, t)).text);
+    }
+}
+
+/* A transaction that the outage covers. */
+static void show_warning(const struct entry *entry, uint8_t t, const struct question *question)
+{
+    const struct position *position = &entry->position;
+
+    printf("WARNING: ");
+    if (soonest_deadline_of(position, t) <= position->mined) {
+        printf("block %s was the latest, a hand-in may save it, ",
+               height_label(question->base, soonest_deadline_of(position, t)).text);
+        print_else(position, t, question->base);
+        return;
+    }
+    if (question->from > 0) {
+        print_before(position, &entry->outage, t, question->base);
+    }
+    show_window(position, t, question->base);
+}
+
+/* What the outage does to a transaction. */
+static void show_kind(const struct entry *entry, uint8_t t, enum kind kind, const struct question *question)
+{
+    switch (kind) {
+    case WARNING:
+        show_warning(entry, t, question);
         break;
-    case PASSED:
-        printf("PASSED: block %lu was the latest", (unsigned long)deadline);
+    case BEFORE:
+        printf("due before the outage: ");
+        show_window(&entry->position, t, question->base);
         break;
-    case COVERED:
-        printf("in block %lu at the latest; WARNING: the outage covers it", (unsigned long)deadline);
+    case AHEAD:
+        show_window(&entry->position, t, question->base);
         break;
-    case AFTER:
-        printf("in block %lu at the latest", (unsigned long)deadline);
+    case SENT:
+        printf("sent, box not needed");
+        break;
+    case FREE:
+        show_no_window(&entry->position, t, question->base);
+        break;
+    default:
+        printf("the other side's");
         break;
     }
 }
 
-/* Where a transaction of ours stands, and what can still move its deadline. */
+/* Where a transaction stands. */
 static void show_standing(const struct position *position, uint8_t t, uint8_t side)
 {
-    const struct swap *swap = position->swap;
     uint8_t status = status_of(position, t);
 
     if ((status & IN_POOL) != 0) {
@@ -153,50 +182,44 @@ static void show_standing(const struct position *position, uint8_t t, uint8_t si
     if (can_be_sent(position, side, t)) {
         printf("; can be sent now");
     }
-    if (can_change(position, t)) {
-        printf("; may change when %s is confirmed", transaction_label(swap, parent_of(swap, t)).text);
-    }
 }
 
-static void show_outage(const struct position *position, uint8_t side, uint32_t outage)
+static void show_outage(const struct entry *entry, uint8_t side, const struct question *question)
 {
-    unsigned long mined = position->mined;
+    const struct outage *outage = &entry->outage;
 
-    printf("  deadlines of %s's transactions; ", party_name(side));
-    if (outage == 0) {
-        printf("no outage\n");
+    printf("  deadlines for %s; ", party_name(side));
+    if (outage->last < outage->first) {
+        printf("no outage");
     } else {
-        printf("outage in blocks %lu to %lu\n", mined + 1, mined + outage);
+        printf("outage in blocks %s to %s", height_label(question->base, outage->first).text,
+               height_label(question->base, outage->last).text);
     }
-}
-
-/* One transaction of ours: its line, and what it adds to the totals. */
-static void show_deadline(const struct position *position, uint8_t t, uint8_t side, uint32_t outage,
-                          struct totals *totals)
-{
-    static const char *const payees[] = {"nobody", "Alice", "Bob", "either"};
-    uint32_t deadline = deadline_of(position, t);
-    enum verdict verdict = verdict_of(deadline, position->mined, outage);
-
-    printf("    %-22s%-8s", transaction_label(position->swap, t).text, payees[payees_below(position->swap, t)]);
-    show_verdict(deadline, verdict);
-    show_standing(position, t, side);
+    if (question->margin > 0) {
+        printf(", margin %lu", (unsigned long)question->margin);
+    }
     printf("\n");
-    totals->warnings += verdict == COVERED;
-    totals->passed += verdict == PASSED;
 }
 
-/* Every transaction of ours that is neither confirmed nor dead. */
-static void show_deadlines(const struct position *position, const struct question *question, struct totals *totals)
+/* Every transaction that is neither confirmed nor dead. */
+static void show_deadlines(const struct entry *entry, uint8_t side, const struct question *question)
 {
-    uint32_t outage = question->whole_day ? blocks_per_day_of(position->swap) : question->blocks;
+    const struct position *position = &entry->position;
     unsigned shown = 0;
 
-    show_outage(position, question->side, outage);
+    show_outage(entry, side, question);
     printf("    %-22s%-8s%s\n", "transaction", "pays", "to be confirmed");
     for (uint8_t t = 0; t < count_of(position->swap); t++) {
-        if (is_ours(position->swap, t, question->side) && (status_of(position, t) & (CONFIRMED | DEAD)) == 0) {
-            show_deadline(position, t, question->side, outage, totals);
+        enum kind kind = kind_of(position, &entry->outage, t, side);
+
+        if (kind != SETTLED) {
+            printf("    %-22s%-8s", transaction_label(position->swap, t).text, payees_name(can_pay(position, t)));
+            show_kind(entry, t, kind, question);
+            show_standing(position, t, side);
+            if (kind != OTHERS) {
+                print_in_the_way(position, t, side);
+            }
+            printf("\n");
             shown++;
         }
     }
@@ -231,36 +254,39 @@ static void show_refusal(const struct swap *swap, uint32_t answer)
     printf("  no deadlines: the engine gives them for a wholly accepted journal only\n");
 }
 
-void show_swap(const struct swap *swap, const struct question *question, struct totals *totals)
+static void show_position_of(const struct entry *entry, const struct question *question)
 {
-    struct position position;
-    uint32_t answer = ask(swap, &position);
+    const struct position *position = &entry->position;
 
-    totals->swaps++;
-    if (SWAP_REFUSAL(answer) != SWAP_ACCEPTED) {
-        show_refusal(swap, answer);
-        totals->refused++;
-        return;
+    show_inputs(position, question->base);
+    show_position(position, question->base);
+    show_open_steps(position, ALICE);
+    show_open_steps(position, BOB);
+    show_open_steps(position, MINER);
+    show_payouts(position, question->base);
+    for (uint8_t side = ALICE; side <= BOB; side++) {
+        if ((entry->sides >> side & 1) == 1) {
+            show_deadlines(entry, side, question);
+        }
     }
-    show_inputs(&position);
-    show_position(&position);
-    show_open_steps(&position, ALICE);
-    show_open_steps(&position, BOB);
-    show_open_steps(&position, MINER);
-    show_payouts(&position);
-    show_deadlines(&position, question, totals);
 }
 
-void show_unreadable(const char *file, const char *reason, struct totals *totals)
+void show_desk(const struct question *question, const struct desk *desk)
 {
-    printf("  unreadable: %s: %s\n", file, reason);
-    printf("  no deadlines: the swap is not known\n");
-    totals->swaps++;
-    totals->refused++;
-}
+    for (size_t i = 0; i < desk->count; i++) {
+        const struct entry *entry = desk->entries[i];
 
-void show_totals(const struct totals *totals)
-{
-    printf("swaps: %u; warnings: %u; deadlines passed: %u; refused or unreadable: %u\n", totals->swaps,
-           totals->warnings, totals->passed, totals->refused);
+        printf("swap ");
+        print_name(entry->name, 0);
+        printf("\n");
+        if (entry->fault.file != NULL) {
+            printf("  unreadable: %s: %s\n", entry->fault.file, entry->fault.reason);
+            printf("  no deadlines: the swap is not known\n");
+        } else if (!is_sound(entry)) {
+            show_refusal(&entry->swap, entry->answer);
+        } else {
+            show_position_of(entry, question);
+        }
+        printf("\n");
+    }
 }

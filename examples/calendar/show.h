@@ -1,33 +1,10 @@
-/* Prints what the calendar says of a swap. */
+/* All that the calendar knows of each swap. */
 #ifndef SHOW_H
 #define SHOW_H
 
-#include "position.h"
+#include "desk.h"
 
-/* What is asked: whose transactions, and how many blocks the outage has. */
-struct question {
-    uint8_t side;
-    bool whole_day; /* the outage has the blocks per day of each swap's setup */
-    uint32_t blocks;
-};
-
-/* What is counted over all swaps. */
-struct totals {
-    unsigned swaps;
-    unsigned warnings;
-    unsigned passed;
-    unsigned refused; /* or unreadable */
-};
-
-/* Prints a swap's heading. */
-void show_name(const char *name);
-
-/* Puts a swap to the engine and prints the answers. */
-void show_swap(const struct swap *swap, const struct question *question, struct totals *totals);
-
-/* Prints that a file of a swap cannot be read. */
-void show_unreadable(const char *file, const char *reason, struct totals *totals);
-
-void show_totals(const struct totals *totals);
+/* Prints it, swap after swap. */
+void show_desk(const struct question *question, const struct desk *desk);
 
 #endif

@@ -57,6 +57,28 @@ const char *refusal_words(uint32_t refusal)
     return refusal_of(refusal)->words;
 }
 
+void print_name(const char *name, size_t width)
+{
+    size_t length = 0;
+
+    for (; name[length] != '\0'; length++) {
+        putchar((unsigned char)name[length] < ' ' || name[length] == 127 ? '?' : name[length]);
+    }
+    for (; length < width; length++) {
+        putchar(' ');
+    }
+}
+
+struct label height_label(uint32_t base, uint32_t height)
+{
+    struct label label = {"never"};
+
+    if (height != NEVER) {
+        snprintf(label.text, sizeof label.text, "%lu", height == 0 ? 0 : (unsigned long)base + height);
+    }
+    return label;
+}
+
 /* The name of this number where the sheet is SASwap's, else WORD and the number. */
 static struct label label_of(const struct swap *swap, const char *name(uint8_t), const char *word, uint8_t number)
 {
@@ -90,6 +112,13 @@ const char *party_name(uint8_t party)
 const char *destination_name(uint8_t destination)
 {
     return destination == CONTRACT ? "contract" : party_name(destination);
+}
+
+const char *payees_name(uint8_t payees)
+{
+    static const char *const names[] = {"nobody", "Alice", "Bob", "either"};
+
+    return names[payees];
 }
 
 /* A step's verb and what follows the name of its transaction, by kind. */

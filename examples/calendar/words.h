@@ -9,12 +9,21 @@ struct label {
     char text[32];
 };
 
+/* A folder's name, with control characters as question marks, so that each line is the calendar's own. */
+void print_name(const char *name, size_t width);
+
+/* A height of the real chain, which stood at BASE before block 1; "never", and 0 for no block and no lock. */
+struct label height_label(uint32_t base, uint32_t height);
+
 /* A transaction: its name on the SASwap sheet, else its number. */
 struct label transaction_label(const struct swap *swap, uint8_t t);
 
 /* A party, and a destination of a step or of a confirmed transaction. */
 const char *party_name(uint8_t party);
 const char *destination_name(uint8_t destination);
+
+/* Payees, as a mask. */
+const char *payees_name(uint8_t payees);
 
 /* A refusal: its name in include/swap.h, and what it says. */
 const char *refusal_name(uint32_t refusal);

@@ -1,22 +1,62 @@
 //! What the calendar of `examples/calendar` prints, written a second time over the model.
 
+mod after;
 mod cases;
+pub mod rule;
+mod screen;
 mod view;
 mod words;
 
 pub use cases::{cases, Case};
 
 use crate::model::calls::{self, Run};
-use crate::model::heights::NEVER;
+use crate::model::setup::Setup;
+use crate::model::{ALICE, BOB};
 use crate::samples::{Files, FILES};
 use view::View;
 use words::{party_name, Names, REFUSALS};
 
-/// What is asked of the calendar: BLOCKS, one day's where None, and SIDE.
-#[derive(Clone, Copy, Debug)]
+/// The length of an outage.
+#[derive(Clone, Copy, Debug, PartialEq, Eq)]
+pub enum Length {
+    Days(u32),
+    Blocks(u32),
+}
+
+/// What is asked of the calendar.
+#[derive(Clone, Copy, Debug, PartialEq, Eq)]
 pub struct Question {
-    pub blocks: Option<u32>,
-    pub side: u8,
+    pub full: bool,
+    /// By each swap's folder where None.
+    pub side: Option<u8>,
+    pub length: Length,
+    /// The first block of the outage, the next one where None.
+    pub from: Option<u32>,
+    pub margin: u32,
+    pub base: u32,
+}
+
+impl Default for Question {
+    fn default() -> Question {
+        Question {
+            full: false,
+            side: None,
+            length: Length::Days(1),
+            from: None,
+            margin: 0,
+            base: 0,
+        }
+    }
+}
+
+impl Question {
+    /// The blocks of the outage.
+    pub fn blocks(&self, setup: &Setup) -> u32 {
+        match self.length {
+            Length::Days(days) => days * setup.blocks_per_day,
+            Length::Blocks(blocks) => blocks,
+        }
+    }
 }
 
 /// The sums of the last line.
@@ -24,81 +64,133 @@ pub struct Question {
 pub struct Totals {
     pub swaps: usize,
     pub warnings: usize,
-    pub passed: usize,
+    pub before: usize,
     pub refused: usize,
 }
 
-/// What an outage does to a deadline.
-#[derive(Clone, Copy, Debug, PartialEq, Eq)]
-pub enum Verdict {
-    NoDeadline,
-    Passed(u32),
-    Covered(u32),
-    After(u32),
+impl Totals {
+    /// "Exit status: 0 no warning; 3 warnings; 1 a swap is refused or cannot be read".
+    pub fn status(&self) -> i32 {
+        match self {
+            Totals { refused: 1.., .. } => 1,
+            Totals { warnings: 1.., .. } => 3,
+            _ => 0,
+        }
+    }
 }
 
-/// "in block D at the latest; a warning where an outage of BLOCKS blocks (m + 1 to m + BLOCKS) covers it".
-pub fn verdict(deadline: u32, mined: u32, blocks: u32) -> Verdict {
-    let outage = mined + 1..=mined + blocks;
-    match deadline {
-        NEVER => Verdict::NoDeadline,
-        _ if outage.contains(&deadline) => Verdict::Covered(deadline),
-        _ if deadline <= mined => Verdict::Passed(deadline),
-        _ => Verdict::After(deadline),
-    }
+/// A swap of the desk.
+pub enum Found {
+    /// With the sides that are shown.
+    Sound(Box<View>, Vec<u8>),
+    /// Refused or unreadable, and why.
+    Faulty(&'static str, String),
 }
 
 /// The output for swaps by name, and its sums.
 pub fn text(swaps: &[(String, Files)], question: &Question) -> (String, Totals) {
-    let mut totals = Totals::default();
-    let mut text = String::new();
-    for (name, files) in swaps {
-        let (lines, more) = swap(files, question);
-        text += &format!("swap {name}\n{}\n\n", lines.join("\n"));
-        totals.swaps += 1;
-        totals.warnings += more.warnings;
-        totals.passed += more.passed;
-        totals.refused += more.refused;
-    }
+    let found: Vec<(String, Found)> = swaps
+        .iter()
+        .map(|(name, files)| (name.clone(), found(files, question)))
+        .collect();
+    let totals = totals(&found, question);
+    let mut text = match question.full {
+        false => screen::text(&found, question),
+        true => (found.iter().zip(swaps))
+            .map(|((name, found), (_, files))| full(name, found, files, question))
+            .collect(),
+    };
     let Totals {
         swaps,
         warnings,
-        passed,
+        before,
         refused,
     } = totals;
-    text += &format!("swaps: {swaps}; warnings: {warnings}; deadlines passed: {passed}; ");
+    text += &format!("swaps: {swaps}; warnings: {warnings}; due before the outage: {before}; ");
     text += &format!("refused or unreadable: {refused}\n");
     (text, totals)
 }
 
-/// The lines of one swap.
-fn swap(files: &Files, question: &Question) -> (Vec<String>, Totals) {
-    let faulty = Totals {
-        refused: 1,
+fn totals(swaps: &[(String, Found)], question: &Question) -> Totals {
+    let mut totals = Totals {
+        swaps: swaps.len(),
         ..Totals::default()
     };
-    let [Some(sheet), Some(setup), Some(journal)] = files else {
-        return (unreadable(files), faulty);
-    };
-    match calls::outcome(sheet, setup, journal) {
-        Ok(outcome) if outcome.refusal == 0 => View::new(sheet, outcome).lines(question),
-        _ => (refused(sheet, setup, journal), faulty),
+    for (_, found) in swaps {
+        match found {
+            Found::Faulty(..) => totals.refused += 1,
+            Found::Sound(view, sides) => {
+                for &side in sides {
+                    let more = view.totals(question, side);
+                    totals.warnings += more.warnings;
+                    totals.before += more.before;
+                }
+            }
+        }
+    }
+    totals
+}
+
+/// The sides that a swap's file names; None where it names none.
+fn sides(file: &Option<Vec<u8>>) -> Option<Vec<u8>> {
+    match file.as_deref() {
+        None => Some(vec![ALICE, BOB]),
+        Some(b"alice" | b"alice\n") => Some(vec![ALICE]),
+        Some(b"bob" | b"bob\n") => Some(vec![BOB]),
+        Some(_) => None,
     }
 }
 
-fn unreadable(files: &Files) -> Vec<String> {
-    let missing = files.iter().position(Option::is_none);
-    let name = FILES[missing.expect("a file that is missing")];
-    vec![
-        format!("  unreadable: {name}: No such file or directory"),
-        "  no deadlines: the swap is not known".to_string(),
-    ]
+fn found(files: &Files, question: &Question) -> Found {
+    let [Some(sheet), Some(setup), Some(journal), side] = files else {
+        return Found::Faulty("UNREADABLE", missing(files));
+    };
+    let Some(sides) = sides(side) else {
+        return Found::Faulty("UNREADABLE", "side: neither alice nor bob".to_string());
+    };
+    match calls::outcome(sheet, setup, journal) {
+        Ok(outcome) if outcome.refusal == 0 => {
+            let sides = question.side.map_or(sides, |side| vec![side]);
+            Found::Sound(Box::new(View::new(sheet, outcome)), sides)
+        }
+        _ => Found::Faulty(
+            "REFUSED",
+            refusal(calls::run(sheet, setup, journal).refusal),
+        ),
+    }
 }
 
-fn refused(sheet: &[u8], setup: &[u8], journal: &[u8]) -> Vec<String> {
+/// The first file that is not there.
+fn missing(files: &Files) -> String {
+    let missing = files.iter().position(Option::is_none);
+    let name = FILES[missing.expect("a file that is missing")];
+    format!("{name}: No such file or directory")
+}
+
+fn refusal(number: u32) -> String {
+    let (name, words) = REFUSALS[number as usize - 1];
+    format!("SWAP_{name} ({number}), {words}")
+}
+
+/// All of one swap.
+fn full(name: &str, found: &Found, files: &Files, question: &Question) -> String {
+    let lines = match found {
+        Found::Sound(view, sides) => view.lines(question, sides),
+        Found::Faulty("REFUSED", reason) => refused(files, reason),
+        Found::Faulty(_, reason) => vec![
+            format!("  unreadable: {reason}"),
+            "  no deadlines: the swap is not known".to_string(),
+        ],
+    };
+    format!("swap {name}\n{}\n\n", lines.join("\n"))
+}
+
+fn refused(files: &Files, reason: &str) -> Vec<String> {
+    let [Some(sheet), Some(setup), Some(journal), _] = files else {
+        panic!("a refused swap is read")
+    };
     let run = calls::run(sheet, setup, journal);
-    let (name, words) = REFUSALS[run.refusal as usize - 1];
-    let mut lines = vec![format!("  refused: SWAP_{name} ({}), {words}", run.refusal)];
+    let mut lines = vec![format!("  refused: {reason}")];
     if (11..=23).contains(&run.refusal) {
         let names = Names::of(sheet, u16::from_le_bytes([setup[0], setup[1]]));
         lines.push(refused_step(&names, &run, journal.len() / 4));

@@ -7,22 +7,31 @@ use crate::model::open;
 use crate::random::Random;
 use std::collections::HashSet;
 
-/// Walks all positions with at most so many blocks mined. A position counts once, however many journals lead to it.
+/// Compares in all positions with at most so many blocks mined.
 pub fn positions(game: &Game, most_blocks: u32) -> Tally {
     let mut tally = Tally::of(ENGINE);
     let mut random = Random::new(0);
+    let walked = walk(game, most_blocks, |course| {
+        tally.position(&mut random, game, course, usize::MAX)
+    });
+    assert_eq!(tally.positions, walked);
+    tally
+}
+
+/// Walks all positions with at most so many blocks mined: their number. A position counts once, however many journals
+/// lead to it.
+pub fn walk(game: &Game, most_blocks: u32, mut visit: impl FnMut(&Course)) -> usize {
     let fresh = Course::fresh(&game.sheet);
     let mut seen = HashSet::from([fresh.position.clone()]);
     let mut left = vec![fresh];
     while let Some(course) = left.pop() {
-        tally.position(&mut random, game, &course, usize::MAX);
+        visit(&course);
         let new = following(game, &course).filter(|next| {
             next.position.mined <= most_blocks && seen.insert(next.position.clone())
         });
         left.extend(new);
     }
-    assert_eq!(tally.positions, seen.len());
-    tally
+    seen.len()
 }
 
 /// The course after each open step.

@@ -1,5 +1,6 @@
 //! Tests of the built library against a separate model of document 01.
 
+pub mod adversary;
 pub mod calendar;
 pub mod calls;
 pub mod compare;

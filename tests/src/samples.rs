@@ -6,11 +6,11 @@ use crate::random::MINE;
 use std::fs;
 use std::path::Path;
 
-/// The names of a swap's files.
-pub const FILES: [&str; 3] = ["sheet.bin", "setup.bin", "journal.bin"];
+/// The names of a swap's files; the last need not be there.
+pub const FILES: [&str; 4] = ["sheet.bin", "setup.bin", "journal.bin", "side"];
 
 /// The bytes of a swap's files, in that order; None for one that is missing.
-pub type Files = [Option<Vec<u8>>; 3];
+pub type Files = [Option<Vec<u8>>; 4];
 
 /// Writes a swap's files to its folder, which is made.
 pub fn write(folder: &Path, files: &Files) -> std::io::Result<()> {
@@ -29,7 +29,7 @@ pub fn read(folder: &Path) -> Files {
 }
 
 /// A swap's folder below `samples`, and its files.
-pub type Sample = (&'static str, Files);
+pub type Sample = (String, Files);
 
 type Steps = Vec<[u8; 4]>;
 
@@ -59,7 +59,14 @@ fn files(sheet: &[u8], setup: [u8; 4], steps: &[[u8; 4]]) -> Files {
         Some(sheet.to_vec()),
         Some(setup.to_vec()),
         Some(steps.concat()),
+        None,
     ]
+}
+
+/// The swap, with this in its file `side`.
+fn with_side(mut files: Files, side: &str) -> Files {
+    files[3] = Some(side.as_bytes().to_vec());
+    files
 }
 
 /// The SASwap sheet with its setup: blocks per day below 256, conduct and stealth.
@@ -112,6 +119,11 @@ pub fn revoked() -> Files {
     saswap([144, 2, 0], &[both_locked(299), revoke].concat())
 }
 
+/// Both coins are locked and nothing else: revoke can be sent. The report has no deadline for refund_2 yet.
+fn standing() -> Files {
+    saswap([144, 2, 0], &both_locked(288))
+}
+
 /// Another sheet, where the confirmation of transaction 1 decides about deadlines: 2 to 6 spend it, with absolute locks
 /// of 5 and 6 days, with one day since it, with none, and with two days since it.
 const WAITING: [u8; 47] = [
@@ -128,7 +140,7 @@ fn waiting() -> Files {
 
 /// P10's sheet and a setup, and a journal that is not there.
 fn missing_journal() -> Files {
-    [Some(P10.to_vec()), Some(vec![1, 0, 0, 0]), None]
+    [Some(P10.to_vec()), Some(vec![1, 0, 0, 0]), None, None]
 }
 
 /// 32 openings that pay either, the longest valid sheet, and a byte more.
@@ -141,8 +153,8 @@ fn long_sheet() -> Files {
 
 /// A valid setup and a byte more.
 fn long_setup() -> Files {
-    let [sheet, _, journal] = numbers();
-    [sheet, Some(vec![1, 0, 0, 0, 0]), journal]
+    let [sheet, _, journal, side] = numbers();
+    [sheet, Some(vec![1, 0, 0, 0, 0]), journal, side]
 }
 
 /// Success at 3 blocks, 3 a day: its deadline is reached.
@@ -153,13 +165,19 @@ fn late_step() -> Files {
 
 /// A journal of three bytes.
 fn short_journal() -> Files {
-    let [sheet, setup, _] = numbers();
-    [sheet, setup, Some(vec![3, 0, 0])]
+    let [sheet, setup, _, side] = numbers();
+    [sheet, setup, Some(vec![3, 0, 0]), side]
 }
 
 /// All samples: swaps that are accepted, and a folder with refused and unreadable ones and one that is accepted.
 pub fn samples() -> Vec<Sample> {
-    vec![
+    let mut samples = named();
+    samples.extend(desk());
+    samples
+}
+
+fn named() -> Vec<Sample> {
+    let samples = [
         ("swaps/fresh", fresh()),
         ("swaps/locked", locked()),
         ("swaps/numbers", numbers()),
@@ -167,9 +185,11 @@ pub fn samples() -> Vec<Sample> {
         ("swaps/pool", pool()),
         ("swaps/refunded", refunded()),
         ("swaps/revoked", revoked()),
+        ("swaps/standing", with_side(standing(), "alice\n")),
         ("swaps/waiting", waiting()),
         ("refused/bad_conduct", files(&P10, [3, 0, 3, 0], &[])),
         ("refused/bad_field", files(&P10, [1, 0, 0, 0], &[[0; 4]])),
+        ("refused/bad_side", with_side(numbers(), "carol\n")),
         ("refused/late_step", late_step()),
         ("refused/long_setup", long_setup()),
         ("refused/long_sheet", long_sheet()),
@@ -177,15 +197,45 @@ pub fn samples() -> Vec<Sample> {
         ("refused/short_journal", short_journal()),
         ("refused/short_sheet", files(&P10[..16], [1, 0, 0, 0], &[])),
         ("refused/sound", numbers()),
-    ]
+    ];
+    samples
+        .map(|(name, files)| (name.to_string(), files))
+        .to_vec()
 }
 
-/// The samples of a folder by name; one sample alone where the folder is its own, with the folder as its name.
+/// A desk of forty swaps on one sheet, of 144 blocks per day, in eight stages; half of them with stealth.
+fn desk() -> Vec<Sample> {
+    let swap = |i: usize| {
+        let side = if i % 3 == 0 { "bob\n" } else { "alice\n" };
+        let files = saswap([144, 2, (i % 2) as u8], &stage(i % 8, 5 * (i / 8)));
+        (format!("desk/swap_{:02}", i + 1), with_side(files, side))
+    };
+    (0..40).map(swap).collect()
+}
+
+/// How far a swap has come, and so many blocks more.
+fn stage(stage: usize, more: usize) -> Steps {
+    let success = vec![[1, 0, 2, 2], [3, 1, 2, 2]];
+    let revoke = || confirmed(1, 4, 2, 1 + 20 * more);
+    match stage {
+        0 => Steps::new(),
+        1 => [&FIRST_SHARES[..], &LOCK_A].concat(),
+        2 => both_locked(10 + more),
+        3 => [both_locked(100 + more), success].concat(),
+        4 => both_locked(140 + more),
+        5 => [both_locked(200 + more), vec![[3, 0, 3, 2]]].concat(),
+        6 => both_locked(280 + more),
+        _ => [both_locked(290 + more), revoke()].concat(),
+    }
+}
+
+/// The samples of a folder by name; one sample alone where the folder is its own.
 pub fn in_folder(folder: &str) -> Vec<(String, Files)> {
     let mut found = Vec::new();
     for (name, files) in samples() {
         if name == folder {
-            return vec![(format!("samples/{folder}"), files)];
+            let name = folder.rsplit('/').next().expect("a last part");
+            return vec![(name.to_string(), files)];
         }
         if let Some(name) = name.strip_prefix(&format!("{folder}/")) {
             found.push((name.to_string(), files));

@@ -1,14 +1,17 @@
 //! The calendar of `examples/calendar` against the model: its stored samples and outputs, the outages around every
-//! deadline, random swaps, and files that are too long.
+//! deadline, outages that begin later, random swaps, and files that are too long or no files.
 
 use std::collections::BTreeSet;
 use std::fs;
 use std::path::{Path, PathBuf};
 use std::process::Command;
-use swap_tests::calendar::{self, Question, Totals};
-use swap_tests::model::journal::MOST_BYTES;
-use swap_tests::model::{calls, heights, sheet, ALICE, BOB};
-use swap_tests::random::{self, Case, Random, MINE};
+use swap_tests::calendar::rule::{Kind, Outage, Swap};
+use swap_tests::calendar::{self, Length, Question, Totals};
+use swap_tests::compare::Game;
+use swap_tests::model::heights::NEVER;
+use swap_tests::model::journal::{Course, MOST_BYTES};
+use swap_tests::model::{calls, outage, sheet, ALICE, BOB};
+use swap_tests::random::{self, Case, Manner, Random, MINE};
 use swap_tests::samples::{self, Files};
 
 fn top() -> PathBuf {
@@ -19,17 +22,40 @@ fn example() -> PathBuf {
     top().join("examples/calendar")
 }
 
-/// What the calendar prints to the standard output, and its exit status.
-fn run(folder: &Path, question: &Question) -> (String, i32) {
-    let blocks = question.blocks.map_or("-".to_string(), |b| b.to_string());
-    let side = if question.side == ALICE {
-        "alice"
-    } else {
-        "bob"
+/// The arguments for a question.
+fn arguments(question: &Question) -> Vec<String> {
+    let mut words = match question.length {
+        Length::Days(days) => vec!["--days".to_string(), days.to_string()],
+        Length::Blocks(blocks) => vec!["--blocks".to_string(), blocks.to_string()],
     };
-    let output = Command::new(top().join("calendar"))
+    let numbers = [
+        ("--from", question.from),
+        ("--margin", Some(question.margin)),
+        ("--base", Some(question.base)),
+    ];
+    for (name, number) in numbers {
+        words.extend(
+            number
+                .map(|n| [name.to_string(), n.to_string()])
+                .into_iter()
+                .flatten(),
+        );
+    }
+    if let Some(side) = question.side {
+        let name = ["alice", "bob"][usize::from(side)];
+        words.extend(["--side".to_string(), name.to_string()]);
+    }
+    words.extend(question.full.then(|| "--full".to_string()));
+    words
+}
+
+/// What the calendar prints to the standard output, and its exit status. One that waits for ever is ended.
+fn run(folder: &Path, question: &Question) -> (String, i32) {
+    let output = Command::new("timeout")
+        .arg("300")
+        .arg(top().join("calendar"))
         .arg(folder)
-        .args([&blocks, side])
+        .args(arguments(question))
         .output()
         .expect("the calendar runs");
     let text = String::from_utf8(output.stdout).expect("text");
@@ -44,8 +70,27 @@ fn compare(folder: &Path, swaps: &[(String, Files)], question: &Question) -> Tot
         assert_eq!(printed, expected, "line {} with {question:?}", line + 1);
     }
     assert_eq!(printed, text, "with {question:?}");
-    assert_eq!(status, i32::from(totals.refused > 0), "with {question:?}");
+    assert_eq!(status, totals.status(), "with {question:?}");
     totals
+}
+
+/// The same in both forms.
+fn compare_both(folder: &Path, swaps: &[(String, Files)], question: &Question) -> Totals {
+    let full = Question {
+        full: true,
+        ..*question
+    };
+    let totals = compare(folder, swaps, question);
+    assert_eq!(compare(folder, swaps, &full), totals);
+    totals
+}
+
+/// An outage of so many blocks, from the next one on.
+fn blocks(blocks: u32) -> Question {
+    Question {
+        length: Length::Blocks(blocks),
+        ..Question::default()
+    }
 }
 
 /// Writes swaps to a new folder of this name.
@@ -81,7 +126,7 @@ fn stored_samples() {
     let known: BTreeSet<String> = samples.iter().map(|(name, _)| name.to_string()).collect();
     assert_eq!(listed.into_iter().collect::<BTreeSet<_>>(), known);
     for (name, files) in samples {
-        assert_eq!(samples::read(&folder.join(name)), files, "{name}");
+        assert_eq!(samples::read(&folder.join(&name)), files, "{name}");
     }
 }
 
@@ -99,63 +144,105 @@ fn stored_outputs() {
         }
     }
     println!("{compared} stored outputs are the model's");
-    assert!(compared >= 15);
+    assert!(compared >= 35);
 }
 
-/// The numbers of blocks from the position of a swap to its deadlines that are ahead.
+/// The README's examples are stored outputs.
+#[test]
+fn examples_of_the_readme() {
+    let readme = fs::read_to_string(top().join("README.md")).expect("the README");
+    for name in ["default", "standing"] {
+        let path = example().join(format!("expected/{name}.txt"));
+        let stored = fs::read_to_string(path).expect("an expected output");
+        assert!(readme.contains(&stored), "{name}");
+    }
+}
+
+/// The numbers of blocks from the position of a swap to its soonest deadlines that are ahead.
 fn distances(files: &Files) -> Vec<u32> {
-    let [Some(sheet), Some(setup), Some(journal)] = files else {
+    let [Some(sheet), Some(setup), Some(journal), _] = files else {
         return Vec::new();
     };
     let outcome = calls::outcome(sheet, setup, journal).expect("a sound swap");
     let position = &outcome.course.position;
-    let deadline = |t: u8| heights::deadline(&outcome.sheet, &outcome.setup, position, t);
-    let ahead = |d: &u32| *d > position.mined && *d != heights::NEVER;
-    let deadlines = (0..outcome.sheet.count()).map(deadline).filter(ahead);
+    let soonest = |t: u8| outage::soonest_deadline(&outcome.sheet, &outcome.setup, position, t);
+    let ahead = |d: &u32| *d > position.mined && *d != NEVER;
+    let deadlines = (0..outcome.sheet.count()).map(soonest).filter(ahead);
     deadlines
         .map(|deadline| deadline - position.mined)
         .collect()
 }
 
-/// Every sample at every deadline D that is ahead, with D = m + BLOCKS + 1, m + BLOCKS and m + BLOCKS - 1.
+/// Every sample at every soonest deadline D that is ahead, with D = m + BLOCKS + 1, m + BLOCKS and m + BLOCKS - 1.
 #[test]
 fn outages_around_the_deadlines() {
     let swaps = samples::in_folder("swaps");
     let folder = example().join("samples/swaps");
     let distances: BTreeSet<u32> = swaps.iter().flat_map(|(_, f)| distances(f)).collect();
-    assert!(distances.contains(&144) && distances.contains(&1));
+    assert!(distances.contains(&144) && distances.contains(&289) && distances.contains(&1));
+    let mut rises = 0;
     for &distance in &distances {
-        let [alice, bob] = [ALICE, BOB].map(|side| {
-            [distance - 1, distance, distance + 1].map(|blocks| {
-                let blocks = Some(blocks);
-                compare(&folder, &swaps, &Question { blocks, side }).warnings
-            })
-        });
-        println!("{distance} blocks to a deadline, warnings: Alice {alice:?}, Bob {bob:?}");
-        assert!(alice[0] < alice[1] || bob[0] < bob[1]);
+        let around = [distance - 1, distance, distance + 1];
+        let warnings = around.map(|n| compare_both(&folder, &swaps, &blocks(n)).warnings);
+        println!("{distance} blocks to a soonest deadline, warnings {warnings:?}");
+        rises += usize::from(warnings[0] < warnings[1]);
     }
+    assert!(rises > distances.len() / 2);
+}
+
+/// Whether the calendar warns of refund_2, which must be confirmed in this block.
+fn warns_of_refund_2(folder: &Path, deadline: u32, question: &Question) -> bool {
+    let full = Question {
+        full: true,
+        side: Some(ALICE),
+        ..*question
+    };
+    let (text, status) = run(folder, &full);
+    let mut lines = text
+        .lines()
+        .filter(|line| line.starts_with("    refund_2 "));
+    let line = lines.next_back().expect("a line of refund_2");
+    let warns = line.contains("WARNING: ");
+    assert!(line.contains(&format!(" to {deadline}")) && line.contains("else timeout, pays Bob"));
+    assert_eq!(status, if warns { 3 } else { 0 });
+    warns
 }
 
 /// The boundary in so many words: refund_2 must be confirmed in block 588, and 444 blocks are mined.
 #[test]
 fn last_block_of_an_outage() {
-    let swaps = [("revoked".to_string(), samples::revoked())];
-    let folder = written("calendar_boundary", &swaps);
-    let warns = |blocks: u32| {
-        let question = Question {
-            blocks: Some(blocks),
-            side: ALICE,
-        };
-        let (text, _) = run(&folder, &question);
-        let mut lines = text
-            .lines()
-            .filter(|line| line.contains("in block 588 at the latest"));
-        let line = lines.next().expect("a line of refund_2");
-        assert!(line.starts_with("    refund_2 ") && lines.next().is_none());
-        line.contains("WARNING")
+    let folder = written(
+        "calendar_boundary",
+        &[("revoked".to_string(), samples::revoked())],
+    );
+    let warns = |question: &Question| warns_of_refund_2(&folder, 588, question);
+    let margin = |n: u32, margin: u32| Question {
+        margin,
+        ..blocks(n)
     };
-    assert!(!warns(588 - 444 - 1));
-    assert!(warns(588 - 444));
+    let later = |from: u32, n: u32| Question {
+        from: Some(from),
+        ..blocks(n)
+    };
+    assert!(!warns(&blocks(588 - 444 - 1)));
+    assert!(warns(&blocks(588 - 444)));
+    assert!(!warns(&margin(100, 43)) && warns(&margin(100, 44)));
+    assert!(!warns(&later(500, 88)) && warns(&later(500, 89)));
+    assert!(warns(&later(588, 1)) && !warns(&later(589, 1)));
+}
+
+/// 144 blocks a day, careful, both coins locked, 288 blocks mined: revoke fits in block 289, and then timeout in block
+/// 578. An outage of two days costs Alice nothing, one block more can.
+#[test]
+fn deadline_of_a_parent_to_come() {
+    let folder = example().join("samples/swaps/standing");
+    let warns = |question: &Question| warns_of_refund_2(&folder, 577, question);
+    assert!(!warns(&blocks(288)) && warns(&blocks(289)) && warns(&blocks(300)));
+    let later = Question {
+        from: Some(600),
+        ..blocks(1)
+    };
+    assert!(warns(&later), "revoke can come later, and its deadline too");
 }
 
 /// Random swaps of any sort: accepted ones after walks with leaps to heights that decide something, and refused ones.
@@ -177,29 +264,111 @@ fn random_swaps(random: &mut Random, count: usize) -> Vec<(String, Files)> {
                 (sheet, setup, journal)
             }
         };
-        swaps.push((number(i), [Some(sheet), Some(setup), Some(journal)]));
+        let side = random.pick(&[None, None, Some("alice\n"), Some("bob"), Some("Bob\n")]);
+        let side = side.map(|name| name.as_bytes().to_vec());
+        swaps.push((number(i), [Some(sheet), Some(setup), Some(journal), side]));
     }
     swaps
+}
+
+/// Questions of every sort.
+fn questions() -> Vec<Question> {
+    let lengths = [0, 1, 2, 3, 7, 400].map(blocks).to_vec();
+    let plain = Question::default();
+    let (side, length) = (Some(ALICE), Length::Blocks(5));
+    let others = [
+        plain,
+        Question { side, ..plain },
+        Question {
+            side: Some(BOB),
+            ..blocks(3)
+        },
+        Question {
+            margin: 2,
+            ..blocks(2)
+        },
+        Question {
+            from: Some(6),
+            ..blocks(3)
+        },
+        Question {
+            from: Some(700_020),
+            base: 700_000,
+            length,
+            ..plain
+        },
+        Question {
+            length: Length::Days(999_999),
+            from: Some(3),
+            margin: 999_999_999,
+            ..plain
+        },
+    ];
+    [lengths, others.to_vec()].concat()
 }
 
 #[test]
 fn random_swaps_as_by_the_model() {
     let mut random = Random::new(41);
-    let swaps = random_swaps(&mut random, 600);
+    let swaps = random_swaps(&mut random, 400);
     let folder = written("calendar_random", &swaps);
     let mut sums = [0; 3];
-    for side in [ALICE, BOB] {
-        for blocks in [None, Some(0), Some(1), Some(2), Some(3), Some(7), Some(400)] {
-            let totals = compare(&folder, &swaps, &Question { blocks, side });
-            println!("side {side}, blocks {blocks:?}: {totals:?}");
-            assert_eq!(totals.warnings == 0, blocks == Some(0));
-            let counts = [totals.warnings, totals.passed, totals.refused];
-            for (sum, count) in sums.iter_mut().zip(counts) {
-                *sum += count;
-            }
+    for question in questions() {
+        let totals = compare_both(&folder, &swaps, &question);
+        println!("{question:?}: {totals:?}");
+        assert_eq!(totals.warnings == 0, question.length == Length::Blocks(0));
+        assert!(totals.before == 0 || question.from.is_some());
+        let counts = [totals.warnings, totals.before, totals.refused];
+        for (sum, count) in sums.iter_mut().zip(counts) {
+            *sum += count;
         }
     }
-    assert!(sums.iter().all(|&sum| sum > 100));
+    assert!(sums.iter().all(|&sum| sum > 100), "{sums:?}");
+}
+
+/// A course, and how it goes on for some blocks.
+fn now_and_then(random: &mut Random, game: &Game) -> (Course, Course) {
+    let manner = Manner {
+        wrong: 0,
+        leap: 5,
+        ..random::manner(random, 60)
+    };
+    let mut now = Course::fresh(&game.sheet);
+    random::more(random, &game.sheet, &game.setup, &mut now, &manner, 40);
+    let mut then = now.clone();
+    for _ in 0..20 {
+        random::more(random, &game.sheet, &game.setup, &mut then, &manner, 10);
+    }
+    (now, then)
+}
+
+/// An outage that begins later: what is no warning now is none at its beginning, whatever happens until then.
+#[test]
+fn later_outages() {
+    let mut random = Random::new(43);
+    let mut counts = [0; 3];
+    for _ in 0..2_000 {
+        let game = Game::new(random::game(&mut random));
+        let (now, then) = now_and_then(&mut random, &game);
+        let (mined, length) = (then.position.mined, random.below(20) as u32 + 1);
+        let question = Question {
+            from: Some(mined + 1),
+            ..blocks(length)
+        };
+        let before = Outage::of(&question, &game.setup, now.position.mined);
+        let begun = Outage::next(mined, length);
+        for (t, side) in (0..game.sheet.count()).flat_map(|t| [(t, ALICE), (t, BOB)]) {
+            let told = Swap::of(&game, &now).kind(&before, t, side);
+            let found = Swap::of(&game, &then).kind(&begun, t, side);
+            assert!(told == Kind::Warning || found != Kind::Warning);
+            counts[0] += usize::from(told == Kind::Warning);
+            counts[1] += usize::from(found == Kind::Warning);
+            counts[2] += usize::from(told == Kind::Before);
+        }
+    }
+    let [told, found, before] = counts;
+    println!("{told} warnings, {found} of them at the beginning, {before} due before it");
+    assert!(counts.iter().all(|&count| count > 1_000), "{counts:?}");
 }
 
 /// A swap that is refused with this number, 1 to 22 or 24.
@@ -207,7 +376,7 @@ fn refused_swap(random: &mut Random, number: u32) -> Files {
     let mut tries = (0..10_000).map(|_| random::led_case(random, 60, number));
     let refused = |case: &Case| calls::run(&case.0, &case.1, &case.2).refusal == number;
     let (sheet, setup, journal) = tries.find(refused).expect("such a swap");
-    [Some(sheet), Some(setup), Some(journal)]
+    [Some(sheet), Some(setup), Some(journal), None]
 }
 
 /// Each refusal but 23, which needs a long journal.
@@ -219,11 +388,10 @@ fn every_refusal() {
         .map(|number| (format!("{number:02}"), refused_swap(&mut random, number)))
         .collect();
     let folder = written("calendar_refusals", &swaps);
-    let question = Question {
-        blocks: None,
-        side: ALICE,
-    };
-    assert_eq!(compare(&folder, &swaps, &question).refused, 23);
+    assert_eq!(
+        compare_both(&folder, &swaps, &Question::default()).refused,
+        23
+    );
 }
 
 /// Names in the order of their bytes; a file and a hidden folder are passed over, a broken link is not.
@@ -238,13 +406,48 @@ fn names_of_swaps() {
     std::os::unix::fs::symlink("nowhere", folder.join("link")).expect("a broken link");
     let mut shown = swaps.to_vec();
     shown[3].0 = "a?b".to_string();
-    shown.insert(5, ("link".to_string(), [None, None, None]));
-    let question = Question {
-        blocks: None,
-        side: BOB,
-    };
-    let totals = compare(&folder, &shown, &question);
+    shown.insert(5, ("link".to_string(), [None, None, None, None]));
+    let totals = compare_both(&folder, &shown, &Question::default());
     assert_eq!((totals.swaps, totals.refused), (8, 1));
+}
+
+/// Puts something that is no file in a file's place: the reason that is told.
+fn put(kind: &str, path: &Path) -> &'static str {
+    let made = match kind {
+        "pipe" => Command::new("mkfifo").arg(path).status().map(|_| ()),
+        "folder" => fs::create_dir(path),
+        "device" => std::os::unix::fs::symlink("/dev/zero", path),
+        _ => std::os::unix::fs::symlink("nowhere", path),
+    };
+    made.expect("something in the file's place");
+    match kind {
+        "link" => "No such file or directory",
+        _ => "not a plain file",
+    }
+}
+
+/// Named pipes, folders, devices and broken links in a file's place: each is refused, and none is waited for.
+#[test]
+fn no_plain_files() {
+    let sound = samples::in_folder("swaps/standing").remove(0).1;
+    let kinds = ["device", "folder", "link", "pipe"];
+    let places = [("journal.bin", 2), ("side", 3)];
+    let mut expected = Vec::new();
+    let folder = written("calendar_no_files", &[]);
+    for (file, place) in places {
+        for kind in kinds {
+            let (name, mut files) = (format!("{place}_{kind}"), sound.clone());
+            files[place] = None;
+            samples::write(&folder.join(&name), &files).expect("a folder to write to");
+            let reason = put(kind, &folder.join(&name).join(file));
+            expected.push(format!("UNREADABLE {name:<16} {file}: {reason}"));
+        }
+    }
+    let (text, status) = run(&folder, &Question::default());
+    let lines: Vec<&str> = text.lines().skip(2).take(8).collect();
+    assert_eq!((lines.join("\n"), status), (expected.join("\n"), 1));
+    let (text, status) = run(&folder.join("2_pipe/journal.bin"), &Question::default());
+    assert_eq!((text.as_str(), status), ("", 1));
 }
 
 /// Files at the largest valid length, and one byte and one step beyond it: none is cut.
@@ -256,23 +459,26 @@ fn long_files() {
     for length in [MOST_BYTES, MOST_BYTES + 1, MOST_BYTES + 4, 2 * MOST_BYTES] {
         let mut journal = lock_a.concat();
         journal.extend(MINE.iter().cycle().take(length - journal.len()));
-        let files = [Some(sheet.clone()), Some(vec![3, 0, 0, 0]), Some(journal)];
+        let files = [
+            Some(sheet.clone()),
+            Some(vec![3, 0, 0, 0]),
+            Some(journal),
+            None,
+        ];
         swaps.push((format!("journal_{length:06}"), files));
     }
     for setup in [vec![3, 0, 0, 0, 0], vec![3, 0, 0, 0, 0, 0, 0, 0]] {
         let name = format!("setup_{}", setup.len());
-        swaps.push((name, [Some(sheet.clone()), Some(setup), Some(vec![])]));
+        let files = [Some(sheet.clone()), Some(setup), Some(vec![]), None];
+        swaps.push((name, files));
     }
     for length in [95, 96, 197, 198, 300] {
         let mut longer = sheet.clone();
         longer.resize(length, 0);
-        let files = [Some(longer), Some(vec![3, 0, 0, 0]), Some(vec![])];
+        let files = [Some(longer), Some(vec![3, 0, 0, 0]), Some(vec![]), None];
         swaps.push((format!("sheet_{length:03}"), files));
     }
     let folder = written("calendar_lengths", &swaps);
-    let question = Question {
-        blocks: None,
-        side: BOB,
-    };
-    assert_eq!(compare(&folder, &swaps, &question).refused, swaps.len() - 1);
+    let totals = compare_both(&folder, &swaps, &Question::default());
+    assert_eq!(totals.refused, swaps.len() - 1);
 }

@@ -1,6 +1,6 @@
 //! The cases of `examples/calendar/cases.txt`.
 
-use super::{text, Question};
+use super::{text, Length, Question};
 use crate::model::{ALICE, BOB};
 use crate::samples;
 use std::path::Path;
@@ -37,23 +37,33 @@ impl Case {
         format!("{}.txt", self.name)
     }
 
-    /// The argument in a place, if it is there and no dash.
-    fn argument(&self, place: usize) -> Option<&str> {
-        let word = self.arguments.get(place).map(String::as_str);
-        word.filter(|&word| word != "-")
-    }
-
-    fn question(&self) -> Option<Question> {
-        let blocks = match self.argument(1) {
-            None => None,
-            Some(word) => Some(word.parse().ok()?),
-        };
-        let side = match self.argument(2) {
-            None | Some("alice") => ALICE,
-            Some("bob") => BOB,
-            Some(_) => return None,
-        };
-        Some(Question { blocks, side })
+    /// The folder and the question that the arguments stand for; the sound ones only.
+    fn read(&self) -> Option<(Option<&str>, Question)> {
+        let mut question = Question::default();
+        let mut places = Vec::new();
+        let mut words = self.arguments.iter();
+        while let Some(word) = words.next() {
+            match word.as_str() {
+                "--full" => question.full = true,
+                "--blocks" => question.length = Length::Blocks(words.next()?.parse().ok()?),
+                "--days" => question.length = Length::Days(words.next()?.parse().ok()?),
+                "--from" => question.from = Some(words.next()?.parse().ok()?),
+                "--margin" => question.margin = words.next()?.parse().ok()?,
+                "--base" => question.base = words.next()?.parse().ok()?,
+                "--side" => question.side = Some(side(words.next()?)?),
+                "--help" => return None,
+                place => places.push(Some(place).filter(|&place| place != "-")),
+            }
+        }
+        let mut places = places.into_iter();
+        let folder = places.next().flatten();
+        if let Some(blocks) = places.next().flatten() {
+            question.length = Length::Blocks(blocks.parse().ok()?);
+        }
+        if let Some(name) = places.next().flatten() {
+            question.side = Some(side(name)?);
+        }
+        Some((folder, question))
     }
 
     /// The text and the exit status by the model; None for a case that only prints a message.
@@ -61,11 +71,20 @@ impl Case {
         if self.status == 2 {
             return None;
         }
-        let swaps = match self.argument(0) {
+        let (folder, question) = self.read()?;
+        let swaps = match folder {
             None => vec![("embedded".to_string(), samples::revoked())],
             Some(folder) => samples::in_folder(folder.strip_prefix("samples/")?),
         };
-        let (text, totals) = text(&swaps, &self.question()?);
-        (totals.swaps > 0).then_some((text, i32::from(totals.refused > 0)))
+        let (text, totals) = text(&swaps, &question);
+        (totals.swaps > 0).then_some((text, totals.status()))
+    }
+}
+
+fn side(name: &str) -> Option<u8> {
+    match name {
+        "alice" => Some(ALICE),
+        "bob" => Some(BOB),
+        _ => None,
     }
 }

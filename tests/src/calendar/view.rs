@@ -1,17 +1,17 @@
 //! The lines of a swap whose journal is accepted whole.
 
-use super::words::{destination_name, party_name, Names};
-use super::{verdict, Question, Totals, Verdict};
+use super::after::After;
+use super::rule::{Kind, Outage, Swap};
+use super::words::{destination_name, height, party_name, payees_name, Names};
+use super::{Question, Totals};
 use crate::model::calls::Outcome;
 use crate::model::heights::{self, NEVER};
-use crate::model::position::Confirmation;
 use crate::model::setup::Conduct;
-use crate::model::sheet::Lock;
-use crate::model::{open, report, ALICE, BOB, CONTRACT, MINER};
+use crate::model::{open, report, ALICE, BOB, MINER};
 
 /// A swap whose journal is accepted whole.
 pub struct View {
-    names: Names,
+    pub names: Names,
     outcome: Outcome,
     open: Vec<[u8; 4]>,
 }
@@ -30,19 +30,41 @@ impl View {
         self.outcome.course.position.mined
     }
 
-    pub fn lines(&self, question: &Question) -> (Vec<String>, Totals) {
-        let mut lines = self.inputs();
-        lines.extend(self.position());
+    pub fn swap(&self) -> Swap<'_> {
+        Swap {
+            sheet: &self.outcome.sheet,
+            setup: &self.outcome.setup,
+            position: &self.outcome.course.position,
+        }
+    }
+
+    pub fn after(&self, base: u32) -> After<'_> {
+        After {
+            swap: self.swap(),
+            names: &self.names,
+            open: &self.open,
+            base,
+        }
+    }
+
+    pub fn outage(&self, question: &Question) -> Outage {
+        Outage::of(question, &self.outcome.setup, self.mined())
+    }
+
+    pub fn lines(&self, question: &Question, sides: &[u8]) -> Vec<String> {
+        let mut lines = self.inputs(question.base);
+        lines.extend(self.position(question.base));
         for party in [ALICE, BOB, MINER] {
             lines.extend(self.steps(party));
         }
-        lines.extend(self.payouts());
-        let (deadlines, totals) = self.deadlines(question);
-        lines.extend(deadlines);
-        (lines, totals)
+        lines.extend(self.payouts(question.base));
+        for &side in sides {
+            lines.extend(self.deadlines(question, side));
+        }
+        lines
     }
 
-    fn inputs(&self) -> Vec<String> {
+    fn inputs(&self, base: u32) -> Vec<String> {
         let Outcome {
             sheet,
             setup,
@@ -57,16 +79,20 @@ impl View {
         };
         let (blocks_per_day, stealth) = (setup.blocks_per_day, u8::from(setup.stealth));
         let (steps, mined) = (course.accepted.len(), self.mined());
+        let height = match base {
+            0 => String::new(),
+            _ => format!(", height {}", base + mined),
+        };
         vec![
             format!("  sheet: {kind}, transactions {}", sheet.count()),
             format!(
                 "  setup: blocks per day {blocks_per_day}, conduct {conduct}, stealth {stealth}"
             ),
-            format!("  journal: steps accepted {steps}, blocks mined {mined}"),
+            format!("  journal: steps accepted {steps}, blocks mined {mined}{height}"),
         ]
     }
 
-    fn position(&self) -> Vec<String> {
+    fn position(&self, base: u32) -> Vec<String> {
         let head = [
             "transaction",
             "status",
@@ -77,12 +103,12 @@ impl View {
         ];
         let head = head.map(str::to_string);
         let mut lines = vec!["  position".to_string(), row(&head)];
-        lines.extend((0..self.outcome.sheet.count()).map(|t| row(&self.cells(t))));
+        lines.extend((0..self.outcome.sheet.count()).map(|t| row(&self.cells(t, base))));
         lines
     }
 
     /// A transaction's line of the position.
-    fn cells(&self, t: u8) -> [String; 6] {
+    fn cells(&self, t: u8, base: u32) -> [String; 6] {
         let Outcome {
             sheet,
             setup,
@@ -94,7 +120,7 @@ impl View {
             None => ("-".to_string(), "-".to_string()),
             Some(c) => (
                 destination_name(c.destination).to_string(),
-                c.block.to_string(),
+                height(base, c.block),
             ),
         };
         [
@@ -102,8 +128,8 @@ impl View {
             status(report::status(sheet, position, t)),
             payee,
             block,
-            height(heights::lock_height(sheet, setup, position, t)),
-            height(heights::deadline(sheet, setup, position, t)),
+            height(base, heights::lock_height(sheet, setup, position, t)),
+            height(base, heights::deadline(sheet, setup, position, t)),
         ]
     }
 
@@ -114,7 +140,7 @@ impl View {
         or_none(lines, 1)
     }
 
-    fn payouts(&self) -> Vec<String> {
+    fn payouts(&self, base: u32) -> Vec<String> {
         let Outcome { sheet, course, .. } = &self.outcome;
         let holders = report::holders_from_position(sheet, &course.position);
         let payouts = report::payouts(&holders);
@@ -123,8 +149,10 @@ impl View {
             let name = self.names.transaction(coin);
             let words = match (holder, payouts.get(&coin)) {
                 (None, _) => "none, not opened yet".to_string(),
-                (Some(_), None) => format!("none, in the contract {}", self.last(coin)),
-                (_, Some(&party)) => format!("paid to {} {}", party_name(party), self.last(coin)),
+                (Some(_), None) => format!("none, in the contract {}", self.last(coin, base)),
+                (_, Some(&party)) => {
+                    format!("paid to {} {}", party_name(party), self.last(coin, base))
+                }
             };
             lines.push(format!("    coin of {name}: {words}"));
         }
@@ -133,7 +161,7 @@ impl View {
 
     /// The last confirmed transaction of a coin: the one in the latest block and, there, with the highest number,
     /// since a parent has a lower one.
-    fn last(&self, coin: u8) -> String {
+    fn last(&self, coin: u8, base: u32) -> String {
         let Outcome { sheet, course, .. } = &self.outcome;
         let confirmed = course.position.confirmed.iter();
         let of_coin = confirmed.filter(|(&t, _)| sheet.coin(t) == coin);
@@ -142,140 +170,101 @@ impl View {
         format!(
             "by {} in block {}",
             self.names.transaction(t),
-            confirmation.block
+            height(base, confirmation.block)
         )
     }
 
-    fn deadlines(&self, question: &Question) -> (Vec<String>, Totals) {
-        let Outcome {
-            sheet,
-            setup,
-            course,
-            ..
-        } = &self.outcome;
-        let blocks = question.blocks.unwrap_or(setup.blocks_per_day);
-        let mined = self.mined();
-        let outage = match blocks {
-            0 => "no outage".to_string(),
-            _ => format!("outage in blocks {} to {}", mined + 1, mined + blocks),
+    /// Every transaction that is neither confirmed nor dead.
+    fn deadlines(&self, question: &Question, side: u8) -> Vec<String> {
+        let outage = self.outage(question);
+        let blocks = [outage.first, outage.last].map(|block| height(question.base, block));
+        let words = match outage.last < outage.first {
+            true => "no outage".to_string(),
+            false => format!("outage in blocks {} to {}", blocks[0], blocks[1]),
         };
+        let margin = match question.margin {
+            0 => String::new(),
+            blocks => format!(", margin {blocks}"),
+        };
+        let name = party_name(side);
         let mut lines = vec![
-            format!(
-                "  deadlines of {}'s transactions; {outage}",
-                party_name(question.side)
-            ),
+            format!("  deadlines for {name}; {words}{margin}"),
             format!("    {:<22}{:<8}to be confirmed", "transaction", "pays"),
         ];
-        let mut totals = Totals::default();
-        for t in (0..sheet.count()).filter(|&t| self.is_ours(t, question.side)) {
-            let deadline = heights::deadline(sheet, setup, &course.position, t);
-            let verdict = verdict(deadline, mined, blocks);
-            totals.warnings += usize::from(matches!(verdict, Verdict::Covered(_)));
-            totals.passed += usize::from(matches!(verdict, Verdict::Passed(_)));
-            lines.push(self.deadline(t, question.side, verdict));
+        let all = 0..self.outcome.sheet.count();
+        lines.extend(all.filter_map(|t| self.deadline(question, &outage, t, side)));
+        or_none(lines, 2)
+    }
+
+    fn deadline(&self, question: &Question, outage: &Outage, t: u8, side: u8) -> Option<String> {
+        let after = self.after(question.base);
+        let kind = after.swap.kind(outage, t, side);
+        let soonest = after.swap.soonest_deadline(t);
+        let latest = after.height(soonest);
+        let mut words = match kind {
+            Kind::Settled => return None,
+            Kind::Warning if soonest <= self.mined() => {
+                let otherwise = after.otherwise(t);
+                format!(
+                    "WARNING: block {latest} was the latest, a hand-in may save it, {otherwise}"
+                )
+            }
+            Kind::Warning if question.from.is_some() => {
+                format!("WARNING: {}{}", after.before(outage, t), window(&after, t))
+            }
+            Kind::Warning => format!("WARNING: {}", window(&after, t)),
+            Kind::Before => format!("due before the outage: {}", window(&after, t)),
+            Kind::Ahead => window(&after, t),
+            Kind::Sent => "sent, box not needed".to_string(),
+            Kind::Free if soonest == NEVER => "no deadline".to_string(),
+            Kind::Free => format!("PASSED: block {latest} was the latest"),
+            Kind::Others => "the other side's".to_string(),
+        };
+        words += &self.standing(t, side);
+        if kind != Kind::Others {
+            words += &after.in_the_way(t, side);
         }
-        (or_none(lines, 2), totals)
+        let (name, pays) = (
+            self.names.transaction(t),
+            payees_name(after.swap.can_pay(t)),
+        );
+        Some(format!("    {name:<22}{pays:<8}{words}"))
     }
 
-    /// A transaction that the side could send: a contract one or one that pays it; neither confirmed nor dead.
-    fn is_ours(&self, t: u8, side: u8) -> bool {
-        let Outcome { sheet, course, .. } = &self.outcome;
-        let open = report::status(sheet, &course.position, t) < 4;
-        open && (sheet.is_contract(t) || sheet.is_payee(t, side))
-    }
-
-    fn deadline(&self, t: u8, side: u8, verdict: Verdict) -> String {
-        let latest = |block: u32| format!("in block {block} at the latest");
-        let mut words = vec![match verdict {
-            Verdict::NoDeadline => "no deadline".to_string(),
-            Verdict::Passed(block) => format!("PASSED: block {block} was the latest"),
-            Verdict::Covered(block) => latest(block) + "; WARNING: the outage covers it",
-            Verdict::After(block) => latest(block),
-        }];
+    /// Where a transaction stands.
+    fn standing(&self, t: u8, side: u8) -> String {
         let position = &self.outcome.course.position;
         let sends = |step: &[u8; 4]| [3, 4].contains(&step[0]) && step[1] == side && step[2] == t;
         let standing = [
-            ("in the pool", position.in_pool(t)),
-            ("in the block being filled", position.in_block(t)),
-            ("can be sent now", self.open.iter().any(sends)),
+            ("; in the pool", position.in_pool(t)),
+            ("; in the block being filled", position.in_block(t)),
+            ("; can be sent now", self.open.iter().any(sends)),
         ];
         let standing = standing.iter().filter(|(_, holds)| *holds);
-        words.extend(standing.map(|(words, _)| words.to_string()));
-        if let Some(parent) = self.changes_with(t) {
-            words.push(format!(
-                "may change when {} is confirmed",
-                self.names.transaction(parent)
-            ));
-        }
-        let name = self.names.transaction(t);
-        format!("    {name:<22}{:<8}{}", self.payees(t), words.join("; "))
+        standing.map(|(words, _)| *words).collect()
     }
 
-    /// Who can be paid by the transaction or below it.
-    fn payees(&self, t: u8) -> &'static str {
-        let sheet = &self.outcome.sheet;
-        let below: Vec<u8> = (0..sheet.count())
-            .filter(|&u| sheet.line(u).contains(&t))
-            .collect();
-        let paid = |party: u8| below.iter().any(|&u| sheet.is_payee(u, party));
-        match (paid(ALICE), paid(BOB)) {
-            (true, true) => "either",
-            (true, false) => "Alice",
-            (false, true) => "Bob",
-            (false, false) => "nobody",
+    /// The warnings of a side, and what is due before the outage.
+    pub fn totals(&self, question: &Question, side: u8) -> Totals {
+        let outage = self.outage(question);
+        let all = 0..self.outcome.sheet.count();
+        let kinds: Vec<Kind> = all.map(|t| self.swap().kind(&outage, t, side)).collect();
+        let count = |kind: Kind| kinds.iter().filter(|&&k| k == kind).count();
+        Totals {
+            warnings: count(Kind::Warning),
+            before: count(Kind::Before),
+            ..Totals::default()
         }
     }
+}
 
-    /// The parent of a transaction, if it is unconfirmed and some block that is not mined yet, as the block of its
-    /// confirmation, gives the transaction another deadline.
-    fn changes_with(&self, t: u8) -> Option<u8> {
-        let Outcome {
-            sheet,
-            setup,
-            course,
-            ..
-        } = &self.outcome;
-        let position = &course.position;
-        let parent = sheet.transaction(t).parent?;
-        let now = heights::deadline(sheet, setup, position, t);
-        let changes = |block: u32| {
-            let mut later = position.clone();
-            let destination = CONTRACT;
-            later
-                .confirmed
-                .insert(parent, Confirmation { destination, block });
-            heights::deadline(sheet, setup, &later, t) != now
-        };
-        let open = !position.is_confirmed(parent);
-        (open && self.decisive_blocks(t).any(changes)).then_some(parent)
-    }
-
-    /// The blocks to try for a confirmation of t's parent: the next one, and those where a lock since the parent meets
-    /// an absolute one or its neighbours.
-    fn decisive_blocks(&self, t: u8) -> impl Iterator<Item = u32> {
-        let Outcome { sheet, setup, .. } = &self.outcome;
-        let product = |days: u8| i64::from(days) * i64::from(setup.blocks_per_day);
-        let locks = sheet
-            .rivals(t)
-            .iter()
-            .map(|&rival| sheet.transaction(rival).lock);
-        let (mut heights, mut waits) = (vec![0], vec![0]);
-        for lock in locks {
-            match lock {
-                Lock::None => {}
-                Lock::Absolute { days } => heights.push(product(days)),
-                Lock::SinceParent { days } => waits.push(product(days)),
-            }
-        }
-        let meets = move |height: i64| waits.clone().into_iter().map(move |wait| height - wait);
-        let near = heights
-            .into_iter()
-            .flat_map(meets)
-            .flat_map(|b| b - 1..=b + 1);
-        let next = i64::from(self.mined()) + 1;
-        let blocks = near.chain([next]).filter(move |&block| block >= next);
-        blocks.map(|block| block as u32)
-    }
+/// The window of blocks in which a transaction can be confirmed, and what can be confirmed after it.
+fn window(after: &After, t: u8) -> String {
+    let [from, to] = [after.swap.soonest_block(t), after.swap.soonest_deadline(t)];
+    let [from, to] = [from, to].map(|block| after.height(block));
+    let hangs_on = after.hangs_on(" at the soonest", t);
+    let otherwise = after.otherwise(t);
+    format!("in blocks {from} to {to}{hangs_on}, {otherwise}")
 }
 
 /// A line of the position.
@@ -291,13 +280,6 @@ fn status(status: u8) -> String {
     match standing.is_empty() {
         true => "-".to_string(),
         false => standing.join("+"),
-    }
-}
-
-fn height(height: u32) -> String {
-    match height {
-        NEVER => "never".to_string(),
-        _ => height.to_string(),
     }
 }
 

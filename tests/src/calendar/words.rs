@@ -1,5 +1,6 @@
 //! Names and words for numbers.
 
+use crate::model::heights::NEVER;
 use crate::model::{sheet, ALICE, BOB, CONTRACT};
 
 /// "The SASwap sheet": the names of its transactions.
@@ -90,6 +91,20 @@ pub fn destination_name(destination: u8) -> &'static str {
     match destination {
         CONTRACT => "contract",
         party => party_name(party),
+    }
+}
+
+/// Payees, as a mask.
+pub fn payees_name(payees: u8) -> &'static str {
+    ["nobody", "Alice", "Bob", "either"][usize::from(payees)]
+}
+
+/// A height of the real chain, which stood at the base before block 1; 0 is no block or no lock.
+pub fn height(base: u32, height: u32) -> String {
+    match height {
+        NEVER => "never".to_string(),
+        0 => "0".to_string(),
+        _ => (base + height).to_string(),
     }
 }
 

@@ -1,0 +1,174 @@
+#include "arguments.h"
+
+#include <stdio.h>
+#include <string.h>
+
+const char usage[] = "usage: calendar [--full] [--blocks N | --days D] [--from BLOCK] [--margin N]\n"
+                     "                [--side SIDE] [--base HEIGHT] [FOLDER]\n";
+
+const char help[] =
+    "\n"
+    "FOLDER         holds a subfolder for each swap, with sheet.bin, setup.bin and\n"
+    "               journal.bin, or is itself such a folder; left out: an embedded\n"
+    "               swap\n"
+    "--blocks N     the length of the outage in blocks\n"
+    "--days D       the same in days of each swap's setup; left out: 1\n"
+    "--from BLOCK   the first block of the outage; left out: the next one\n"
+    "--margin N     blocks to spare after the outage; left out: 0\n"
+    "--side SIDE    alice or bob; left out: what the file `side` in the swap's folder\n"
+    "               says, else both\n"
+    "--base HEIGHT  the real chain's height before block 1 of the swaps: heights are\n"
+    "               printed, and --from is read, as the real chain's\n"
+    "--full         for each swap the position, the steps that each party could take\n"
+    "               now, the payouts so far and all that can still be confirmed\n"
+    "The older form [FOLDER] [BLOCKS] [SIDE] works too; a dash leaves a place out.\n"
+    "\n"
+    "A line for each swap and side, the most urgent first: its most urgent\n"
+    "transaction, the window of blocks in which it can be confirmed, the blocks left\n"
+    "until the window ends, and what can be confirmed instead after that. A WARNING\n"
+    "says that the window can end in the outage or its margin, and that the\n"
+    "transaction or one below it can pay the side: with the box off, that payout can\n"
+    "be lost. With --from, a window that ends before the outage and cannot move is no\n"
+    "warning; it is shown as due before the outage.\n"
+    "\n"
+    "Exit status: 0 no warning; 3 warnings; 1 a swap is refused or cannot be read,\n"
+    "or there is none; 2 bad usage.\n";
+
+/* The arguments that have a value. The first three can stand by their place too. */
+enum { FOLDER, BLOCKS, SIDE, DAYS, FROM, MARGIN, BASE, ARGUMENTS };
+
+static const struct {
+    const char *name;
+    uint32_t least; /* where it is a number */
+    uint32_t most;
+} arguments[ARGUMENTS] = {
+    [FOLDER] = {"FOLDER", 0, 0},
+    [BLOCKS] = {"--blocks", 0, 999999999},
+    [SIDE] = {"--side", 0, 0},
+    [DAYS] = {"--days", 0, 999999},
+    [FROM] = {"--from", 1, 999999999},
+    [MARGIN] = {"--margin", 0, 999999999},
+    [BASE] = {"--base", 0, 499999999},
+};
+
+uint8_t side_named(const char *name)
+{
+    static const char *const names[] = {"alice", "bob"};
+
+    for (unsigned party = 0; party < sizeof names / sizeof names[0]; party++) {
+        if (strcmp(name, names[party]) == 0) {
+            return (uint8_t)(1u << party);
+        }
+    }
+    return 0;
+}
+
+/* Says what is wrong with an argument, and with its value where there is one. */
+static bool wrong(const char *argument, const char *value, const char *reason)
+{
+    fprintf(stderr, "calendar: %s%s%s: %s\n", argument, value == NULL ? "" : " ", value == NULL ? "" : value, reason);
+    return false;
+}
+
+/* A decimal number of one to nine digits in the argument's range; what is left out stays as it is. */
+static bool read_number(int argument, const char *text, uint32_t *number)
+{
+    char range[48];
+    uint32_t value = 0;
+
+    if (text == NULL) {
+        return true;
+    }
+    for (size_t i = 0; text[i] >= '0' && text[i] <= '9' && i < 9; i++) {
+        value = 10 * value + (uint32_t)(text[i] - '0');
+    }
+    if (strspn(text, "0123456789") == strlen(text) && strlen(text) >= 1 && strlen(text) <= 9 &&
+        value >= arguments[argument].least && value <= arguments[argument].most) {
+        *number = value;
+        return true;
+    }
+    snprintf(range, sizeof range, "not a number from %lu to %lu", (unsigned long)arguments[argument].least,
+             (unsigned long)arguments[argument].most);
+    return wrong(arguments[argument].name, text, range);
+}
+
+/* The length of the outage; 1 day where none is given. */
+static bool read_length(const char *const values[ARGUMENTS], struct question *question)
+{
+    question->in_days = values[BLOCKS] == NULL;
+    question->length = 1;
+    if (values[BLOCKS] != NULL && values[DAYS] != NULL) {
+        return wrong("--days", values[DAYS], "not beside --blocks");
+    }
+    return read_number(BLOCKS, values[BLOCKS], &question->length) && read_number(DAYS, values[DAYS], &question->length);
+}
+
+/* What the values say. */
+static bool read_values(const char *const values[ARGUMENTS], struct question *question)
+{
+    question->folder = values[FOLDER];
+    if (!read_length(values, question) || !read_number(BASE, values[BASE], &question->base) ||
+        !read_number(FROM, values[FROM], &question->from) || !read_number(MARGIN, values[MARGIN], &question->margin)) {
+        return false;
+    }
+    if (values[FROM] != NULL && question->from <= question->base) {
+        return wrong("--from", values[FROM], "not above the base");
+    }
+    if (values[SIDE] != NULL) {
+        question->sides = side_named(values[SIDE]);
+        return question->sides != 0 || wrong("--side", values[SIDE], "neither alice nor bob");
+    }
+    return true;
+}
+
+/* The argument of this name, or ARGUMENTS. */
+static int named(const char *name)
+{
+    int argument = FOLDER + 1;
+
+    while (argument < ARGUMENTS && strcmp(name, arguments[argument].name) != 0) {
+        argument++;
+    }
+    return argument;
+}
+
+/* Sets the value of an argument, once; a dash in a place sets none. */
+static bool set(const char *values[ARGUMENTS], int argument, const char *value)
+{
+    if (values[argument] != NULL) {
+        return wrong(arguments[argument].name, value, "given twice");
+    }
+    values[argument] = value;
+    return true;
+}
+
+bool read_question(int argc, char **argv, struct question *question)
+{
+    const char *values[ARGUMENTS] = {NULL};
+    int place = FOLDER;
+
+    for (int i = 1; i < argc; i++) {
+        int argument = named(argv[i]);
+        bool sound = true;
+
+        if (strcmp(argv[i], "--help") == 0) {
+            question->help = true;
+        } else if (strcmp(argv[i], "--full") == 0) {
+            question->full = true;
+        } else if (argument < ARGUMENTS) {
+            i++;
+            sound = i < argc ? set(values, argument, argv[i]) : wrong(arguments[argument].name, NULL, "no value");
+        } else if (strncmp(argv[i], "--", 2) == 0) {
+            sound = wrong(argv[i], NULL, "no such argument");
+        } else if (place > SIDE) {
+            sound = wrong(argv[i], NULL, "an argument too many");
+        } else {
+            sound = strcmp(argv[i], "-") == 0 || set(values, place, argv[i]);
+            place++;
+        }
+        if (!sound) {
+            return false;
+        }
+    }
+    return question->help || read_values(values, question);
+}

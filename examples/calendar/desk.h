@@ -1,0 +1,39 @@
+/* All swaps of a folder, and what the engine answers of them. */
+#ifndef DESK_H
+#define DESK_H
+
+#include "arguments.h"
+#include "outage.h"
+
+/* One swap. */
+struct entry {
+    char *name;
+    uint8_t sides;      /* whose lines are shown, a mask as payees have it */
+    struct fault fault; /* of its files */
+    struct swap swap;
+    uint32_t answer;          /* the first answer that is a refusal, else one that is none */
+    struct position position; /* after a journal that is accepted whole */
+    struct outage outage;     /* what is asked about it */
+};
+
+struct desk {
+    struct entry **entries;
+    size_t count;
+};
+
+/* Whether an entry is read and its journal accepted whole. */
+bool is_sound(const struct entry *entry);
+
+/*
+ * Reads the swaps that are asked for: the embedded one; or those of the folder, which is one swap or holds one in each
+ * subfolder, in the order of their names' bytes. Files and names that begin with a dot are passed over. False, with the
+ * reason in errno, where the folder cannot be read.
+ */
+bool read_desk(const struct question *question, struct desk *desk);
+
+/* Puts all swaps to the engine. */
+void ask_desk(const struct question *question, struct desk *desk);
+
+void free_desk(struct desk *desk);
+
+#endif

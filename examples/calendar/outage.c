@@ -1,0 +1,62 @@
+#include "outage.h"
+
+#include "saswap.h"
+
+/* More blocks than any soonest deadline that is not "never", and fewer than that. */
+#define REACH_MOST 999999999u
+
+struct outage outage_of(const struct question *question, const struct position *position)
+{
+    uint32_t days = question->in_days ? blocks_per_day_of(position->swap) : 1;
+    uint32_t first = question->from > 0 ? question->from - question->base : position->mined + 1;
+    uint64_t end = (uint64_t)first - 1 + (uint64_t)question->length * days;
+    uint64_t reach = end + question->margin;
+
+    reach = reach > position->mined ? reach - position->mined : 0;
+    return (struct outage){
+        .first = first,
+        .last = (uint32_t)end,
+        .reach = reach < REACH_MOST ? (uint32_t)reach : REACH_MOST,
+    };
+}
+
+/* Under loose and careful conduct Bob never gives sigBob, and shares it on no paying transaction: what needs it pays
+ * him alone. */
+uint8_t can_pay(const struct position *position, uint8_t t)
+{
+    const struct swap *swap = position->swap;
+    uint8_t payees = payees_below(position, t);
+
+    if (conduct_of(swap) != OPEN && payees_of(swap, t) != 0 && (needs_of(swap, t) & SIG_BOB) != 0) {
+        payees &= 1u << BOB;
+    }
+    return payees;
+}
+
+/* Whether the deadline is passed when the outage begins, whatever happens until then, and nothing can be sent after. */
+static bool is_before(const struct position *position, const struct outage *outage, uint8_t t)
+{
+    uint32_t deadline = soonest_deadline_of(position, t);
+
+    return stealth_of(position->swap) == 0 && deadline < outage->first && deadline == deadline_of(position, t);
+}
+
+enum kind kind_of(const struct position *position, const struct outage *outage, uint8_t t, uint8_t side)
+{
+    uint8_t verdict = verdict_of(position, t);
+    uint32_t deadline = soonest_deadline_of(position, t);
+
+    if (verdict == SWAP_OUTAGE_SETTLED) {
+        return SETTLED;
+    }
+    if ((can_pay(position, t) >> side & 1) == 0) {
+        return OTHERS;
+    }
+    if (verdict == SWAP_OUTAGE_SAFE) {
+        return SENT;
+    }
+    if ((verdict & SWAP_OUTAGE_COVERED) != 0 && outage->reach > 0) {
+        return is_before(position, outage, t) ? BEFORE : WARNING;
+    }
+    return deadline == NEVER || deadline <= position->mined ? FREE : AHEAD;
+}

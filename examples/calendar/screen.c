@@ -1,0 +1,241 @@
+#include "screen.h"
+
+#include <stdio.h>
+#include <stdlib.h>
+
+#include "after.h"
+#include "rivals.h"
+#include "words.h"
+
+/* The names of swaps and transactions, and the marks before them. */
+enum { MARK_WIDTH = 11, NAME_WIDTH = 16 };
+
+/* A line: a swap that is no good, or the most urgent transaction of a side. */
+struct line {
+    const struct entry *entry;
+    size_t place;      /* of the swap among all */
+    uint8_t side;      /* NONE for a swap that is no good */
+    uint8_t t;         /* NONE where no transaction has a deadline ahead */
+    unsigned urgency;  /* the less, the sooner */
+    uint32_t left;     /* blocks until its window ends, or NEVER */
+    unsigned warnings; /* of this swap and side */
+};
+
+static uint32_t blocks_left(const struct position *position, uint8_t t)
+{
+    uint32_t deadline = soonest_deadline_of(position, t);
+
+    if (deadline == NEVER) {
+        return NEVER;
+    }
+    return deadline > position->mined ? deadline - position->mined : 0;
+}
+
+/* The urgency of a transaction: a warning with its window open, one with only a hand-in left, what is due before the
+ * outage or after it, what is sent, and what has no deadline ahead but a rival in the way. The last is that of no
+ * transaction. */
+enum { FAULTY, OPEN_WARNING, LATE_WARNING, DUE_BEFORE, DUE_AFTER, UNDER_WAY, CONTESTED, NO_DEADLINE };
+
+static bool is_contested(const struct position *position, uint8_t t, uint8_t side)
+{
+    for (uint8_t rival = 0; rival < count_of(position->swap); rival++) {
+        if (in_the_way(position, t, rival, side)) {
+            return true;
+        }
+    }
+    return false;
+}
+
+static unsigned urgency_of(const struct entry *entry, uint8_t t, uint8_t side)
+{
+    const struct position *position = &entry->position;
+
+    switch (kind_of(position, &entry->outage, t, side)) {
+    case WARNING:
+        return blocks_left(position, t) > 0 ? OPEN_WARNING : LATE_WARNING;
+    case BEFORE:
+        return DUE_BEFORE;
+    case AHEAD:
+        return DUE_AFTER;
+    case SENT:
+        return UNDER_WAY;
+    case FREE:
+        return is_contested(position, t, side) ? CONTESTED : NO_DEADLINE;
+    default:
+        return NO_DEADLINE;
+    }
+}
+
+/* Puts the transaction on the line where it is more urgent than what stands there. */
+static void consider(struct line *line, uint8_t t)
+{
+    unsigned urgency = urgency_of(line->entry, t, line->side);
+    uint32_t left = blocks_left(&line->entry->position, t);
+
+    line->warnings += urgency == OPEN_WARNING || urgency == LATE_WARNING;
+    if (urgency < line->urgency || (urgency < NO_DEADLINE && urgency == line->urgency && left < line->left)) {
+        line->urgency = urgency;
+        line->left = left;
+        line->t = t;
+    }
+}
+
+static struct line line_of(const struct entry *entry, size_t place, uint8_t side)
+{
+    struct line line = {.entry = entry, .place = place, .side = side, .t = NONE, .urgency = NO_DEADLINE};
+
+    if (!is_sound(entry)) {
+        line.side = NONE;
+        line.urgency = FAULTY;
+        return line;
+    }
+    for (uint8_t t = 0; t < count_of(&entry->swap); t++) {
+        consider(&line, t);
+    }
+    return line;
+}
+
+/* The lines of all swaps; a swap that is no good has one. */
+static size_t lines_of(const struct desk *desk, struct line *lines)
+{
+    size_t count = 0;
+
+    for (size_t i = 0; i < desk->count; i++) {
+        for (uint8_t side = ALICE; side <= BOB; side++) {
+            const struct entry *entry = desk->entries[i];
+
+            if (is_sound(entry) ? (entry->sides >> side & 1) == 1 : side == ALICE) {
+                lines[count++] = line_of(entry, i, side);
+            }
+        }
+    }
+    return count;
+}
+
+static int order(size_t a, size_t b)
+{
+    return (a > b) - (a < b);
+}
+
+static int by_urgency(const void *a, const void *b)
+{
+    const struct line *first = a;
+    const struct line *second = b;
+    int by = order(first->urgency, second->urgency);
+
+    if (by == 0) {
+        by = order(first->left, second->left);
+    }
+    if (by == 0) {
+        by = order(first->place, second->place);
+    }
+    return by != 0 ? by : order(first->side, second->side);
+}
+
+static void show_fault(const struct entry *entry)
+{
+    uint32_t refusal = SWAP_REFUSAL(entry->answer);
+
+    printf("%-*s", MARK_WIDTH, entry->fault.file != NULL ? "UNREADABLE" : "REFUSED");
+    print_name(entry->name, NAME_WIDTH);
+    if (entry->fault.file != NULL) {
+        printf(" %s: %s\n", entry->fault.file, entry->fault.reason);
+    } else {
+        printf(" %s (%lu), %s\n", refusal_name(refusal), (unsigned long)refusal, refusal_words(refusal));
+    }
+}
+
+/* What stands before the name: the warnings, where there are some. */
+static void show_mark(const struct line *line)
+{
+    struct label mark = {""};
+
+    if (line->warnings > 1) {
+        snprintf(mark.text, sizeof mark.text, "WARNING x%u", line->warnings);
+    } else if (line->warnings == 1) {
+        snprintf(mark.text, sizeof mark.text, "WARNING");
+    }
+    printf("%-*s", MARK_WIDTH, mark.text);
+}
+
+/* The last column. */
+static void show_after(const struct question *question, const struct line *line)
+{
+    const struct position *position = &line->entry->position;
+    const struct outage *outage = &line->entry->outage;
+
+    if (line->urgency == LATE_WARNING) {
+        printf("passed, a hand-in may save it, ");
+    } else if (question->from > 0 && line->urgency <= DUE_BEFORE) {
+        print_before(position, outage, line->t, question->base);
+    }
+    if (line->urgency == UNDER_WAY) {
+        printf("sent, box not needed");
+    } else if (line->urgency == CONTESTED) {
+        printf("no deadline ahead");
+    } else {
+        print_else(position, line->t, question->base);
+        print_if("", position, line->t, question->base);
+    }
+    print_in_the_way(position, line->t, line->side);
+}
+
+static void show_line(const struct question *question, const struct line *line)
+{
+    const struct position *position = &line->entry->position;
+
+    if (line->urgency == FAULTY) {
+        show_fault(line->entry);
+        return;
+    }
+    show_mark(line);
+    print_name(line->entry->name, NAME_WIDTH);
+    printf(" %-6s", party_name(line->side));
+    if (line->t == NONE) {
+        printf("no deadline ahead\n");
+        return;
+    }
+    printf("%-21s%8s%8s%7s  ", transaction_label(position->swap, line->t).text,
+           height_label(question->base, soonest_block_of(position, line->t)).text,
+           height_label(question->base, soonest_deadline_of(position, line->t)).text,
+           line->left == NEVER ? "-" : height_label(0, line->left).text);
+    show_after(question, line);
+    printf("\n");
+}
+
+/* What is asked, in words. */
+static void show_question(const struct question *question)
+{
+    unsigned long length = question->length;
+
+    printf("outage: %lu %s%s", length, question->in_days ? "day" : "block", length == 1 ? "" : "s");
+    if (question->from > 0) {
+        printf(" from block %lu", (unsigned long)question->from);
+    } else {
+        printf(" from the next block");
+    }
+    if (question->margin > 0) {
+        printf(", margin %lu", (unsigned long)question->margin);
+    }
+    printf("\n");
+}
+
+bool show_screen(const struct question *question, const struct desk *desk)
+{
+    struct line *lines = malloc((2 * desk->count + 1) * sizeof *lines);
+    size_t count;
+
+    if (lines == NULL) {
+        return false;
+    }
+    count = lines_of(desk, lines);
+    qsort(lines, count, sizeof *lines, by_urgency);
+    show_question(question);
+    printf("%-*s%-*s %-6s%-21s%8s%8s%7s  %s\n", MARK_WIDTH, "", NAME_WIDTH, "swap", "side", "transaction", "from", "to",
+           "left", "after that");
+    for (size_t i = 0; i < count; i++) {
+        show_line(question, &lines[i]);
+    }
+    free(lines);
+    return true;
+}

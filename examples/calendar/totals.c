@@ -1,0 +1,38 @@
+#include "totals.h"
+
+#include <stdio.h>
+
+/* Adds the transactions of one side of a swap. */
+static void add(struct totals *totals, const struct entry *entry, uint8_t side)
+{
+    for (uint8_t t = 0; t < count_of(&entry->swap); t++) {
+        enum kind kind = kind_of(&entry->position, &entry->outage, t, side);
+
+        totals->warnings += kind == WARNING;
+        totals->before += kind == BEFORE;
+    }
+}
+
+struct totals totals_of(const struct desk *desk)
+{
+    struct totals totals = {.swaps = desk->count};
+
+    for (size_t i = 0; i < desk->count; i++) {
+        const struct entry *entry = desk->entries[i];
+
+        totals.refused += !is_sound(entry);
+        for (uint8_t side = ALICE; side <= BOB && is_sound(entry); side++) {
+            if ((entry->sides >> side & 1) == 1) {
+                add(&totals, entry, side);
+            }
+        }
+    }
+    return totals;
+}
+
+void show_totals(const struct totals *totals)
+{
+    printf("swaps: %lu; warnings: %lu; due before the outage: %lu; refused or unreadable: %lu\n",
+           (unsigned long)totals->swaps, (unsigned long)totals->warnings, (unsigned long)totals->before,
+           (unsigned long)totals->refused);
+}

@@ -1,0 +1,180 @@
+//! The calendar's rule: what an outage does to a side's transactions, and which rivals are named beside it.
+
+use super::Question;
+use crate::compare::Game;
+use crate::model::heights::{self, NEVER};
+use crate::model::journal::Course;
+use crate::model::outage::{self, COVERED, SAFE_IN_POOL, SETTLED};
+use crate::model::position::{contains, Position};
+use crate::model::setup::{Conduct, Setup};
+use crate::model::sheet::{Lock, Sheet};
+use crate::model::BOB;
+
+/// The signature number of sigBob on the SASwap sheet.
+const SIG_BOB: u8 = 1;
+
+/// The outage of one swap: "the first block", the last one, and the blocks from the next one to the end of outage and
+/// margin.
+#[derive(Clone, Copy, Debug, PartialEq, Eq)]
+pub struct Outage {
+    pub first: u32,
+    pub last: u32,
+    pub reach: u32,
+}
+
+impl Outage {
+    pub fn of(question: &Question, setup: &Setup, mined: u32) -> Outage {
+        let length = question.blocks(setup);
+        let first = question.from.map_or(mined + 1, |from| from - question.base);
+        let last = first + length - 1;
+        let end = (last + question.margin).max(mined);
+        Outage {
+            first,
+            last,
+            reach: end - mined,
+        }
+    }
+
+    /// Of so many blocks, from the next one on.
+    pub fn next(mined: u32, blocks: u32) -> Outage {
+        Outage {
+            first: mined + 1,
+            last: mined + blocks,
+            reach: blocks,
+        }
+    }
+}
+
+/// What an outage does to a transaction, for a side. Only the first is a warning.
+#[derive(Clone, Copy, Debug, PartialEq, Eq)]
+pub enum Kind {
+    Warning,
+    /// Due before the outage.
+    Before,
+    /// Its deadline comes after the outage.
+    Ahead,
+    /// "sent, box not needed".
+    Sent,
+    /// No deadline, or a passed one: nothing at stake.
+    Free,
+    /// "the other side's".
+    Others,
+    /// Confirmed or dead.
+    Settled,
+}
+
+/// A swap's sheet, setup and position.
+#[derive(Clone, Copy)]
+pub struct Swap<'a> {
+    pub sheet: &'a Sheet,
+    pub setup: &'a Setup,
+    pub position: &'a Position,
+}
+
+impl<'a> Swap<'a> {
+    /// After a course of a game.
+    pub fn of(game: &'a Game, course: &'a Course) -> Swap<'a> {
+        Swap {
+            sheet: &game.sheet,
+            setup: &game.setup,
+            position: &course.position,
+        }
+    }
+}
+
+impl Swap<'_> {
+    pub fn soonest_block(&self, t: u8) -> u32 {
+        outage::soonest_block(self.sheet, self.setup, self.position, t)
+    }
+
+    pub fn soonest_deadline(&self, t: u8) -> u32 {
+        outage::soonest_deadline(self.sheet, self.setup, self.position, t)
+    }
+
+    /// The deadline of the report.
+    pub fn deadline(&self, t: u8) -> u32 {
+        heights::deadline(self.sheet, self.setup, self.position, t)
+    }
+
+    /// Who can be paid by the transaction or below it, as a mask. Under conduct sigBob is given by nobody and shared on
+    /// contract transactions only, so a paying one that needs it is Bob's alone.
+    pub fn can_pay(&self, t: u8) -> u8 {
+        let conduct = self.setup.conduct != Conduct::Open;
+        let transaction = self.sheet.transaction(t);
+        match conduct && transaction.payees != 0 && contains(transaction.needs, SIG_BOB) {
+            true => transaction.payees & 1 << BOB,
+            false => outage::payees_below(self.sheet, t),
+        }
+    }
+
+    /// With an outage from the next block on it is the model's verdict. One that begins later counts from the next
+    /// block too; but with stealth 0, a soonest deadline that is below its first block and can no longer move, being
+    /// the report's too, is due before it.
+    pub fn kind(&self, outage: &Outage, t: u8, side: u8) -> Kind {
+        let verdict = outage::verdict(self.sheet, self.setup, self.position, outage.reach, t);
+        let (soonest, mined) = (self.soonest_deadline(t), self.position.mined);
+        let fixed = soonest == self.deadline(t);
+        if verdict == SETTLED {
+            Kind::Settled
+        } else if !contains(self.can_pay(t), side) {
+            Kind::Others
+        } else if verdict == SAFE_IN_POOL {
+            Kind::Sent
+        } else if verdict & COVERED != 0 && outage.reach > 0 && soonest != NEVER {
+            match !self.setup.stealth && soonest < outage.first && fixed {
+                true => Kind::Before,
+                false => Kind::Warning,
+            }
+        } else if (mined + 1..NEVER).contains(&soonest) {
+            Kind::Ahead
+        } else {
+            Kind::Free
+        }
+    }
+
+    /// The lock with the parent in its soonest block.
+    fn lock(&self, t: u8) -> u32 {
+        let transaction = self.sheet.transaction(t);
+        let parent = transaction.parent.map_or(0, |p| self.soonest_block(p));
+        let product = |days: u8| u32::from(days) * self.setup.blocks_per_day;
+        match transaction.lock {
+            Lock::None => 0,
+            Lock::Absolute { days } => product(days),
+            Lock::SinceParent { days } => parent + product(days),
+        }
+    }
+
+    fn other_rivals(&self, t: u8) -> impl Iterator<Item = u8> + '_ {
+        let rivals = self.sheet.rivals(t).iter().copied();
+        rivals.filter(move |&rival| rival != t)
+    }
+
+    /// The first rival that can be confirmed right after the soonest deadline: by its lock, or by one since the parent,
+    /// which moves with the parent's block and can come to it.
+    pub fn later_rival(&self, t: u8) -> Option<u8> {
+        let soonest = self.soonest_deadline(t);
+        let since = |t: u8| matches!(self.sheet.transaction(t).lock, Lock::SinceParent { .. });
+        let parent = self.sheet.transaction(t).parent;
+        let to_come = parent.is_some_and(|parent| !self.position.is_confirmed(parent));
+        let moves = |r: u8| to_come && since(r) && !since(t) && self.lock(t) + 1 == soonest;
+        let mut rivals = self.other_rivals(t);
+        rivals.find(|&r| match self.lock(r) > self.lock(t) {
+            true => self.lock(r) == soonest,
+            false => moves(r),
+        })
+    }
+
+    /// The rivals that are locked no later and are sent, or can be sent by somebody else, with whether they are sent.
+    pub fn in_the_way(&self, open: &[[u8; 4]], t: u8, side: u8) -> Vec<(u8, bool)> {
+        let sends = |r: u8| {
+            let by_another = |s: &&[u8; 4]| [3, 4].contains(&s[0]) && s[1] != side && s[2] == r;
+            open.iter().find(by_another).is_some()
+        };
+        let sent = |r: u8| self.position.in_pool(r) || self.position.in_block(r);
+        let rivals = self.other_rivals(t);
+        rivals
+            .filter(|&r| self.lock(r) <= self.lock(t) && (sent(r) || sends(r)))
+            .map(|r| (r, sent(r)))
+            .collect()
+    }
+}
