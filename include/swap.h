@@ -137,6 +137,24 @@ uint32_t swap_outage(const uint8_t *sheet, size_t sheet_length,
                      uint32_t blocks,
                      uint8_t *output, size_t output_length);
 
+/* The bytes of a page: a line for the header and for each transaction, and 33 lines at most. */
+#define SWAP_PAGE_LINE 73
+#define SWAP_PAGE_SIZE (SWAP_PAGE_LINE * 33)
+
+/*
+ * Lays the report out as text: a header, then a line for each transaction, each of 72 characters and a line feed
+ * (SWAP_PAGE_LINE bytes). Right-aligned columns: number in 3, status in 4, payee in 9 (Alice, Bob, contract, or a dash for
+ * an unconfirmed one), block in 8, lock height in 16, deadline in 16 ("never" for never), then blanks. Refusals 1 to 24 are
+ * the journal's; the count is 0.
+ *
+ * The output takes up 73 (n + 1) bytes, 2,409 (SWAP_PAGE_SIZE) at most, without a zero at its end. Refusal 25 says that the
+ * buffer is shorter than that. Bytes after the output keep their values, and under a refusal all bytes do.
+ */
+uint32_t swap_page(const uint8_t *sheet, size_t sheet_length,
+                   const uint8_t *setup, size_t setup_length,
+                   const uint8_t *journal, size_t journal_length,
+                   uint8_t *output, size_t output_length);
+
 #ifdef __cplusplus
 }
 #endif

@@ -41,6 +41,16 @@ extern "C" {
         output: *mut u8,
         output_length: usize,
     ) -> u32;
+    fn swap_page(
+        sheet: *const u8,
+        sheet_length: usize,
+        setup: *const u8,
+        setup_length: usize,
+        journal: *const u8,
+        journal_length: usize,
+        output: *mut u8,
+        output_length: usize,
+    ) -> u32;
 }
 
 /// The engine's check of a sheet, in one number.
@@ -119,4 +129,9 @@ pub fn outage(sheet: &[u8], setup: &[u8], journal: &[u8], blocks: u32, output: &
             output.len(),
         )
     }
+}
+
+/// The engine's page, in one number.
+pub fn page(sheet: &[u8], setup: &[u8], journal: &[u8], output: &mut [u8]) -> u32 {
+    lent(swap_page, sheet, setup, journal, output)
 }

@@ -3,7 +3,7 @@
 use std::fs;
 use std::path::{Path, PathBuf};
 use std::process::{Command, Output};
-use swap_tests::model::swapreport;
+use swap_tests::model::{page, swapreport};
 use swap_tests::random::{self, Case, Random, MINE};
 
 const FILES: [&str; 3] = ["sheet.bin", "setup.bin", "journal.bin"];
@@ -29,10 +29,30 @@ impl Folder {
     }
 
     fn run(&self) -> Output {
+        self.run_with(&[])
+    }
+
+    fn run_with(&self, arguments: &[&str]) -> Output {
         let program = top().join("target/bin/swapreport").canonicalize();
         let mut command =
             Command::new(program.expect("`rt check swapreport` has built the program"));
-        command.current_dir(&self.0).output().expect("it runs")
+        command.current_dir(&self.0).args(arguments);
+        command.output().expect("it runs")
+    }
+
+    /// The page that the program writes for these files, or its message, and the model's.
+    fn compare_page(&self, case: &Case) -> Result<String, u32> {
+        self.write(case);
+        let output = self.run_with(&["--page"]);
+        let written = String::from_utf8(output.stdout).expect("the program writes text");
+        let message = String::from_utf8(output.stderr).expect("the program writes text");
+        let page = page::text(&case.0, &case.1, &case.2);
+        let expected = match &page {
+            Ok(text) => (text.clone(), String::new()),
+            Err(refusal) => (String::new(), format!("no page: refused with {refusal}\n")),
+        };
+        assert_eq!((written, message), expected, "{case:?}");
+        page
     }
 
     /// What the program writes for these files, and the model's text.
@@ -128,4 +148,19 @@ fn unreadable() {
         }
         fs::remove_dir(&path).expect("the folder is removed");
     }
+}
+
+/// The page for the wall: the stored one of the sample, and random cases.
+#[test]
+fn pages() {
+    let folder = Folder::new("pages");
+    let stored = fs::read_to_string(top().join("crates/swapreport/page.txt"));
+    let stored = stored.expect("the sample's page is there");
+    assert_eq!(folder.compare_page(&sample()), Ok(stored));
+    let mut random = Random::new(32);
+    let pages: Vec<_> = (0..200)
+        .map(|_| folder.compare_page(&random::case(&mut random, 60)))
+        .collect();
+    assert!(pages.iter().any(|page| page.is_err()));
+    assert!(pages.iter().flatten().any(|page| page.lines().count() > 10));
 }

@@ -1,6 +1,7 @@
 // The outward calls for C: each packs the answer of the call in Rattle.
 use lists::list;
 use outages::outage;
+use pages::page;
 use reports::report;
 use runs::journal::ran;
 use sheet::check::sheet_refusal;
@@ -9,6 +10,7 @@ ghost use Rattle.sheet.specs.Check.{sheetRefusal};
 ghost use Rattle.position.specs.Play.{run};
 ghost use Rattle.position.specs.Answers.{packed, listAnswer, reportAnswer};
 ghost use Rattle.outages.specs.Answer.{outageAnswer};
+ghost use Rattle.pages.specs.Page.{pageAnswer};
 
 // Checks a sheet: refusal × 65,536.
 #[no_mangle]
@@ -59,4 +61,13 @@ pub extern "C" fn swap_outage(
     ensures { λ _. ⌜ now (out .exit) ≡ outageAnswer (now (sheet .entry)) (now (setup .entry)) (now (journal .entry)) blocks (now (out .entry)) .buffer ⌝ }
 {
     outage(sheet, setup, journal, blocks, out) * 65536
+}
+
+// The page of the position after a journal: refusal × 65,536.
+#[no_mangle]
+pub extern "C" fn swap_page(sheet: &[u8], setup: &[u8], journal: &[u8], out: &mut [u8]) -> u32
+    ensures { λ r. ⌜ r ≡ packed (pageAnswer (now (sheet .entry)) (now (setup .entry)) (now (journal .entry)) (now (out .entry)) .refusal) 0 ⌝ }
+    ensures { λ _. ⌜ now (out .exit) ≡ pageAnswer (now (sheet .entry)) (now (setup .entry)) (now (journal .entry)) (now (out .entry)) .buffer ⌝ }
+{
+    page(sheet, setup, journal, out) * 65536
 }

@@ -1,4 +1,6 @@
-// Reads sheet.bin, setup.bin and journal.bin in its folder, and prints the report of the position that the journal leads to.
+// Reads sheet.bin, setup.bin and journal.bin in its folder, and prints the report of the position that the journal leads to; with an
+// argument, its page for the wall.
+use libc::STDERR_FILENO;
 use libc::STDOUT_FILENO;
 use printed::First;
 use printed::Line;
@@ -55,6 +57,27 @@ fn print_report(sheet: &[u8], setup: &[u8], journal: &[u8]) {
     print_lines(&report, n);
 }
 
+// The first bytes of a text.
+fn print_front(text: &[u8], end: usize)
+    requires { ⌜ end ≤ length (now text) ⌝ }
+{
+    io::write_all(STDOUT_FILENO, &text[..end]);
+}
+
+// The page; on a refusal nothing but the number on standard error.
+fn print_page(sheet: &[u8], setup: &[u8], journal: &[u8]) {
+    let first = printed::first_line(sheet, setup, journal);
+    let mut page = [0u8; 2409];
+    let number = pages::page(sheet, setup, journal, &mut page);
+    if number != 0 {
+        io::write_all(STDERR_FILENO, b"no page: refused with ");
+        io::print_decimal(STDERR_FILENO, number as u64);
+        io::write_all(STDERR_FILENO, b"\n");
+        return;
+    }
+    print_front(&page, 73 * (first.lines + 1));
+}
+
 // Each file is read up to one byte more than the largest valid length, so that one that is too long is refused as such.
 fn main() {
     let mut sheet = [0u8; 198];
@@ -75,5 +98,9 @@ fn main() {
     let s = sheet_file.length;
     let u = setup_file.length;
     let j = journal_file.length;
+    if 1 < os::arg_count() {
+        print_page(&sheet[..s], &setup[..u], &journal[..j]);
+        return;
+    }
     print_report(&sheet[..s], &setup[..u], &journal[..j]);
 }

@@ -13,6 +13,7 @@ pub mod journal;
 pub mod ledger;
 pub mod open;
 pub mod outage;
+pub mod page;
 pub mod position;
 pub mod report;
 pub mod setup;

@@ -1,0 +1,11 @@
+pub mod Columns
+pub mod Digits
+pub mod Names
+pub mod Lines
+pub mod Rows
+pub mod Pages
+pub mod Reading
+pub mod Cuts
+pub mod Back
+pub mod Theorems
+pub mod Examples

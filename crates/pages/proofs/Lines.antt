@@ -1,0 +1,151 @@
+-- The lines of a page have one length, whatever bytes the report has.
+-- Assumes nothing.
+use Prim.Native.Nat.{ℕ, zero, suc, _+_, _-_, _*_, _^_, _≤_, _<_}
+use native.Mathlib.Omega.{arith}
+use native.Mathlib.Nat.{mul-suc, mul-zero}
+use mathlib.Core.Path.{_≡_, refl, ap, sym, _∙_}
+use mathlib.Core.List.{List, [], _∷_, _++_}
+use lib.Dec.{eqb, lit<, lit≤}
+use lib.ListN.{length, getD, length-append}
+use Rattle.laws.specs.Booleans.{split}
+use Rattle.laws.specs.Gather.{gather}
+use Rattle.laws.specs.Little.{numberAt}
+use Rattle.laws.specs.Sum.{sumBelow, length-gathered}
+use Rattle.sheet.specs.LockHeight.{never}
+use Rattle.slots.specs.Destination.{alice, bob, contract}
+use Rattle.readings.specs.Reported.{reportedStatus, reportedPayee, reportedLine}
+use Rattle.printed.specs.declared.Line.{Line}
+use Rattle.pages.specs.Line.{blanks, digits, column, widths, columns, lineFeed, lineWidth, ended, line}
+use Rattle.pages.specs.Page.{payeeText, heightText, header, texts, lineTexts, pageOf}
+use Rattle.pages.specs.Forms.Cell.{values, cell}
+use Rattle.pages.proofs.Columns.{length-blanks, length-column}
+use Rattle.pages.proofs.Digits.{digits-few}
+use Rattle.pages.proofs.Names.{is-header, is-row}
+
+-- the columns as the code writes them
+module _ (report : List ℕ) (i k : ℕ) where
+  pub cell-header : i ≡ 0 → column (getD widths k 0) (getD header k []) ≡ cell report i k
+  unfolding cell
+  cell-header e = ap (λ l. column (getD widths k 0) (getD l k [])) (is-header report i e)
+
+  pub cell-row : (row : Line) → (i ≡ 0 → ⊥) → values (i - 1) row ≡ reportedLine report (i - 1)
+      → column (getD widths k 0) (getD (texts (values (i - 1) row)) k []) ≡ cell report i k
+  unfolding cell
+  cell-row row h e =
+      ap (λ l. column (getD widths k 0) (getD l k [])) (ap texts e ∙ is-row report i h)
+
+pub cells : (report : List ℕ) (i : ℕ) → gather 6 (cell report i) ≡ columns (lineTexts report i)
+unfolding cell columns
+cells report i = refl
+
+-- how long the texts can be
+pub payee-short : (payee : ℕ) → length (payeeText payee) ≤ 8
+unfolding payeeText
+payee-short payee =
+    split (eqb payee alice)
+    (λ e. rw e (lit≤ tt))
+    (λ e. split (eqb payee bob) (λ f. rw (e, f) (lit≤ tt)) (λ f. split (eqb payee contract) (λ g. rw (e, f, g) (lit≤ tt)) (λ g. rw (e, f, g) (lit≤ tt))))
+
+pub height-short : (height : ℕ) → height < 10 ^ 10 → length (heightText height) ≤ 10
+unfolding heightText
+height-short height h =
+    split (eqb height never) (λ e. rw e (lit≤ tt)) (λ e. rw e (digits-few 9 height h))
+
+column-within : (w m : ℕ) (x : List ℕ) → w ≤ m → length x ≤ m → length (column w x) ≤ m
+column-within w m x h l = omega (arith, length-column w x)
+
+-- a number in four bytes
+number-below : (l : List ℕ) → ((n : ℕ) → getD l n 0 < 256) → (i : ℕ) → numberAt 4 l i < 10 ^ 10
+unfolding numberAt
+number-below l b i = omega (arith, b i, b (suc i), b (suc (suc i)), b (suc (suc (suc i))))
+
+ended-length : (shown : List ℕ) → length shown ≤ lineWidth → length (ended shown) ≡ 73
+unfolding ended
+ended-length shown h =
+    length-append shown _
+    ∙ omega (arith, length-append (blanks (lineWidth - length shown)) (lineFeed ∷ []), length-blanks (lineWidth - length shown))
+
+columns-length : (texts : List (List ℕ)) → length (columns texts) ≡ sumBelow 6 (λ k. length (column (getD widths k 0) (getD texts k [])))
+unfolding columns
+columns-length texts = length-gathered 6 (λ k. column (getD widths k 0) (getD texts k []))
+
+-- lists of one length below n, end to end
+pub length-below : (f : ℕ → List ℕ) (w n : ℕ) → ((k : ℕ) → k < n → length (f k) ≡ w) → length (gather n f) ≡ w * n
+unfolding gather
+length-below f w zero h = sym (mul-zero w)
+length-below f w (suc n) h =
+    length-append (gather n f) (f n) ∙ rw (length-below f w n (λ k l. h k (omega arith)), h n (omega arith), mul-suc)
+
+-- the columns of a transaction whose numbers have at most ten digits
+row-short : (t st payee block lock deadline : ℕ) → t < 1000 → st < 1000 → block < 10 ^ 10 → lock < 10 ^ 10 → deadline < 10 ^ 10
+    → length (columns (texts (t ∷ st ∷ payee ∷ block ∷ lock ∷ deadline ∷ []))) ≤ 58
+unfolding sumBelow texts
+row-short t st payee block lock deadline ht hs hb hl hd =
+    omega (
+      arith,
+      columns-length (texts (t ∷ st ∷ payee ∷ block ∷ lock ∷ deadline ∷ [])),
+      column-within 3 3 (digits t) (lit≤ tt) (digits-few 2 t (omega arith)),
+      column-within 4 4 (digits st) (lit≤ tt) (omega (arith, digits-few 2 st (omega arith))),
+      column-within 9 9 (payeeText payee) (lit≤ tt) (omega (arith, payee-short payee)),
+      column-within 8 10 (digits block) (lit≤ tt) (digits-few 9 block hb),
+      column-within 16 16 (heightText lock) (lit≤ tt) (omega (arith, height-short lock hl)),
+      column-within 16 16 (heightText deadline) (lit≤ tt) (omega (arith, height-short deadline hd)),
+    )
+
+header-short : length (columns header) ≤ 58
+unfolding columns column blanks gather
+header-short = lit≤ tt
+
+-- what a report has where the numbers of its first n rows have at most ten digits
+pub record Readable (n : ℕ) (report : List ℕ) : Type 0 where
+  pub few : n ≤ 32
+  pub status : (t : ℕ) → t < n → reportedStatus report t < 1000
+  pub number : (t : ℕ) → t < n
+      → (numberAt 4 report (14 * t + 2) < 10 ^ 10) × ((numberAt 4 report (14 * t + 6) < 10 ^ 10) × (numberAt 4 report (14 * t + 10) < 10 ^ 10))
+
+-- bytes are so
+pub bytes-readable : (n : ℕ) (report : List ℕ) → n ≤ 32 → ((i : ℕ) → getD report i 0 < 256) → Readable n report
+unfolding reportedStatus
+bytes-readable n report h b =
+    record { few = h; status = λ t l. omega (arith, b (14 * t)); number = λ t l. (number-below report b (14 * t + 2), (number-below report b (14 * t + 6), number-below report b (14 * t + 10))) }
+
+module _ (n : ℕ) (report : List ℕ) (r : Readable n report) where
+  pub columns-short : (i : ℕ) → i ≤ n → length (columns (lineTexts report i)) ≤ 58
+  unfolding lineTexts reportedLine
+  columns-short zero h = header-short
+  columns-short (suc t) h =
+      row-short t (reportedStatus report t) (reportedPayee report t) (numberAt 4 report (14 * t + 2)) (numberAt 4 report (14 * t + 6)) (numberAt 4 report (14 * t + 10))
+      (omega (arith, r .few)) (r .status t (omega arith)) (r .number t (omega arith) .0) (r .number t (omega arith) .1 .0) (r .number t (omega arith) .1 .1)
+
+  pub cells-short : (i : ℕ) → i ≤ n → length (gather 6 (cell report i)) ≤ 58
+  cells-short i h = rw (cells report i) (columns-short i h)
+
+  -- the columns have room where the line has
+  pub cells-room : (i m : ℕ) → i ≤ n → 73 ≤ m → length (gather 6 (cell report i)) ≤ m
+  cells-room i m h l = omega (arith, cells-short i h)
+
+  pub line-length : (i : ℕ) → i ≤ n → length (line (lineTexts report i)) ≡ 73
+  unfolding line
+  line-length i h = ended-length (columns (lineTexts report i)) (omega (arith, columns-short i h))
+
+  pub page-length : length (pageOf n report) ≡ 73 * suc n
+  unfolding pageOf
+  page-length = length-below (λ i. line (lineTexts report i)) 73 (suc n) (λ i l. line-length i (omega arith))
+
+  -- the lines have room where the page has
+  pub page-room : (m : ℕ) → 73 * suc n ≤ m → length (gather (suc n) (λ i. line (lineTexts report i))) ≤ m
+  unfolding pageOf
+  page-room m l = rw page-length l
+
+-- the end of a line, in a column of its own
+pub end-column : (at : ℕ) (shown : List ℕ) → at ≡ length shown → column (73 - at) (lineFeed ∷ []) ≡ blanks (lineWidth - length shown) ++ (lineFeed ∷ [])
+unfolding column
+end-column at shown e = ap (λ n. blanks n ++ (lineFeed ∷ [])) (omega arith)
+
+-- a line as the code writes it
+pub line-parts : (report : List ℕ) (i at : ℕ) → at ≡ length (gather 6 (cell report i))
+    → gather 6 (cell report i) ++ column (73 - at) (lineFeed ∷ []) ≡ line (lineTexts report i)
+unfolding line ended
+line-parts report i at e =
+    let f = rw (cells report i) at e in
+    rw (cells report i) (ap (λ r. columns (lineTexts report i) ++ r) (end-column at (columns (lineTexts report i)) f))

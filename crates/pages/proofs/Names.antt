@@ -1,0 +1,67 @@
+-- Which text stands for a payee, for a height, and for a column of the header or of a transaction.
+-- Assumes nothing.
+use Prim.Native.Nat.{ℕ, zero, suc, _-_, _<_}
+use native.Mathlib.Omega.{arith}
+use mathlib.Core.Path.{_≡_, refl, ap}
+use mathlib.Core.List.{List, []}
+use lib.ListN.{getD}
+use borrow.Author.Tests.{eq-eqb, ne-eqb}
+use Rattle.sheet.specs.LockHeight.{never}
+use Rattle.slots.specs.Destination.{alice, bob, contract}
+use Rattle.readings.specs.Reported.{reportedLine}
+use Rattle.pages.specs.Line.{digits}
+use Rattle.printed.specs.declared.Line.{Line}
+use Rattle.pages.specs.Forms.Cell.{values}
+use Rattle.pages.specs.Page.{aliceText, bobText, contractText, dashText, payeeText, neverText, heightText, header, texts, lineTexts}
+
+module _ (payee : ℕ) where
+  pub is-alice : payee ≡ alice → aliceText ≡ payeeText payee
+  unfolding payeeText
+  is-alice e = rw e
+
+  pub is-bob : payee ≡ bob → bobText ≡ payeeText payee
+  unfolding payeeText
+  is-bob e = rw e
+
+  pub is-contract : payee ≡ contract → contractText ≡ payeeText payee
+  unfolding payeeText
+  is-contract e = rw e
+
+  pub is-nobody : (payee ≡ alice → ⊥) → (payee ≡ bob → ⊥) → (payee ≡ contract → ⊥) → dashText ≡ payeeText payee
+  unfolding payeeText
+  is-nobody a b c = rw (ne-eqb payee alice a, ne-eqb payee bob b, ne-eqb payee contract c)
+
+module _ (height : ℕ) where
+  pub is-never : height ≡ never → neverText ≡ heightText height
+  unfolding heightText
+  is-never e = rw (eq-eqb height never e)
+
+  pub is-height : (height ≡ never → ⊥) → digits height ≡ heightText height
+  unfolding heightText
+  is-height h = rw (ne-eqb height never h)
+
+-- line 0 is the header, the others are the transactions'
+module _ (report : List ℕ) (i : ℕ) where
+  pub is-header : i ≡ 0 → header ≡ lineTexts report i
+  unfolding lineTexts
+  is-header e = rw e
+
+  pub is-row : (i ≡ 0 → ⊥) → texts (reportedLine report (i - 1)) ≡ lineTexts report i
+  unfolding lineTexts
+  is-row h = let e : suc (i - 1) ≡ i = omega (arith, h) in ap (λ n. lineTexts report n) e
+
+-- the text of column k of the header, and of a transaction's line
+pub is-title : (n k : ℕ) → k ≡ n → getD header n [] ≡ getD header k []
+is-title n k e = rw e
+
+pub is-value : (t : ℕ) (row : Line) (n k : ℕ) → k ≡ n → getD (texts (values t row)) n [] ≡ getD (texts (values t row)) k []
+is-value t row n k e = rw e
+
+-- none of the first five columns
+pub last : (k : ℕ) → k < 6 → (k ≡ 0 → ⊥) → (k ≡ 1 → ⊥) → (k ≡ 2 → ⊥) → (k ≡ 3 → ⊥) → (k ≡ 4 → ⊥) → k ≡ 5
+last zero h a b c d e = absurd (a refl)
+last (suc zero) h a b c d e = absurd (b refl)
+last (suc (suc zero)) h a b c d e = absurd (c refl)
+last (suc (suc (suc zero))) h a b c d e = absurd (d refl)
+last (suc (suc (suc (suc zero)))) h a b c d e = absurd (e refl)
+last (suc (suc (suc (suc (suc k))))) h a b c d e = omega (arith, h)

@@ -1,0 +1,90 @@
+-- The digits from the last one on, then their column.
+use Prim.Native.Nat.{_-_}
+use native.Mathlib.Omega.{arith}
+use mathlib.Core.Path.{refl}
+use Rattle.pages.proofs.Columns.{same-column, room-as, written-as}
+use Rattle.pages.proofs.Digits.{Made, digits-some, made-none, made-room, made-more, made-long, made-all}
+use borrow.Author.Needs.{needs}
+use Rattle.pages.proofs.line.write_number.Statement.{statement}
+use Rattle.pages.proofs.line.write_number.Tie as tie
+
+abbrev Inv-loop : tie.InvT-loop
+Inv-loop width x out made₀ at₀ rest₀ made at rest = Made x made at rest
+
+abbrev μ-loop : tie.MeasureT-loop
+μ-loop width x out made₀ at₀ rest₀ made at rest = rest
+
+loop-holds : tie.Need-loop-holds Inv-loop μ-loop
+loop-holds c = made-none _ _ refl (search needs)
+
+sub-at : tie.Need-sub-at Inv-loop μ-loop
+sub-at c =
+    let l = c .before .loop in omega (arith, made-room _ _ _ _ (l .inv), digits-some (l .rest))
+
+digit-requires : tie.Need-digit-requires Inv-loop μ-loop
+digit-requires c κs = search needs
+
+array-write-made : tie.Need-array-write-made Inv-loop μ-loop
+array-write-made c =
+    let l = c .before .before .loop in omega (arith, l .inv .within, made-room _ _ _ _ (l .inv), digits-some (l .rest))
+
+loop-less : tie.Need-loop-less Inv-loop μ-loop
+loop-less c = search needs
+
+loop-again : tie.Need-loop-again Inv-loop μ-loop
+loop-again c = made-more _ _ _ _ (c .before .before .loop .inv) _ (c .before .loop-test .taken) (c .digit .ensures)
+
+sub-at-2 : tie.Need-sub-at-2 Inv-loop μ-loop
+sub-at-2 c =
+    let l = c .before .loop in omega (arith, made-room _ _ _ _ (l .inv), digits-some (l .rest))
+
+digit-requires-2 : tie.Need-digit-requires-2 Inv-loop μ-loop
+digit-requires-2 c κs = search needs
+
+array-write-made-2 : tie.Need-array-write-made-2 Inv-loop μ-loop
+array-write-made-2 c =
+    let l = c .before .before .loop in omega (arith, l .inv .within, made-room _ _ _ _ (l .inv), digits-some (l .rest))
+
+sub-write-text : tie.Need-sub-write-text Inv-loop μ-loop
+sub-write-text c = search needs
+
+part-write-text-start : tie.Need-part-write-text-start Inv-loop μ-loop
+part-write-text-start c = search needs
+
+part-write-text-end : tie.Need-part-write-text-end Inv-loop μ-loop
+part-write-text-end c = omega (arith, made-long _ _ _ _ (c .before .before .before .loop .inv) (c .before .digit2 .result))
+
+write-text-requires : tie.Need-write-text-requires Inv-loop μ-loop
+write-text-requires c κs =
+    let k = c .before .before .before .before in
+    room-as _ _ (same-column _ _ _ _ refl (made-all _ _ _ _ (k .before .loop .inv) _ (k .loop-test .left) (c .before .before .before .digit2 .ensures))) _ (c .before .before .before .before .before .before .before .pre)
+
+same-length : tie.Need-same-length Inv-loop μ-loop
+same-length c = search needs
+
+returns : tie.Need-returns Inv-loop μ-loop
+returns c =
+    let k = c .before .before .before .before .before .before .before in
+    written-as _ _ (same-column _ _ _ _ refl (made-all _ _ _ _ (k .before .loop .inv) _ (k .loop-test .left) (c .before .before .before .before .before .before .digit2 .ensures))) _ _ _ (c .before .before .write-text .ensures)
+
+pub write-number-spec : {M : Type 1} → statement M
+write-number-spec =
+    tie.close
+    (tie.spec
+    Inv-loop
+    μ-loop
+    loop-holds
+    sub-at
+    digit-requires
+    array-write-made
+    loop-less
+    loop-again
+    sub-at-2
+    digit-requires-2
+    array-write-made-2
+    sub-write-text
+    part-write-text-start
+    part-write-text-end
+    write-text-requires
+    same-length
+    returns)

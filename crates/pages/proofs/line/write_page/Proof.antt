@@ -1,0 +1,87 @@
+-- The lines before i.
+use Prim.Native.Nat.{suc, _-_, _≤_, _<_}
+use native.Mathlib.Omega.{arith}
+use mathlib.Core.Path.{_≡_, sym}
+use lib.ListN.{length}
+use Rattle.laws.specs.Wrote.{Turns, turns-start, turn-room, turn-end, turn-more, turns-done}
+use Rattle.pages.specs.Line.{line}
+use Rattle.pages.specs.Page.{lineTexts, pageOf}
+use Rattle.pages.proofs.Lines.{bytes-readable, line-length, page-room}
+use borrow.Author.Needs.{needs}
+use Rattle.pages.proofs.line.write_page.Statement.{statement}
+use Rattle.pages.proofs.line.write_page.Tie as tie
+
+abbrev Inv-loop : tie.InvT-loop
+Inv-loop report n out₀ at₀ i₀ out at i = Turns (λ j. line (lineTexts report j)) (suc n) out₀ out at i
+
+abbrev μ-loop : tie.MeasureT-loop
+μ-loop report n out₀ at₀ i₀ out at i = suc n - i
+
+-- line i has its length
+long : (c : tie.In-loop Inv-loop μ-loop) → length (line (lineTexts (c .before .before .before .before .args .report .now) (c .before .loop .i))) ≡ 73
+long c =
+    let known = c .before .before .before .shared-slice-known .given in
+    line-length (c .before .before .before .before .args .n) (c .before .before .before .before .args .report .now) (bytes-readable _ _ (c .before .before .before .before .pre .0) (λ k. omega (arith, known k))) (c .before .loop .i) (omega (arith, c .loop-test .taken))
+
+again : (c : tie.In-loop Inv-loop μ-loop) → c .before .loop .i < suc (c .before .before .before .before .args .n)
+again c = omega (arith, c .loop-test .taken)
+
+loop-holds : tie.Need-loop-holds Inv-loop μ-loop
+loop-holds c =
+    let s = c .before .before in
+    turns-start _ _ _ (page-room (s .args .n) (s .args .report .now) (bytes-readable _ _ (s .pre .0) (λ k. omega (arith, c .before .shared-slice-known .given k))) _ (s .pre .1 .1))
+
+sub-write-line : tie.Need-sub-write-line Inv-loop μ-loop
+sub-write-line c = omega (arith, c .before .loop .inv .wrote)
+
+part-write-line-start : tie.Need-part-write-line-start Inv-loop μ-loop
+part-write-line-start c = omega (arith, c .before .loop .inv .wrote)
+
+part-write-line-end : tie.Need-part-write-line-end Inv-loop μ-loop
+part-write-line-end c = search needs
+
+write-line-requires : tie.Need-write-line-requires Inv-loop μ-loop
+write-line-requires c κs =
+    let s = c .before .before .before .before .before in
+    let i = c .before .before .loop in
+    let l = again (c .before) in
+    (omega (arith, s .pre .0, l), (omega (arith, s .pre .1 .0, l), omega (arith, long (c .before), turn-room _ _ _ _ _ _ (i .inv) l)))
+
+add-at : tie.Need-add-at Inv-loop μ-loop
+add-at c =
+    let k = c .before .before .before .before in omega (arith, turn-end _ _ _ _ _ _ 73 (k .before .loop .inv) (again k) (sym (long k)))
+
+add-i : tie.Need-add-i Inv-loop μ-loop
+add-i c = search needs
+
+loop-less : tie.Need-loop-less Inv-loop μ-loop
+loop-less c = search needs
+
+loop-again : tie.Need-loop-again Inv-loop μ-loop
+loop-again c =
+    let k = c .before .before .before .before in turn-more _ _ _ _ _ _ _ 73 (k .before .loop .inv) (again k) (sym (long k)) (c .before .before .write-line .ensures)
+
+same-length : tie.Need-same-length Inv-loop μ-loop
+same-length c = c .before .loop .inv .wrote .long
+
+returns : tie.Need-returns Inv-loop μ-loop
+unfolding pageOf
+returns c = turns-done _ _ _ _ _ _ (c .before .loop .inv) (omega (arith, c .loop-test .left)) .is
+
+pub write-page-spec : {M : Type 1} → statement M
+write-page-spec =
+    tie.close
+    (tie.spec
+    Inv-loop
+    μ-loop
+    loop-holds
+    sub-write-line
+    part-write-line-start
+    part-write-line-end
+    write-line-requires
+    add-at
+    add-i
+    loop-less
+    loop-again
+    same-length
+    returns)

@@ -1,0 +1,65 @@
+-- The column, byte by byte.
+use Prim.Native.Nat.{_-_}
+use native.Mathlib.Omega.{arith}
+use Rattle.pages.specs.Line.{column}
+use Rattle.pages.proofs.Columns.{Copied, copied-none, column-end, column-turn, column-done}
+use borrow.Author.Needs.{needs}
+use Rattle.pages.proofs.line.write_text.Statement.{statement}
+use Rattle.pages.proofs.line.write_text.Tie as tie
+
+abbrev Inv-loop : tie.InvT-loop
+Inv-loop width text out₀ before end i₀ out i = Copied (column width text) out₀ out i
+
+abbrev μ-loop : tie.MeasureT-loop
+μ-loop width text out₀ before end i₀ out i = end - i
+
+lack-requires : tie.Need-lack-requires Inv-loop μ-loop
+lack-requires c κs = search needs
+
+add-end : tie.Need-add-end Inv-loop μ-loop
+add-end c = search needs
+
+loop-holds : tie.Need-loop-holds Inv-loop μ-loop
+loop-holds c = copied-none _ _
+
+aligned-requires : tie.Need-aligned-requires Inv-loop μ-loop
+aligned-requires c κs = search needs
+
+slice-write-out : tie.Need-slice-write-out Inv-loop μ-loop
+slice-write-out c =
+    let s = c .before .before .before .before .before .before in
+    omega (arith, s .pre, c .before .before .loop .inv .long, column-end (s .args .width) (s .args .text .now) _ (c .before .before .before .lack .ensures))
+
+add-i : tie.Need-add-i Inv-loop μ-loop
+add-i c = search needs
+
+loop-less : tie.Need-loop-less Inv-loop μ-loop
+loop-less c = search needs
+
+loop-again : tie.Need-loop-again Inv-loop μ-loop
+loop-again c = column-turn _ _ _ (c .before .before .before .lack .ensures) _ _ _ _ (c .before .before .loop .inv) (c .before .loop-test .taken) (c .aligned .ensures)
+
+same-length : tie.Need-same-length Inv-loop μ-loop
+same-length c = c .before .loop .inv .long
+
+returns : tie.Need-returns Inv-loop μ-loop
+returns c =
+    let e = c .before .before .lack .ensures in
+    (column-end _ _ _ e, column-done _ _ _ e _ _ _ (c .before .loop .inv) (c .loop-test .left))
+
+pub write-text-spec : {M : Type 1} → statement M
+write-text-spec =
+    tie.close
+    (tie.spec
+    Inv-loop
+    μ-loop
+    lack-requires
+    add-end
+    loop-holds
+    aligned-requires
+    slice-write-out
+    add-i
+    loop-less
+    loop-again
+    same-length
+    returns)

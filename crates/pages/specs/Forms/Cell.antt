@@ -1,0 +1,16 @@
+-- A column of a line, as the code writes it.
+-- Assumes nothing.
+use Prim.Native.Nat.{ℕ}
+use mathlib.Core.List.{List, [], _∷_}
+use lib.ListN.{getD}
+use Rattle.printed.specs.declared.Line.{Line}
+use Rattle.pages.specs.Line.{column, widths}
+use Rattle.pages.specs.Page.{lineTexts}
+
+-- a transaction's values in the order of their columns
+abbrev pub values : ℕ → Line → List ℕ
+values t row = t ∷ row .status ∷ row .payee ∷ row .block ∷ row .lock ∷ row .deadline ∷ []
+
+-- column k of line i
+unfoldable pub cell : List ℕ → ℕ → ℕ → List ℕ
+cell report i k = column (getD widths k 0) (getD (lineTexts report i) k [])

@@ -1,0 +1,4 @@
+pub mod Line
+pub mod Page
+pub mod Claim
+pub mod Forms
