@@ -9,7 +9,7 @@
  * An output buffer overlaps no other slice of its call.
  *
  * The first refusal is answered, in this order: the sheet's 1 to 8, the setup's 9 and 10, the journal's 24, then 11 to 23
- * step by step, with 17 before 16, and 25 last.
+ * step by step, with 17 before 16, and 25 last. swap_timelocks, which takes no journal, has 26 and 27 in its place.
  */
 #ifndef SWAP_H
 #define SWAP_H
@@ -49,6 +49,8 @@ enum swap_refusal {
     SWAP_STEP_BLOCKS = 23,      /* 10,000 blocks mined */
     SWAP_JOURNAL_LENGTH = 24,   /* journal not a multiple of 4, or over 65,536 bytes */
     SWAP_BUFFER_SHORT = 25,     /* buffer too short for what is written */
+    SWAP_TIMELOCK_RELATIVE = 26, /* a since-parent value is above 65,535 */
+    SWAP_TIMELOCK_ABSOLUTE = 27  /* base plus an absolute lock's height reaches 500,000,000 */
 };
 
 /* The two parts of an answer. */
@@ -61,6 +63,10 @@ enum swap_refusal {
 /* The bytes of a report: a row for each transaction, and 32 rows at most. */
 #define SWAP_REPORT_ROW 14
 #define SWAP_REPORT_SIZE (SWAP_REPORT_ROW * 32)
+
+/* The bytes of the two numbers of a transaction, and of 32 transactions. */
+#define SWAP_TIMELOCKS_ROW 8
+#define SWAP_TIMELOCKS_SIZE (SWAP_TIMELOCKS_ROW * 32)
 
 /*
  * Checks a contract sheet. Refusals 1 to 8; the count is 0.
@@ -154,6 +160,24 @@ uint32_t swap_page(const uint8_t *sheet, size_t sheet_length,
                    const uint8_t *setup, size_t setup_length,
                    const uint8_t *journal, size_t journal_length,
                    uint8_t *output, size_t output_length);
+
+/*
+ * Writes the locks of the sheet's transactions as Bitcoin's own fields: 8 bytes (SWAP_TIMELOCKS_ROW) for each, in the
+ * sheet's order. base is the real chain's height when the journal is empty. The transaction version must be 2, which the
+ * caller sets. Refusals 1 to 10 are the sheet's and the setup's; the count is 0.
+ *
+ *   bytes 0 to 3    nLockTime: base plus the lock height for an absolute lock, else 0
+ *   bytes 4 to 7    nSequence: FFFFFFFF (hexadecimal) without a lock, FFFFFFFE for an absolute one, and days * blocks per
+ *                   day + 1 for one since the parent
+ *
+ * Refusal 26 says that a value since the parent is above 65,535; then 27 that base plus an absolute lock's height reaches
+ * 500,000,000. The output takes up 8n bytes, 256 (SWAP_TIMELOCKS_SIZE) at most. Refusal 25, the last, says that the buffer
+ * is shorter than that. Bytes after the output keep their values, and under a refusal all bytes do.
+ */
+uint32_t swap_timelocks(const uint8_t *sheet, size_t sheet_length,
+                        const uint8_t *setup, size_t setup_length,
+                        uint32_t base,
+                        uint8_t *output, size_t output_length);
 
 #ifdef __cplusplus
 }

@@ -51,6 +51,15 @@ extern "C" {
         output: *mut u8,
         output_length: usize,
     ) -> u32;
+    fn swap_timelocks(
+        sheet: *const u8,
+        sheet_length: usize,
+        setup: *const u8,
+        setup_length: usize,
+        base: u32,
+        output: *mut u8,
+        output_length: usize,
+    ) -> u32;
 }
 
 /// The engine's check of a sheet, in one number.
@@ -134,4 +143,20 @@ pub fn outage(sheet: &[u8], setup: &[u8], journal: &[u8], blocks: u32, output: &
 /// The engine's page, in one number.
 pub fn page(sheet: &[u8], setup: &[u8], journal: &[u8], output: &mut [u8]) -> u32 {
     lent(swap_page, sheet, setup, journal, output)
+}
+
+/// The engine's nLockTime and nSequence of each transaction, in one number.
+pub fn timelocks(sheet: &[u8], setup: &[u8], base: u32, output: &mut [u8]) -> u32 {
+    // SAFETY: each pointer and length are one slice's, and the call writes only to the last one, which is lent alone.
+    unsafe {
+        swap_timelocks(
+            sheet.as_ptr(),
+            sheet.len(),
+            setup.as_ptr(),
+            setup.len(),
+            base,
+            output.as_mut_ptr(),
+            output.len(),
+        )
+    }
 }

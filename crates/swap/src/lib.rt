@@ -5,12 +5,14 @@ use pages::page;
 use reports::report;
 use runs::journal::ran;
 use sheet::check::sheet_refusal;
+use timelocks::timelocks;
 ghost use mathlib.Core.Path.{_≡_};
 ghost use Rattle.sheet.specs.Check.{sheetRefusal};
 ghost use Rattle.position.specs.Play.{run};
 ghost use Rattle.position.specs.Answers.{packed, listAnswer, reportAnswer};
 ghost use Rattle.outages.specs.Answer.{outageAnswer};
 ghost use Rattle.pages.specs.Page.{pageAnswer};
+ghost use Rattle.timelocks.specs.Timelocks.{timelocksAnswer};
 
 // Checks a sheet: refusal × 65,536.
 #[no_mangle]
@@ -70,4 +72,13 @@ pub extern "C" fn swap_page(sheet: &[u8], setup: &[u8], journal: &[u8], out: &mu
     ensures { λ _. ⌜ now (out .exit) ≡ pageAnswer (now (sheet .entry)) (now (setup .entry)) (now (journal .entry)) (now (out .entry)) .buffer ⌝ }
 {
     page(sheet, setup, journal, out) * 65536
+}
+
+// nLockTime and nSequence of every transaction, over a base height: refusal × 65,536.
+#[no_mangle]
+pub extern "C" fn swap_timelocks(sheet: &[u8], setup: &[u8], base: u32, out: &mut [u8]) -> u32
+    ensures { λ r. ⌜ r ≡ packed (timelocksAnswer (now (sheet .entry)) (now (setup .entry)) base (now (out .entry)) .refusal) 0 ⌝ }
+    ensures { λ _. ⌜ now (out .exit) ≡ timelocksAnswer (now (sheet .entry)) (now (setup .entry)) base (now (out .entry)) .buffer ⌝ }
+{
+    timelocks(sheet, setup, base, out) * 65536
 }

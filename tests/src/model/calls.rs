@@ -81,7 +81,7 @@ pub fn report_bytes(sheet: &[u8], setup: &[u8], journal: &[u8]) -> Result<Vec<u8
 
 /// 25: "buffer too short for list or report". "Bytes after the output keep their
 /// values"; "a refusal changes no buffer".
-fn write(output: &mut [u8], bytes: &[u8]) -> u32 {
+pub fn write(output: &mut [u8], bytes: &[u8]) -> u32 {
     match output.get_mut(..bytes.len()) {
         None => 25,
         Some(part) => {

@@ -21,6 +21,7 @@ pub mod sheet;
 pub mod slips;
 pub mod step;
 pub mod swapreport;
+pub mod timelocks;
 
 /// The parties by number: "0 Alice, 1 Bob, 2 miner".
 pub const ALICE: u8 = 0;

@@ -1,0 +1,23 @@
+-- The lengths of the two numbers' bytes, and of all of them.
+-- Assumes nothing.
+use Prim.Native.Nat.{ℕ, _*_, _≤_}
+use mathlib.Core.Path.{_≡_, refl}
+use mathlib.Core.List.{List}
+use lib.ListN.{length}
+use Rattle.laws.specs.Gather.{gather, length-gather}
+use Rattle.laws.specs.Little.{bytesOf}
+use Rattle.sheet.specs.Field.{count}
+use Rattle.timelocks.specs.Fields.{fieldBytes, timelockBytes}
+
+module _ (s : List ℕ) (d base : ℕ) where
+  pub field-length : (t : ℕ) → length (fieldBytes s d base t) ≡ 8
+  unfolding fieldBytes bytesOf
+  field-length t = refl
+
+  pub bytes-length : length (timelockBytes s d base) ≡ 8 * count s
+  unfolding timelockBytes
+  bytes-length = length-gather (fieldBytes s d base) 8 field-length (count s)
+
+  -- n of them have room where all do
+  pub fields-room : (n m : ℕ) → n ≡ count s → 8 * count s ≤ m → length (gather n (fieldBytes s d base)) ≤ m
+  fields-room n m e h = rw (length-gather (fieldBytes s d base) 8 field-length n, e) h

@@ -1,0 +1,43 @@
+-- The sheet, then the setup, then the two limits.
+use Rattle.sheet.proofs.Theorems.{fit}
+use Rattle.timelocks.proofs.Answers.{by-sheet, by-setup, by-limits}
+use mathlib.Core.Path.{sym, _∙_}
+use borrow.Author.Needs.{needs}
+use Rattle.timelocks.proofs.field_refusal.Statement.{statement}
+use Rattle.timelocks.proofs.field_refusal.Tie as tie
+
+sheet-refusal-requires : tie.Need-sheet-refusal-requires
+sheet-refusal-requires c κs = search needs
+
+returns : tie.Need-returns
+returns c = by-sheet _ _ _ _ (c .before .sheet-refusal .ensures) (c .if1 .taken)
+
+setup-refusal-requires : tie.Need-setup-refusal-requires
+setup-refusal-requires c κs = search needs
+
+returns-2 : tie.Need-returns-2
+returns-2 c = by-setup _ _ _ _ _ (c .before .before .before .sheet-refusal .ensures) (c .before .before .if1 .left) (c .before .setup-refusal .ensures) (c .if2 .taken)
+
+per-day-requires : tie.Need-per-day-requires
+per-day-requires c κs =
+    fit _ _ (sym (c .before .before .before .sheet-refusal .ensures) ∙ c .before .before .if1 .left) (sym (c .before .setup-refusal .ensures) ∙ c .if2 .left) .setup .size
+
+limit-refusal-requires : tie.Need-limit-refusal-requires
+limit-refusal-requires c κs =
+    fit _ _ (sym (c .before .before .before .before .sheet-refusal .ensures) ∙ c .before .before .before .if1 .left) (sym (c .before .before .setup-refusal .ensures) ∙ c .before .if2 .left) .checked .sized
+
+returns-3 : tie.Need-returns-3
+returns-3 c =
+    by-limits _ _ _ _ _ _ _ (c .before .before .before .before .before .sheet-refusal .ensures) (c .before .before .before .before .if1 .left) (c .before .before .before .setup-refusal .ensures) (c .before .before .if2 .left) (c .before .per-day .ensures) (c .limit-refusal .ensures)
+
+pub field-refusal-spec : {M : Type 1} → statement M
+field-refusal-spec =
+    tie.close
+    (tie.spec
+    sheet-refusal-requires
+    returns
+    setup-refusal-requires
+    returns-2
+    per-day-requires
+    limit-refusal-requires
+    returns-3)

@@ -1,0 +1,32 @@
+-- By the lock type; the sum stays below the threshold.
+use Rattle.timelocks.proofs.Within.{absolute-within}
+use Rattle.timelocks.specs.Fields.{nLockTime}
+use Rattle.laws.specs.Booleans.{tests}
+use mathlib.Core.Path.{sym, _∙_}
+use native.Mathlib.Omega.{arith}
+use borrow.Author.Needs.{needs}
+use Rattle.timelocks.proofs.fields.lock_time.Statement.{statement}
+use Rattle.timelocks.proofs.fields.lock_time.Tie as tie
+
+lock-type-requires : tie.Need-lock-type-requires
+lock-type-requires c κs = search needs
+
+returns : tie.Need-returns
+unfolding nLockTime
+returns c = simp (tests, ← (c .before .lock-type .ensures), c .if1 .taken)
+
+lock-blocks-requires : tie.Need-lock-blocks-requires
+lock-blocks-requires c κs = search needs
+
+add-result : tie.Need-add-result
+add-result c =
+    let k = c .before .before .before .before in
+    record { fits = omega (arith, c .lock-blocks .ensures .is, absolute-within _ _ _ _ (k .pre .1 .1) (sym (c .before .before .lock-type .ensures) ∙ c .before .if1 .left)) }
+
+returns-2 : tie.Need-returns-2
+unfolding nLockTime
+returns-2 c = simp (tests, ← (c .before .before .lock-type .ensures), c .before .if1 .left, c .lock-blocks .ensures .is)
+
+pub lock-time-spec : {M : Type 1} → statement M
+lock-time-spec =
+    tie.close (tie.spec lock-type-requires returns lock-blocks-requires add-result returns-2)

@@ -1,0 +1,33 @@
+-- By the lock type.
+use Rattle.timelocks.specs.Fields.{nSequence}
+use Rattle.laws.specs.Booleans.{tests}
+use native.Mathlib.Omega.{arith}
+use borrow.Author.Needs.{needs}
+use Rattle.timelocks.proofs.fields.sequence.Statement.{statement}
+use Rattle.timelocks.proofs.fields.sequence.Tie as tie
+
+lock-type-requires : tie.Need-lock-type-requires
+lock-type-requires c κs = search needs
+
+returns : tie.Need-returns
+unfolding nSequence
+returns c = simp (tests, ← (c .before .lock-type .ensures), c .if1 .taken)
+
+returns-2 : tie.Need-returns-2
+unfolding nSequence
+returns-2 c = simp (tests, ← (c .before .before .lock-type .ensures), c .if2 .taken)
+
+lock-blocks-requires : tie.Need-lock-blocks-requires
+lock-blocks-requires c κs = search needs
+
+add-result : tie.Need-add-result
+add-result c = search needs
+
+returns-3 : tie.Need-returns-3
+unfolding nSequence
+returns-3 c = simp (tests, ← (c .before .before .before .lock-type .ensures), c .before .before .if1 .left, c .before .if2 .left, c .lock-blocks .ensures .is)
+
+pub sequence-spec : {M : Type 1} → statement M
+sequence-spec =
+    tie.close
+    (tie.spec lock-type-requires returns returns-2 lock-blocks-requires add-result returns-3)

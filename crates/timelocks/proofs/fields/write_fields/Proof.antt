@@ -1,0 +1,104 @@
+-- The numbers of the transactions before t.
+use Rattle.timelocks.proofs.Lengths.{field-length, fields-room}
+use Rattle.timelocks.specs.Fields.{nLockTime, nSequence, fieldBytes, timelockBytes}
+use Rattle.timelocks.specs.Limits.{absoluteRight}
+use Rattle.laws.specs.Below.{all-at}
+use Rattle.laws.specs.Little.{bytesOf}
+use Rattle.laws.specs.Wrote.{Turns, turns-start, turn-room, turn-end, turn-more, turns-done}
+use mathlib.Core.List.{List, _++_}
+use mathlib.Core.Path.{_≡_, sym}
+use Prim.Native.Nat.{ℕ, _-_, _<_}
+use Rattle.sheet.specs.Field.{count}
+use native.Mathlib.Omega.{arith}
+use borrow.Author.Needs.{needs}
+use Rattle.timelocks.proofs.fields.write_fields.Statement.{statement}
+use Rattle.timelocks.proofs.fields.write_fields.Tie as tie
+
+pair-written : (s : List ℕ) (d base t a b : ℕ) → a ≡ nLockTime s d base t → b ≡ nSequence s d t → bytesOf 4 a ++ bytesOf 4 b ≡ fieldBytes s d base t
+unfolding fieldBytes
+pair-written s d base t a b e f = rw (e, f)
+
+abbrev Inv-loop : tie.InvT-loop
+Inv-loop sheet per-day base out₀ n at₀ t₀ out at t = Turns (fieldBytes sheet per-day base) n out₀ out at t
+
+abbrev μ-loop : tie.MeasureT-loop
+μ-loop sheet per-day base out₀ n at₀ t₀ out at t = n - t
+
+count-requires : tie.Need-count-requires Inv-loop μ-loop
+count-requires c κs = search needs
+
+loop-holds : tie.Need-loop-holds Inv-loop μ-loop
+loop-holds c =
+    let k = c .before .before .before in
+    turns-start _ _ _ (fields-room (k .args .sheet .now) (k .args .per-day) (k .args .base) (c .count .result) _ (c .count .ensures .is) (k .pre .1 .1))
+
+lock-time-requires : tie.Need-lock-time-requires Inv-loop μ-loop
+lock-time-requires c κs =
+    let k = c .before .before .before .before .before in
+    let l : c .before .loop .t < count (k .args .sheet .now) = omega (arith, c .loop-test .taken, c .before .before .count .ensures .is) in
+    (k .pre .0, (l, all-at _ (absoluteRight (k .args .sheet .now) (k .args .per-day) (k .args .base)) (k .pre .1 .0) _ l))
+
+sequence-requires : tie.Need-sequence-requires Inv-loop μ-loop
+sequence-requires c κs = search needs
+
+sub-write-pair : tie.Need-sub-write-pair Inv-loop μ-loop
+sub-write-pair c = omega (arith, c .before .before .before .loop .inv .wrote)
+
+part-write-pair-start : tie.Need-part-write-pair-start Inv-loop μ-loop
+part-write-pair-start c = omega (arith, c .before .before .before .loop .inv .wrote)
+
+part-write-pair-end : tie.Need-part-write-pair-end Inv-loop μ-loop
+part-write-pair-end c = search needs
+
+write-pair-requires : tie.Need-write-pair-requires Inv-loop μ-loop
+write-pair-requires c κs =
+    let k = c .before .before .before .before .before .before .before .before in
+    let i = c .before .before .before .before .loop in
+    omega (arith, field-length (k .args .sheet .now) (k .args .per-day) (k .args .base) (i .t), turn-room _ _ _ _ _ _ (i .inv) (c .before .before .before .loop-test .taken))
+
+add-at : tie.Need-add-at Inv-loop μ-loop
+add-at c =
+    let k = c .before .before .before .before .before .before .before .before .before .before .before in
+    let i = c .before .before .before .before .before .before .before .loop in
+    omega (arith, turn-end _ _ _ _ _ _ 8 (i .inv) (c .before .before .before .before .before .before .loop-test .taken) (sym (field-length (k .args .sheet .now) (k .args .per-day) (k .args .base) (i .t))))
+
+add-t : tie.Need-add-t Inv-loop μ-loop
+add-t c = search needs
+
+loop-less : tie.Need-loop-less Inv-loop μ-loop
+loop-less c = search needs
+
+loop-again : tie.Need-loop-again Inv-loop μ-loop
+loop-again c =
+    let k = c .before .before .before .before .before .before .before .before .before .before .before in
+    let i = c .before .before .before .before .before .before .before .loop in
+    let wrote = pair-written (k .args .sheet .now) (k .args .per-day) (k .args .base) (i .t) _ _ (c .before .before .before .before .before .lock-time .ensures) (c .before .before .before .before .sequence .ensures) in
+    turn-more _ _ _ _ _ _ _ 8 (i .inv) (c .before .before .before .before .before .before .loop-test .taken) (sym (field-length (k .args .sheet .now) (k .args .per-day) (k .args .base) (i .t))) (rw wrote at (c .before .before .write-pair .ensures))
+
+same-length : tie.Need-same-length Inv-loop μ-loop
+same-length c = c .before .loop .inv .wrote .long
+
+returns : tie.Need-returns Inv-loop μ-loop
+unfolding timelockBytes
+returns c = rw (← (c .before .before .count .ensures .is)) (turns-done _ _ _ _ _ _ (c .before .loop .inv) (c .loop-test .left) .is)
+
+pub write-fields-spec : {M : Type 1} → statement M
+write-fields-spec =
+    tie.close
+    (tie.spec
+    Inv-loop
+    μ-loop
+    count-requires
+    loop-holds
+    lock-time-requires
+    sequence-requires
+    sub-write-pair
+    part-write-pair-start
+    part-write-pair-end
+    write-pair-requires
+    add-at
+    add-t
+    loop-less
+    loop-again
+    same-length
+    returns)

@@ -1,0 +1,28 @@
+-- By the lock type; the sum cannot wrap.
+use Rattle.timelocks.specs.Fields.{nLockTime}
+use Rattle.timelocks.specs.Limits.{absoluteRight}
+use Rattle.laws.specs.Booleans.{tests}
+use borrow.Author.Needs.{needs}
+use Rattle.timelocks.proofs.limits.absolute_right.Statement.{statement}
+use Rattle.timelocks.proofs.limits.absolute_right.Tie as tie
+
+lock-type-requires : tie.Need-lock-type-requires
+lock-type-requires c κs = search needs
+
+returns : tie.Need-returns
+unfolding absoluteRight
+returns c = simp (tests, ← (c .before .lock-type .ensures), c .if1 .taken)
+
+lock-blocks-requires : tie.Need-lock-blocks-requires
+lock-blocks-requires c κs = search needs
+
+sum-requires : tie.Need-sum-requires
+sum-requires c κs = search needs
+
+returns-2 : tie.Need-returns-2
+unfolding absoluteRight nLockTime
+returns-2 c = simp (tests, ← (c .before .before .before .lock-type .ensures), c .before .before .if1 .left, c .sum .ensures, c .before .lock-blocks .ensures .is)
+
+pub absolute-right-spec : {M : Type 1} → statement M
+absolute-right-spec =
+    tie.close (tie.spec lock-type-requires returns lock-blocks-requires sum-requires returns-2)

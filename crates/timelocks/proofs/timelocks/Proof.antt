@@ -1,0 +1,68 @@
+-- Refused before the buffer, too short a buffer, or the numbers.
+use Rattle.timelocks.proofs.Answers.{field-fit, all-absolute, answer-refused, answer-short, answer-whole, answered}
+use mathlib.Core.Path.{sym, _∙_}
+use native.Mathlib.Omega.{arith}
+use borrow.Author.Needs.{needs}
+use Rattle.timelocks.proofs.timelocks.Statement.{statement}
+use Rattle.timelocks.proofs.timelocks.Tie as tie
+
+field-refusal-requires : tie.Need-field-refusal-requires
+field-refusal-requires c κs = search needs
+
+returns : tie.Need-returns
+returns c =
+    let a = c .before .before .before .before .before .args in
+    answered _ _ (answer-refused (a .sheet .now) (a .setup .now) (a .base) (a .out .now) _ (c .before .field-refusal .ensures) (c .if1 .taken))
+
+count-requires : tie.Need-count-requires
+count-requires c κs =
+    let h = field-fit _ _ _ (sym (c .before .field-refusal .ensures) ∙ c .if1 .left) .checked .sized in
+    omega (arith, h .head, h .size)
+
+mul-if2 : tie.Need-mul-if2
+mul-if2 c = search needs
+
+returns-2 : tie.Need-returns-2
+returns-2 c =
+    let a = c .before .before .before .before .before .before .before .args in
+    answered _ _
+    (answer-short (a .sheet .now) (a .setup .now) (a .base) (a .out .now)
+    (sym (c .before .before .before .field-refusal .ensures) ∙ c .before .before .if1 .left)
+    (omega (arith, c .if2 .taken, c .before .count .ensures .is)))
+
+per-day-requires : tie.Need-per-day-requires
+per-day-requires c κs = field-fit _ _ _ (sym (c .before .before .before .field-refusal .ensures) ∙ c .before .before .if1 .left) .setup .size
+
+write-fields-requires : tie.Need-write-fields-requires
+write-fields-requires c κs =
+    let z = sym (c .before .before .before .before .before .field-refusal .ensures) ∙ c .before .before .before .before .if1 .left in (
+      field-fit _ _ _ z .checked .sized,
+      (rw (c .before .per-day .ensures) (all-absolute _ _ _ z), omega (arith, c .before .before .if2 .left, c .before .before .before .count .ensures .is)),
+    )
+
+same-length : tie.Need-same-length
+same-length c = search needs
+
+returns-3 : tie.Need-returns-3
+returns-3 c =
+    let a = c .before .before .before .before .before .before .before .before .before .before .before .before .args in
+    let w =
+    answered _ _
+    (answer-whole (a .sheet .now) (a .setup .now) (a .base) (a .out .now)
+    (sym (c .before .before .before .before .before .before .before .before .field-refusal .ensures) ∙ c .before .before .before .before .before .before .before .if1 .left)
+    (omega (arith, c .before .before .before .before .before .if2 .left, c .before .before .before .before .before .before .count .ensures .is))) in
+    (w .0, rw (c .before .before .before .before .per-day .ensures) at (c .before .before .write-fields .ensures) ∙ w .1)
+
+pub timelocks-spec : {M : Type 1} → statement M
+timelocks-spec =
+    tie.close
+    (tie.spec
+    field-refusal-requires
+    returns
+    count-requires
+    mul-if2
+    returns-2
+    per-day-requires
+    write-fields-requires
+    same-length
+    returns-3)
