@@ -50,7 +50,8 @@ enum swap_refusal {
     SWAP_JOURNAL_LENGTH = 24,   /* journal not a multiple of 4, or over 65,536 bytes */
     SWAP_BUFFER_SHORT = 25,     /* buffer too short for what is written */
     SWAP_TIMELOCK_RELATIVE = 26, /* a since-parent value is above 65,535 */
-    SWAP_TIMELOCK_ABSOLUTE = 27  /* base plus an absolute lock's height reaches 500,000,000 */
+    SWAP_TIMELOCK_ABSOLUTE = 27, /* base plus an absolute lock's height reaches 500,000,000 */
+    SWAP_BUNDLE_LAYOUT = 28,    /* bundle empty or too short, over 64 swaps, or lengths that don't add up */
 };
 
 /* The two parts of an answer. */
@@ -67,6 +68,11 @@ enum swap_refusal {
 /* The bytes of the two numbers of a transaction, and of 32 transactions. */
 #define SWAP_TIMELOCKS_ROW 8
 #define SWAP_TIMELOCKS_SIZE (SWAP_TIMELOCKS_ROW * 32)
+
+/* The bytes of a desk's answers: an entry for each swap, and 64 swaps at most. */
+#define SWAP_DESK_ENTRY 8
+#define SWAP_DESK_SWAPS 64
+#define SWAP_DESK_SIZE (SWAP_DESK_ENTRY * SWAP_DESK_SWAPS)
 
 /*
  * Checks a contract sheet. Refusals 1 to 8; the count is 0.
@@ -178,6 +184,22 @@ uint32_t swap_timelocks(const uint8_t *sheet, size_t sheet_length,
                         const uint8_t *setup, size_t setup_length,
                         uint32_t base,
                         uint8_t *output, size_t output_length);
+
+/*
+ * Runs the journals of a whole desk, all on one sheet. Refusals 1 to 8 are the sheet's; the count is 0.
+ *
+ * The bundle is a count byte n, 64 (SWAP_DESK_SWAPS) at most; n setups of 4 bytes; n journal lengths of 4 bytes; then
+ * the journals, end to end. Refusal 28 says that it is empty or too short for its arrays, that n is above 64, or that
+ * the lengths don't add up to the bytes that follow them. It is tested after the sheet and before any setup.
+ *
+ * The output takes up 8 bytes (SWAP_DESK_ENTRY) for each swap, in the bundle's order: the refusal, 4 bytes, and the
+ * steps accepted, 4 bytes, of swap_run on the sheet, its setup and its journal. So refusals 9 to 24 are written, each
+ * for its own swap, and none of them is returned. Refusal 25, tested after 28, says that the buffer is shorter than
+ * that. Bytes after the output keep their values, and under a refusal of the call all bytes do.
+ */
+uint32_t swap_desk(const uint8_t *sheet, size_t sheet_length,
+                   const uint8_t *bundle, size_t bundle_length,
+                   uint8_t *output, size_t output_length);
 
 #ifdef __cplusplus
 }

@@ -8,6 +8,7 @@
 #include <sys/stat.h>
 #include <unistd.h>
 
+#include "bundle.h"
 #include "saswap.h"
 
 bool is_sound(const struct entry *entry)
@@ -114,18 +115,6 @@ bool read_desk(const struct question *question, struct desk *desk)
         return false;
     }
     return is_swap(".") ? add_folder(desk, last_part(question->folder), ".") : add_subfolders(desk);
-}
-
-/* The number and the count of all swaps' runs. */
-static void run_desk(struct desk *desk)
-{
-    for (size_t i = 0; i < desk->count; i++) {
-        struct entry *entry = desk->entries[i];
-
-        if (entry->fault.file == NULL) {
-            entry->answer = run(&entry->swap);
-        }
-    }
 }
 
 /* What else the engine answers of a swap whose journal is accepted whole. */

@@ -11,6 +11,7 @@ struct entry {
     uint8_t sides;      /* whose lines are shown, a mask as payees have it */
     struct fault fault; /* of its files */
     struct swap swap;
+    bool ran;                 /* its answer holds its run's */
     uint32_t answer;          /* the first answer that is a refusal, else one that is none */
     struct position position; /* after a journal that is accepted whole */
     struct outage outage;     /* what is asked about it */

@@ -56,25 +56,24 @@ uint8_t payee_of(const struct position *position, uint8_t t)
     return position->report[SWAP_REPORT_ROW * t + 1];
 }
 
-/* The value of four bytes. */
-static uint32_t value(const uint8_t *bytes)
+uint32_t number_at(const uint8_t *bytes)
 {
     return bytes[0] | (uint32_t)bytes[1] << 8 | (uint32_t)bytes[2] << 16 | (uint32_t)bytes[3] << 24;
 }
 
 uint32_t block_of(const struct position *position, uint8_t t)
 {
-    return value(position->report + SWAP_REPORT_ROW * t + 2);
+    return number_at(position->report + SWAP_REPORT_ROW * t + 2);
 }
 
 uint32_t lock_height_of(const struct position *position, uint8_t t)
 {
-    return value(position->report + SWAP_REPORT_ROW * t + 6);
+    return number_at(position->report + SWAP_REPORT_ROW * t + 6);
 }
 
 uint32_t deadline_of(const struct position *position, uint8_t t)
 {
-    return value(position->report + SWAP_REPORT_ROW * t + 10);
+    return number_at(position->report + SWAP_REPORT_ROW * t + 10);
 }
 
 uint8_t verdict_of(const struct position *position, uint8_t t)
@@ -89,12 +88,12 @@ uint8_t payees_below(const struct position *position, uint8_t t)
 
 uint32_t soonest_block_of(const struct position *position, uint8_t t)
 {
-    return value(position->outage + SWAP_OUTAGE_ROW * t + 2);
+    return number_at(position->outage + SWAP_OUTAGE_ROW * t + 2);
 }
 
 uint32_t soonest_deadline_of(const struct position *position, uint8_t t)
 {
-    return value(position->outage + SWAP_OUTAGE_ROW * t + 6);
+    return number_at(position->outage + SWAP_OUTAGE_ROW * t + 6);
 }
 
 bool is_confirmed(const struct position *position, uint8_t t)

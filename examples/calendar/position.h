@@ -28,6 +28,9 @@ struct position {
     uint8_t outage[SWAP_OUTAGE_SIZE];
 };
 
+/* The number of four bytes, the lowest first. */
+uint32_t number_at(const uint8_t *bytes);
+
 /* Checks a swap's sheet and runs its journal: the first answer that is a refusal, else the run's. */
 uint32_t run(const struct swap *swap);
 

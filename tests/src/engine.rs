@@ -60,6 +60,14 @@ extern "C" {
         output: *mut u8,
         output_length: usize,
     ) -> u32;
+    fn swap_desk(
+        sheet: *const u8,
+        sheet_length: usize,
+        bundle: *const u8,
+        bundle_length: usize,
+        output: *mut u8,
+        output_length: usize,
+    ) -> u32;
 }
 
 /// The engine's check of a sheet, in one number.
@@ -155,6 +163,21 @@ pub fn timelocks(sheet: &[u8], setup: &[u8], base: u32, output: &mut [u8]) -> u3
             setup.as_ptr(),
             setup.len(),
             base,
+            output.as_mut_ptr(),
+            output.len(),
+        )
+    }
+}
+
+/// The engine's run of every swap of a bundle, in one number.
+pub fn desk(sheet: &[u8], bundle: &[u8], output: &mut [u8]) -> u32 {
+    // SAFETY: each pointer and length are one slice's, and the call writes only to the last one, which is lent alone.
+    unsafe {
+        swap_desk(
+            sheet.as_ptr(),
+            sheet.len(),
+            bundle.as_ptr(),
+            bundle.len(),
             output.as_mut_ptr(),
             output.len(),
         )

@@ -326,6 +326,38 @@ fn random_swaps_as_by_the_model() {
     assert!(sums.iter().all(|&sum| sum > 100), "{sums:?}");
 }
 
+/// Over a hundred swaps on each of two sheets, more than one bundle takes, some with a setup or a journal that is refused.
+fn swaps_on_two_sheets(random: &mut Random) -> Vec<(String, Files)> {
+    let games = [random::game(random), random::game(random)];
+    let swap = |i: usize| {
+        let (sheet, mut setup) = games[i % 2].clone();
+        let manner = random::manner(random, 40);
+        let mut journal = random::journal(random, &sheet, &setup, manner);
+        match i % 9 {
+            0 => setup.truncate(3),
+            1 => setup.push(0),
+            2 => setup[2] = 9,
+            3 => journal.push(6),
+            _ => {}
+        }
+        (
+            format!("{i:03}"),
+            [Some(sheet), Some(setup), Some(journal), None],
+        )
+    };
+    (0..260).map(swap).collect()
+}
+
+#[test]
+fn swaps_that_share_a_sheet() {
+    let mut random = Random::new(43);
+    let swaps = swaps_on_two_sheets(&mut random);
+    let folder = written("calendar_shared", &swaps);
+    let totals = compare_both(&folder, &swaps, &Question::default());
+    println!("{totals:?}");
+    assert!(totals.refused > 100 && totals.refused < 250, "{totals:?}");
+}
+
 /// A course, and how it goes on for some blocks.
 fn now_and_then(random: &mut Random, game: &Game) -> (Course, Course) {
     let manner = Manner {

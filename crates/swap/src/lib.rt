@@ -1,4 +1,5 @@
 // The outward calls for C: each packs the answer of the call in Rattle.
+use desk::desk;
 use lists::list;
 use outages::outage;
 use pages::page;
@@ -13,6 +14,7 @@ ghost use Rattle.position.specs.Answers.{packed, listAnswer, reportAnswer};
 ghost use Rattle.outages.specs.Answer.{outageAnswer};
 ghost use Rattle.pages.specs.Page.{pageAnswer};
 ghost use Rattle.timelocks.specs.Timelocks.{timelocksAnswer};
+ghost use Rattle.desk.specs.Desk.{deskAnswer};
 
 // Checks a sheet: refusal × 65,536.
 #[no_mangle]
@@ -81,4 +83,13 @@ pub extern "C" fn swap_timelocks(sheet: &[u8], setup: &[u8], base: u32, out: &mu
     ensures { λ _. ⌜ now (out .exit) ≡ timelocksAnswer (now (sheet .entry)) (now (setup .entry)) base (now (out .entry)) .buffer ⌝ }
 {
     timelocks(sheet, setup, base, out) * 65536
+}
+
+// Runs every swap of a bundle: refusal × 65,536.
+#[no_mangle]
+pub extern "C" fn swap_desk(sheet: &[u8], bundle: &[u8], out: &mut [u8]) -> u32
+    ensures { λ r. ⌜ r ≡ packed (deskAnswer (now (sheet .entry)) (now (bundle .entry)) (now (out .entry)) .refusal) 0 ⌝ }
+    ensures { λ _. ⌜ now (out .exit) ≡ deskAnswer (now (sheet .entry)) (now (bundle .entry)) (now (out .entry)) .buffer ⌝ }
+{
+    desk(sheet, bundle, out) * 65536
 }

@@ -4,6 +4,7 @@
 //! Usage: cargo run --release --example bench
 
 mod clock;
+mod desk;
 mod works;
 
 use clock::{measure, steps, Buffer, Times};
@@ -139,4 +140,5 @@ fn main() {
     growth_with_steps();
     growth_with_transactions("chain", works::chain);
     growth_with_transactions("rivals", works::rivals);
+    desk::rates();
 }

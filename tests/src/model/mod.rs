@@ -7,6 +7,7 @@
 pub mod calls;
 pub mod claims;
 pub mod conduct;
+pub mod desk;
 pub mod faults;
 pub mod heights;
 pub mod journal;

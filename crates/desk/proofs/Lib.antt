@@ -1,0 +1,10 @@
+pub mod Bundles
+pub mod Desks
+pub mod Swaps
+pub mod Numbers
+pub mod Entries
+pub mod Apart
+pub mod Flat
+pub mod Layouts
+pub mod Theorems
+pub mod Examples

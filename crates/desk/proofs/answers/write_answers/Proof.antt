@@ -1,0 +1,100 @@
+-- The answers of the swaps before i; the journal of swap i starts at `start`.
+use Prim.Native.Nat.{_-_}
+use native.Mathlib.Omega.{arith}
+use mathlib.Core.Path.{_≡_}
+use Rattle.laws.specs.Wrote.{Turns, turns-start}
+use Rattle.desk.specs.Bundle.{startOf}
+use Rattle.desk.specs.Desk.{swapBytes}
+use Rattle.desk.proofs.Bundles.{arrays, arrays-some, stands, start-first, start-next}
+use Rattle.desk.proofs.Swaps.{all-room, eight-room, eight-end, eight-more, answers-done}
+use borrow.Author.Needs.{needs}
+use Rattle.desk.proofs.answers.write_answers.Statement.{statement}
+use Rattle.desk.proofs.answers.write_answers.Tie as tie
+
+abbrev Inv-loop : tie.InvT-loop
+Inv-loop sheet bundle out₀ n start₀ at₀ i₀ out start at i = Turns (swapBytes sheet bundle) n out₀ out at i × (start ≡ startOf bundle i)
+
+abbrev μ-loop : tie.MeasureT-loop
+μ-loop sheet bundle out₀ n start₀ at₀ i₀ out start at i = n - i
+
+swaps-requires : tie.Need-swaps-requires Inv-loop μ-loop
+swaps-requires c κs = arrays-some _ (arrays _ (c .before .before .before .pre .1 .0))
+
+mul-start : tie.Need-mul-start Inv-loop μ-loop
+mul-start c = search needs
+
+add-start : tie.Need-add-start Inv-loop μ-loop
+add-start c = search needs
+
+loop-holds : tie.Need-loop-holds Inv-loop μ-loop
+loop-holds c = (turns-start _ _ _ (all-room _ _ _ _ (c .swaps .ensures .is) (c .before .before .before .before .pre .1 .1)), start-first _ _ (c .swaps .ensures .is))
+
+length-of-requires : tie.Need-length-of-requires Inv-loop μ-loop
+length-of-requires c κs = (arrays _ (c .before .before .before .before .before .before .pre .1 .0), omega (arith, c .loop-test .taken, c .before .before .swaps .ensures .is))
+
+swap-ran-requires : tie.Need-swap-ran-requires Inv-loop μ-loop
+swap-ran-requires c κs =
+    let p = c .before .before .before .before .before .before .before .pre in
+    (p .0, stands _ (p .1 .0) _ _ _ (omega (arith, c .before .loop-test .taken, c .before .before .before .swaps .ensures .is)) (c .before .before .loop .inv .1) (c .length-of .ensures .is))
+
+sub-write-entry : tie.Need-sub-write-entry Inv-loop μ-loop
+sub-write-entry c = omega (arith, c .before .before .before .loop .inv .0 .wrote)
+
+part-write-entry-start : tie.Need-part-write-entry-start Inv-loop μ-loop
+part-write-entry-start c = omega (arith, c .before .before .before .loop .inv .0 .wrote)
+
+part-write-entry-end : tie.Need-part-write-entry-end Inv-loop μ-loop
+part-write-entry-end c = search needs
+
+write-entry-requires : tie.Need-write-entry-requires Inv-loop μ-loop
+write-entry-requires c κs = eight-room _ _ _ _ _ _ _ (c .before .before .before .before .loop .inv .0) (c .before .before .before .loop-test .taken)
+
+add-start-2 : tie.Need-add-start-2 Inv-loop μ-loop
+add-start-2 c =
+    let l = c .before .before .before .before .before .before .before .loop in
+    let h = stands _ (c .before .before .before .before .before .before .before .before .before .before .before .before .pre .1 .0) _ _ _ (omega (arith, c .before .before .before .before .before .before .loop-test .taken, c .before .before .before .before .before .before .before .before .swaps .ensures .is)) (l .inv .1) (c .before .before .before .before .before .length-of .ensures .is) in
+    omega (arith, h .journal-ends)
+
+add-at : tie.Need-add-at Inv-loop μ-loop
+add-at c = omega (arith, eight-end _ _ _ _ _ _ _ (c .before .before .before .before .before .before .before .loop .inv .0) (c .before .before .before .before .before .before .loop-test .taken))
+
+add-i : tie.Need-add-i Inv-loop μ-loop
+add-i c = search needs
+
+loop-less : tie.Need-loop-less Inv-loop μ-loop
+loop-less c = search needs
+
+loop-again : tie.Need-loop-again Inv-loop μ-loop
+loop-again c =
+    let l = c .before .before .before .before .before .before .before .loop in
+    (eight-more _ _ _ _ _ _ _ _ _ (l .inv .0) (c .before .before .before .before .before .before .loop-test .taken) (c .before .before .before .before .swap-ran .ensures) (c .before .before .write-entry .ensures), start-next _ _ _ _ (l .inv .1) (c .before .before .before .before .before .length-of .ensures .is))
+
+same-length : tie.Need-same-length Inv-loop μ-loop
+same-length c = c .before .loop .inv .0 .wrote .long
+
+returns : tie.Need-returns Inv-loop μ-loop
+returns c = answers-done _ _ _ _ _ _ _ (c .before .before .swaps .ensures .is) (c .before .loop .inv .0) (c .loop-test .left)
+
+pub write-answers-spec : {M : Type 1} → statement M
+write-answers-spec =
+    tie.close
+    (tie.spec
+    Inv-loop
+    μ-loop
+    swaps-requires
+    mul-start
+    add-start
+    loop-holds
+    length-of-requires
+    swap-ran-requires
+    sub-write-entry
+    part-write-entry-start
+    part-write-entry-end
+    write-entry-requires
+    add-start-2
+    add-at
+    add-i
+    loop-less
+    loop-again
+    same-length
+    returns)

@@ -1,0 +1,59 @@
+-- The sum of the lengths before i.
+use Prim.Native.Nat.{_≤_, _-_, _*_}
+use native.Mathlib.Omega.{arith}
+use mathlib.Core.Path.{_≡_}
+use Rattle.laws.specs.Sum.{sumBelow, sum-start, sum-more, sum-done}
+use Rattle.desk.specs.Bundle.{lengthOf}
+use Rattle.desk.proofs.Bundles.{arrays-some}
+use borrow.Author.Needs.{needs}
+use Rattle.desk.proofs.bundle.lengths_sum.Statement.{statement}
+use Rattle.desk.proofs.bundle.lengths_sum.Tie as tie
+
+abbrev Inv-loop : tie.InvT-loop
+Inv-loop bundle n sum₀ i₀ sum i = (i ≤ n) × (sum ≤ 4294967296 * i) × (sum ≡ sumBelow i (lengthOf bundle))
+
+abbrev μ-loop : tie.MeasureT-loop
+μ-loop bundle n sum₀ i₀ sum i = n - i
+
+swaps-requires : tie.Need-swaps-requires Inv-loop μ-loop
+swaps-requires c κs = arrays-some _ (c .before .pre)
+
+loop-holds : tie.Need-loop-holds Inv-loop μ-loop
+loop-holds c = (search needs, search needs, sum-start _)
+
+length-of-requires : tie.Need-length-of-requires Inv-loop μ-loop
+length-of-requires c κs = (c .before .before .before .before .pre, omega (arith, c .loop-test .taken, c .before .before .swaps .ensures .is))
+
+add-sum : tie.Need-add-sum Inv-loop μ-loop
+add-sum c = search needs
+
+add-i : tie.Need-add-i Inv-loop μ-loop
+add-i c = search needs
+
+loop-less : tie.Need-loop-less Inv-loop μ-loop
+loop-less c = search needs
+
+loop-again : tie.Need-loop-again Inv-loop μ-loop
+loop-again c =
+    let l = c .before .before .loop in
+    (search needs, omega (arith, l .inv .1, c .length-of .ensures .small), sum-more _ _ _ _ (l .inv .2) (c .length-of .ensures .is))
+
+returns : tie.Need-returns Inv-loop μ-loop
+returns c =
+    let e = c .before .before .swaps .ensures .is in
+    sum-done _ _ _ _ (omega (arith, c .before .loop .inv .0, e)) (omega (arith, c .loop-test .left, e)) (c .before .loop .inv .2)
+
+pub lengths-sum-spec : {M : Type 1} → statement M
+lengths-sum-spec =
+    tie.close
+    (tie.spec
+    Inv-loop
+    μ-loop
+    swaps-requires
+    loop-holds
+    length-of-requires
+    add-sum
+    add-i
+    loop-less
+    loop-again
+    returns)

@@ -1,0 +1,55 @@
+// The answers of a bundle's swaps, written one after the other.
+use crate::bundle;
+use output::row::write_number;
+use position::Ran;
+use runs::journal::ran_checked;
+ghost use Prim.Native.Nat.{_≤_, _*_};
+ghost use mathlib.Core.Path.{_≡_};
+ghost use mathlib.Core.Bool.{true};
+ghost use lib.ListN.{length};
+ghost use Rattle.laws.specs.Over.{over};
+ghost use Rattle.sheet.specs.Refusal.{accepted};
+ghost use Rattle.sheet.specs.Check.{sheetRefusal};
+ghost use Rattle.desk.specs.Bundle.{swaps, bundleRight};
+ghost use Rattle.desk.specs.Desk.{swapRun, entryBytes, deskBytes};
+ghost use Rattle.desk.specs.Forms.Bundle.{Stands};
+
+// The run of swap i, whose journal has `size` bytes from `start` on.
+fn swap_ran(sheet: &[u8], bundle: &[u8], i: usize, start: usize, size: usize) -> Ran
+    requires { ⌜ sheetRefusal (now sheet) ≡ accepted ⌝ }
+    requires { ⌜ Stands (now bundle) i start size ⌝ }
+    ensures { λ r. ⌜ r ≡ swapRun (now (sheet .entry)) (now (bundle .entry)) i ⌝ }
+{
+    let at = 1 + 4 * i;
+    ran_checked(sheet, &bundle[at..at + 4], &bundle[start..start + size])
+}
+
+// A swap's number and then its accepted count.
+fn write_entry(number: u32, count: u32, out: &mut [u8])
+    requires { ⌜ 8 ≤ length (now out) ⌝ }
+    ensures { λ _. ⌜ now (out .exit) ≡ over (entryBytes number count) (now (out .entry)) ⌝ }
+{
+    write_number(out, number);
+    write_number(&mut out[4..], count);
+}
+
+// The answers of all swaps, refused ones too, at the front of the buffer.
+pub fn write_answers(sheet: &[u8], bundle: &[u8], out: &mut [u8])
+    requires { ⌜ sheetRefusal (now sheet) ≡ accepted ⌝ }
+    requires { ⌜ bundleRight (now bundle) ≡ true ⌝ }
+    requires { ⌜ 8 * swaps (now bundle) ≤ length (now out) ⌝ }
+    ensures { λ _. ⌜ now (out .exit) ≡ over (deskBytes (now (sheet .entry)) (now (bundle .entry))) (now (out .entry)) ⌝ }
+{
+    let n = bundle::swaps(bundle);
+    let mut start = 1 + 8 * n;
+    let mut at: usize = 0;
+    let mut i: usize = 0;
+    while i < n {
+        let size = bundle::length_of(bundle, i);
+        let ran = swap_ran(sheet, bundle, i, start, size);
+        write_entry(ran.refusal, ran.accepted, &mut out[at..]);
+        start += size;
+        at += 8;
+        i += 1;
+    }
+}
