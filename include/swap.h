@@ -9,7 +9,7 @@
  * An output buffer overlaps no other slice of its call.
  *
  * The first refusal is answered, in this order: the sheet's 1 to 8, the setup's 9 and 10, the journal's 24, then 11 to 23
- * step by step, with 17 before 16, and 25 last. swap_timelocks, which takes no journal, has 26 and 27 in its place.
+ * step by step, with 17 before 16, and 25 last. What else a call can answer, and in which order, stands with it.
  */
 #ifndef SWAP_H
 #define SWAP_H
@@ -52,6 +52,9 @@ enum swap_refusal {
     SWAP_TIMELOCK_RELATIVE = 26, /* a since-parent value is above 65,535 */
     SWAP_TIMELOCK_ABSOLUTE = 27, /* base plus an absolute lock's height reaches 500,000,000 */
     SWAP_BUNDLE_LAYOUT = 28,    /* bundle empty or too short, over 64 swaps, or lengths that don't add up */
+    SWAP_BLOCKS_FIELD = 29,     /* block list not a multiple of 4, a transaction beyond the sheet, or a wrong destination */
+    SWAP_BLOCKS_ORDER = 30,     /* entries don't rise by block and then transaction, or a block outside 1 to 10,000 */
+    SWAP_BLOCKS_LEDGER = 31     /* the ledger refuses the block list */
 };
 
 /* The two parts of an answer. */
@@ -200,6 +203,20 @@ uint32_t swap_timelocks(const uint8_t *sheet, size_t sheet_length,
 uint32_t swap_desk(const uint8_t *sheet, size_t sheet_length,
                    const uint8_t *bundle, size_t bundle_length,
                    uint8_t *output, size_t output_length);
+
+/*
+ * Checks another firm's block list, what was confirmed without steps: 4 bytes for each entry, any number of them.
+ *
+ *   byte 0          transaction
+ *   byte 1          destination: 2 for a contract transaction, a payee (0 Alice, 1 Bob) for a paying one
+ *   bytes 2 and 3   block, 1 to 10,000
+ *
+ * Refusals 1 to 10 of sheet and setup, then 29, 30 and 31, each over the whole list; the count is 0. An empty list is accepted.
+ * Signatures and conduct are not judged.
+ */
+uint32_t swap_blocks(const uint8_t *sheet, size_t sheet_length,
+                     const uint8_t *setup, size_t setup_length,
+                     const uint8_t *list, size_t list_length);
 
 #ifdef __cplusplus
 }

@@ -68,6 +68,14 @@ extern "C" {
         output: *mut u8,
         output_length: usize,
     ) -> u32;
+    fn swap_blocks(
+        sheet: *const u8,
+        sheet_length: usize,
+        setup: *const u8,
+        setup_length: usize,
+        list: *const u8,
+        list_length: usize,
+    ) -> u32;
 }
 
 /// The engine's check of a sheet, in one number.
@@ -180,6 +188,21 @@ pub fn desk(sheet: &[u8], bundle: &[u8], output: &mut [u8]) -> u32 {
             bundle.len(),
             output.as_mut_ptr(),
             output.len(),
+        )
+    }
+}
+
+/// The engine's check of another firm's block list, in one number.
+pub fn blocks(sheet: &[u8], setup: &[u8], list: &[u8]) -> u32 {
+    // SAFETY: each pointer and length are one slice's, and the call only reads.
+    unsafe {
+        swap_blocks(
+            sheet.as_ptr(),
+            sheet.len(),
+            setup.as_ptr(),
+            setup.len(),
+            list.as_ptr(),
+            list.len(),
         )
     }
 }

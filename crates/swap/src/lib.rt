@@ -1,4 +1,5 @@
 // The outward calls for C: each packs the answer of the call in Rattle.
+use blocks::blocks;
 use desk::desk;
 use lists::list;
 use outages::outage;
@@ -15,6 +16,7 @@ ghost use Rattle.outages.specs.Answer.{outageAnswer};
 ghost use Rattle.pages.specs.Page.{pageAnswer};
 ghost use Rattle.timelocks.specs.Timelocks.{timelocksAnswer};
 ghost use Rattle.desk.specs.Desk.{deskAnswer};
+ghost use Rattle.blocks.specs.BlockList.{blocksRefusal};
 
 // Checks a sheet: refusal × 65,536.
 #[no_mangle]
@@ -92,4 +94,12 @@ pub extern "C" fn swap_desk(sheet: &[u8], bundle: &[u8], out: &mut [u8]) -> u32
     ensures { λ _. ⌜ now (out .exit) ≡ deskAnswer (now (sheet .entry)) (now (bundle .entry)) (now (out .entry)) .buffer ⌝ }
 {
     desk(sheet, bundle, out) * 65536
+}
+
+// Checks another firm's block list: refusal × 65,536.
+#[no_mangle]
+pub extern "C" fn swap_blocks(sheet: &[u8], setup: &[u8], list: &[u8]) -> u32
+    ensures { λ r. ⌜ r ≡ packed (blocksRefusal (now (sheet .entry)) (now (setup .entry)) (now (list .entry))) 0 ⌝ }
+{
+    blocks(sheet, setup, list) * 65536
 }

@@ -3,6 +3,7 @@
 //!
 //! Usage: cargo run --release --example bench
 
+mod blocks;
 mod clock;
 mod desk;
 mod works;
@@ -141,4 +142,5 @@ fn main() {
     growth_with_transactions("chain", works::chain);
     growth_with_transactions("rivals", works::rivals);
     desk::rates();
+    blocks::rates();
 }

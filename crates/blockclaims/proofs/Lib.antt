@@ -1,0 +1,10 @@
+pub mod Places
+pub mod Standing
+pub mod Entering
+pub mod InWords
+pub mod Bytes
+pub mod Confirmed
+pub mod Front
+pub mod Accepted
+pub mod Theorems
+pub mod Examples

@@ -1,0 +1,1 @@
+// What the check of a block list comes to: see specs/.

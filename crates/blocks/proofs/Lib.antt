@@ -1,0 +1,5 @@
+pub mod Walk
+pub mod Named
+pub mod Rise
+pub mod Keeping
+pub mod Tested

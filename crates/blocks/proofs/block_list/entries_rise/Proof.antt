@@ -1,0 +1,60 @@
+-- What is left to pass from each entry on is the whole.
+use Prim.Native.Nat.{_≤_, _-_}
+use native.Mathlib.Omega.{arith}
+use mathlib.Core.Path.{_≡_, refl, _∙_}
+use Rattle.blocks.specs.BlockList.{listEntries, entriesRise}
+use Rattle.blocks.specs.Forms.Listed.{entryOf}
+use Rattle.blocks.proofs.Walk.{left, left-all, left-on, left-stopped, left-ended}
+use Rattle.blocks.proofs.Rise.{behind, latest, rise-first}
+use borrow.Author.Needs.{needs}
+use Rattle.blocks.proofs.block_list.entries_rise.Statement.{statement}
+use Rattle.blocks.proofs.block_list.entries_rise.Tie as tie
+
+abbrev Inv-loop : tie.InvT-loop
+Inv-loop list n last₀ k₀ last k = (k ≤ n) × (left behind latest list k (entryOf last) ≡ entriesRise (listEntries list))
+
+abbrev μ-loop : tie.MeasureT-loop
+μ-loop list n last₀ k₀ last k = n - k
+
+loop-holds : tie.Need-loop-holds Inv-loop μ-loop
+loop-holds c = (search needs, left-all behind latest _ _ ∙ rise-first _)
+
+mul-listed-at : tie.Need-mul-listed-at Inv-loop μ-loop
+mul-listed-at c = search needs
+
+listed-at-requires : tie.Need-listed-at-requires Inv-loop μ-loop
+listed-at-requires c κs = omega (arith, c .loop-test .taken)
+
+rises-requires : tie.Need-rises-requires Inv-loop μ-loop
+rises-requires c κs = search needs
+
+returns : tie.Need-returns Inv-loop μ-loop
+returns c = left-stopped behind latest _ _ _ _ _ _ (c .before .before .before .before .loop .inv .1) (omega (arith, c .before .before .before .loop-test .taken)) (c .before .before .listed-at .ensures) (c .before .rises .ensures) (c .if1 .taken)
+
+add-k : tie.Need-add-k Inv-loop μ-loop
+add-k c = search needs
+
+loop-less : tie.Need-loop-less Inv-loop μ-loop
+loop-less c = search needs
+
+loop-again : tie.Need-loop-again Inv-loop μ-loop
+loop-again c = (omega (arith, c .before .before .before .loop-test .taken), left-on behind latest _ _ _ _ _ _ _ (c .before .before .before .before .loop .inv .1) (omega (arith, c .before .before .before .loop-test .taken)) (c .before .before .listed-at .ensures) (c .before .rises .ensures) (c .if1 .left) refl)
+
+returns-2 : tie.Need-returns-2 Inv-loop μ-loop
+returns-2 c = left-ended behind latest _ _ _ _ (c .before .loop .inv .1) (omega (arith, c .loop-test .left))
+
+pub entries-rise-spec : {M : Type 1} → statement M
+entries-rise-spec =
+    tie.close
+    (tie.spec
+    Inv-loop
+    μ-loop
+    loop-holds
+    mul-listed-at
+    listed-at-requires
+    rises-requires
+    returns
+    add-k
+    loop-less
+    loop-again
+    returns-2)

@@ -1,0 +1,63 @@
+-- Whole entries; what is left to pass from each entry on is the whole.
+use Prim.Native.Nat.{_≤_, _-_}
+use native.Mathlib.Omega.{arith}
+use mathlib.Core.Path.{_≡_, refl}
+use Rattle.blocks.specs.BlockList.{fieldsNamed}
+use Rattle.blocks.proofs.Walk.{left, left-on, left-stopped, left-ended}
+use Rattle.blocks.proofs.Named.{named, unchanged, named-whole, named-broken}
+use borrow.Author.Needs.{needs}
+use Rattle.blocks.proofs.block_list.fields_named.Statement.{statement}
+use Rattle.blocks.proofs.block_list.fields_named.Tie as tie
+
+abbrev Inv-loop : tie.InvT-loop
+Inv-loop sheet list n k₀ k = (k ≤ n) × (left (named sheet) unchanged list k 0 ≡ fieldsNamed sheet list)
+
+abbrev μ-loop : tie.MeasureT-loop
+μ-loop sheet list n k₀ k = n - k
+
+returns : tie.Need-returns Inv-loop μ-loop
+returns c = named-broken _ _ (c .if1 .taken)
+
+loop-holds : tie.Need-loop-holds Inv-loop μ-loop
+loop-holds c = (search needs, named-whole _ _ (c .if1 .left))
+
+mul-listed-at : tie.Need-mul-listed-at Inv-loop μ-loop
+mul-listed-at c = search needs
+
+listed-at-requires : tie.Need-listed-at-requires Inv-loop μ-loop
+listed-at-requires c κs = omega (arith, c .loop-test .taken)
+
+entry-named-requires : tie.Need-entry-named-requires Inv-loop μ-loop
+entry-named-requires c κs = search needs
+
+returns-2 : tie.Need-returns-2 Inv-loop μ-loop
+returns-2 c = left-stopped (named _) unchanged _ _ _ _ _ _ (c .before .before .before .before .loop .inv .1) (omega (arith, c .before .before .before .loop-test .taken)) (c .before .before .listed-at .ensures) (c .before .entry-named .ensures) (c .if2 .taken)
+
+add-k : tie.Need-add-k Inv-loop μ-loop
+add-k c = search needs
+
+loop-less : tie.Need-loop-less Inv-loop μ-loop
+loop-less c = search needs
+
+loop-again : tie.Need-loop-again Inv-loop μ-loop
+loop-again c = (omega (arith, c .before .before .before .loop-test .taken), left-on (named _) unchanged _ _ _ _ _ _ _ (c .before .before .before .before .loop .inv .1) (omega (arith, c .before .before .before .loop-test .taken)) (c .before .before .listed-at .ensures) (c .before .entry-named .ensures) (c .if2 .left) refl)
+
+returns-3 : tie.Need-returns-3 Inv-loop μ-loop
+returns-3 c = left-ended (named _) unchanged _ _ _ _ (c .before .loop .inv .1) (omega (arith, c .loop-test .left))
+
+pub fields-named-spec : {M : Type 1} → statement M
+fields-named-spec =
+    tie.close
+    (tie.spec
+    Inv-loop
+    μ-loop
+    returns
+    loop-holds
+    mul-listed-at
+    listed-at-requires
+    entry-named-requires
+    returns-2
+    add-k
+    loop-less
+    loop-again
+    returns-3)

@@ -1,0 +1,24 @@
+-- Block 0 is none.
+use native.Mathlib.Omega.{arith}
+use borrow.Author.Tests.{eq-eqb, ne-eqb}
+use Rattle.blocks.specs.Forms.Listed.{lastOf}
+use borrow.Author.Needs.{needs}
+use Rattle.blocks.proofs.kept.fits.Statement.{statement}
+use Rattle.blocks.proofs.kept.fits.Tie as tie
+
+opens-requires : tie.Need-opens-requires
+opens-requires c κs = search needs
+
+returns : tie.Need-returns
+unfolding lastOf
+returns c = rw (eq-eqb _ 0 (c .before .if1 .taken)) (c .opens .ensures)
+
+spends-requires : tie.Need-spends-requires
+spends-requires c κs = (c .before .before .before .pre .0, (c .before .before .before .pre .1, omega (arith, c .if1 .left)))
+
+returns-2 : tie.Need-returns-2
+unfolding lastOf
+returns-2 c = rw (ne-eqb _ 0 (c .before .if1 .left)) (c .spends .ensures)
+
+pub fits-spec : {M : Type 1} → statement M
+fits-spec = tie.close (tie.spec opens-requires returns spends-requires returns-2)

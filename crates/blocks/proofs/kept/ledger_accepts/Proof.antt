@@ -1,0 +1,87 @@
+-- What is left to pass from each entry on, over what the array keeps, is the whole.
+use Prim.Native.Nat.{_≤_, _-_}
+use native.Mathlib.Omega.{arith}
+use mathlib.Core.Path.{_≡_, refl, _∙_}
+use lib.ListN.{length, length-set}
+use Rattle.ledger.specs.Ledger.{ledger}
+use Rattle.blocks.specs.BlockList.{listEntries}
+use Rattle.blocks.specs.Forms.Listed.{keptIn}
+use Rattle.blocks.proofs.Walk.{left, left-all, left-on, left-stopped, left-ended}
+use Rattle.blocks.proofs.Named.{NamedFrom, named-all, named-next, named-low}
+use Rattle.blocks.proofs.Keeping.{right, next, keeps-start, turn-low, turn-coin, turn-right, turn-keeps}
+use borrow.Author.Needs.{needs}
+use Rattle.blocks.proofs.kept.ledger_accepts.Statement.{statement}
+use Rattle.blocks.proofs.kept.ledger_accepts.Tie as tie
+
+abbrev Inv-loop : tie.InvT-loop
+Inv-loop sheet per-day list n kept₀ k₀ kept k = (k ≤ n) × (length kept ≡ 32) × NamedFrom sheet list k × (left (right sheet per-day) (next sheet) list k (keptIn kept) ≡ ledger sheet per-day (listEntries list) .accepts)
+
+abbrev μ-loop : tie.MeasureT-loop
+μ-loop sheet per-day list n kept₀ k₀ kept k = n - k
+
+loop-holds : tie.Need-loop-holds Inv-loop μ-loop
+loop-holds c = (search needs, search needs, named-all _ _ (c .before .before .pre .1), keeps-start _ _ _)
+
+mul-listed-at : tie.Need-mul-listed-at Inv-loop μ-loop
+mul-listed-at c = search needs
+
+listed-at-requires : tie.Need-listed-at-requires Inv-loop μ-loop
+listed-at-requires c κs = omega (arith, c .loop-test .taken)
+
+wide-requires : tie.Need-wide-requires Inv-loop μ-loop
+wide-requires c κs = search needs
+
+coin-of-requires : tie.Need-coin-of-requires Inv-loop μ-loop
+coin-of-requires c κs = (c .before .before .before .before .before .before .pre .0 .sized, turn-low _ _ (c .before .before .before .before .before .before .pre .0) _ _ (c .before .before .before .loop .inv .2) (omega (arith, c .before .before .loop-test .taken)) (c .before .listed-at .ensures) _ (c .wide .ensures .is))
+
+mul-last : tie.Need-mul-last Inv-loop μ-loop
+mul-last c = let b = turn-coin _ _ (c .before .before .before .before .before .before .before .pre .0) _ _ (c .before .before .before .before .loop .inv .2) (omega (arith, c .before .before .before .loop-test .taken)) (c .before .before .listed-at .ensures) _ (c .before .wide .ensures .is) _ (c .coin-of .ensures) in search needs
+
+array-copy-out-last : tie.Need-array-copy-out-last Inv-loop μ-loop
+array-copy-out-last c = let b = turn-coin _ _ (c .before .before .before .before .before .before .before .pre .0) _ _ (c .before .before .before .before .loop .inv .2) (omega (arith, c .before .before .before .loop-test .taken)) (c .before .before .listed-at .ensures) _ (c .before .wide .ensures .is) _ (c .coin-of .ensures) in search needs
+
+fits-requires : tie.Need-fits-requires Inv-loop μ-loop
+fits-requires c κs = (c .before .before .before .before .before .before .before .before .pre .0, named-low _ _ _ _ (c .before .before .before .before .before .loop .inv .2) (omega (arith, c .before .before .before .before .loop-test .taken)) (c .before .before .before .listed-at .ensures))
+
+returns : tie.Need-returns Inv-loop μ-loop
+returns c = left-stopped (right _ _) (next _) _ _ _ _ _ _ (c .before .before .before .before .before .before .before .loop .inv .3) (omega (arith, c .before .before .before .before .before .before .loop-test .taken)) (c .before .before .before .before .before .listed-at .ensures) (turn-right _ _ _ _ _ _ _ (c .before .before .before .before .wide .ensures .is) (c .before .before .before .coin-of .ensures) (c .before .fits2 .ensures)) (c .if1 .taken)
+
+mul-kept : tie.Need-mul-kept Inv-loop μ-loop
+mul-kept c = let b = turn-coin _ _ (c .before .before .before .before .before .before .before .before .before .before .pre .0) _ _ (c .before .before .before .before .before .before .before .loop .inv .2) (omega (arith, c .before .before .before .before .before .before .loop-test .taken)) (c .before .before .before .before .before .listed-at .ensures) _ (c .before .before .before .before .wide .ensures .is) _ (c .before .before .before .coin-of .ensures) in search needs
+
+array-set-from-kept : tie.Need-array-set-from-kept Inv-loop μ-loop
+array-set-from-kept c = let b = turn-coin _ _ (c .before .before .before .before .before .before .before .before .before .before .pre .0) _ _ (c .before .before .before .before .before .before .before .loop .inv .2) (omega (arith, c .before .before .before .before .before .before .loop-test .taken)) (c .before .before .before .before .before .listed-at .ensures) _ (c .before .before .before .before .wide .ensures .is) _ (c .before .before .before .coin-of .ensures) in search needs
+
+add-k : tie.Need-add-k Inv-loop μ-loop
+add-k c = search needs
+
+loop-less : tie.Need-loop-less Inv-loop μ-loop
+loop-less c = search needs
+
+loop-again : tie.Need-loop-again Inv-loop μ-loop
+loop-again c = (omega (arith, c .before .before .before .before .before .before .loop-test .taken), simp (length-set) (c .before .before .before .before .before .before .before .loop .inv .1), named-next _ _ _ (c .before .before .before .before .before .before .before .loop .inv .2) (omega (arith, c .before .before .before .before .before .before .loop-test .taken)), left-on (right _ _) (next _) _ _ _ _ _ _ _ (c .before .before .before .before .before .before .before .loop .inv .3) (omega (arith, c .before .before .before .before .before .before .loop-test .taken)) (c .before .before .before .before .before .listed-at .ensures) (turn-right _ _ _ _ _ _ _ (c .before .before .before .before .wide .ensures .is) (c .before .before .before .coin-of .ensures) (c .before .fits2 .ensures)) (c .if1 .left) (turn-keeps _ _ _ _ _ _ _ (rw (c .before .before .before .before .before .before .before .loop .inv .1) (turn-coin _ _ (c .before .before .before .before .before .before .before .before .before .before .pre .0) _ _ (c .before .before .before .before .before .before .before .loop .inv .2) (omega (arith, c .before .before .before .before .before .before .loop-test .taken)) (c .before .before .before .before .before .listed-at .ensures) _ (c .before .before .before .before .wide .ensures .is) _ (c .before .before .before .coin-of .ensures))) (c .before .before .before .before .wide .ensures .is) (c .before .before .before .coin-of .ensures) (c .before .fits2 .ensures) (c .if1 .left)))
+
+returns-2 : tie.Need-returns-2 Inv-loop μ-loop
+returns-2 c = left-ended (right _ _) (next _) _ _ _ _ (c .before .loop .inv .3) (omega (arith, c .loop-test .left))
+
+pub ledger-accepts-spec : {M : Type 1} → statement M
+ledger-accepts-spec =
+    tie.close
+    (tie.spec
+    Inv-loop
+    μ-loop
+    loop-holds
+    mul-listed-at
+    listed-at-requires
+    wide-requires
+    coin-of-requires
+    mul-last
+    array-copy-out-last
+    fits-requires
+    returns
+    mul-kept
+    array-set-from-kept
+    add-k
+    loop-less
+    loop-again
+    returns-2)

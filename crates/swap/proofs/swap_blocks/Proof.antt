@@ -1,0 +1,22 @@
+-- The refusal is small, so the product fits.
+use native.Mathlib.Omega.{arith}
+use Rattle.position.specs.Answers.{packed}
+use Rattle.blocks.proofs.Tested.{refusal-below}
+use borrow.Author.Needs.{needs}
+use Rattle.swap.proofs.swap_blocks.Statement.{statement}
+use Rattle.swap.proofs.swap_blocks.Tie as tie
+
+blocks-requires : tie.Need-blocks-requires
+blocks-requires c κs = search needs
+
+mul-result : tie.Need-mul-result
+mul-result c =
+    let a = c .before .before .before .before .args in
+    record { fits = omega (arith, c .blocks2 .ensures, refusal-below (a .sheet .now) (a .setup .now) (a .list .now)) }
+
+returns : tie.Need-returns
+unfolding packed
+returns c = search needs
+
+pub swap-blocks-spec : {M : Type 1} → statement M
+swap-blocks-spec = tie.close (tie.spec blocks-requires mul-result returns)
