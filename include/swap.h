@@ -54,7 +54,9 @@ enum swap_refusal {
     SWAP_BUNDLE_LAYOUT = 28,    /* bundle empty or too short, over 64 swaps, or lengths that don't add up */
     SWAP_BLOCKS_FIELD = 29,     /* block list not a multiple of 4, a transaction beyond the sheet, or a wrong destination */
     SWAP_BLOCKS_ORDER = 30,     /* entries don't rise by block and then transaction, or a block outside 1 to 10,000 */
-    SWAP_BLOCKS_LEDGER = 31     /* the ledger refuses the block list */
+    SWAP_BLOCKS_LEDGER = 31,    /* the ledger refuses the block list */
+    SWAP_ENDING_FIELD = 33,     /* a mask beyond the sheet or with a contract transaction, or destinations that don't fit it */
+    SWAP_ENDING_IMPOSSIBLE = 34 /* no accepted block list confirms the ending */
 };
 
 /* The two parts of an answer. */
@@ -217,6 +219,22 @@ uint32_t swap_desk(const uint8_t *sheet, size_t sheet_length,
 uint32_t swap_blocks(const uint8_t *sheet, size_t sheet_length,
                      const uint8_t *setup, size_t setup_length,
                      const uint8_t *list, size_t list_length);
+
+/*
+ * Writes the block list, as swap_blocks takes it, that confirms the paying transactions of a mask (bit 0 for transaction 0) and
+ * their ancestors, each at its earliest block. The destinations are payees, 4 bytes for each bit set, by rising transaction number.
+ * No accepted list has one of these transactions in an earlier block.
+ *
+ * Refusals 1 to 10 of sheet and setup, then 33, 34 and 25; the count is the number of entries written, 0 under a refusal. The output
+ * takes up 4 * count bytes, 128 (SWAP_EARLIEST_SIZE) at most; an empty mask gives an empty list. Bytes after the output keep their
+ * values, and under a refusal all bytes do.
+ */
+#define SWAP_EARLIEST_SIZE (4 * 32)
+uint32_t swap_earliest(const uint8_t *sheet, size_t sheet_length,
+                       const uint8_t *setup, size_t setup_length,
+                       uint32_t mask,
+                       const uint8_t *destinations, size_t destinations_length,
+                       uint8_t *output, size_t output_length);
 
 #ifdef __cplusplus
 }

@@ -76,6 +76,17 @@ extern "C" {
         list: *const u8,
         list_length: usize,
     ) -> u32;
+    fn swap_earliest(
+        sheet: *const u8,
+        sheet_length: usize,
+        setup: *const u8,
+        setup_length: usize,
+        mask: u32,
+        destinations: *const u8,
+        destinations_length: usize,
+        output: *mut u8,
+        output_length: usize,
+    ) -> u32;
 }
 
 /// The engine's check of a sheet, in one number.
@@ -203,6 +214,30 @@ pub fn blocks(sheet: &[u8], setup: &[u8], list: &[u8]) -> u32 {
             setup.len(),
             list.as_ptr(),
             list.len(),
+        )
+    }
+}
+
+/// The engine's earliest block list of an ending, in one number.
+pub fn earliest(
+    sheet: &[u8],
+    setup: &[u8],
+    mask: u32,
+    destinations: &[u8],
+    output: &mut [u8],
+) -> u32 {
+    // SAFETY: each pointer and length are one slice's, and the call writes only to the last one, which is lent alone.
+    unsafe {
+        swap_earliest(
+            sheet.as_ptr(),
+            sheet.len(),
+            setup.as_ptr(),
+            setup.len(),
+            mask,
+            destinations.as_ptr(),
+            destinations.len(),
+            output.as_mut_ptr(),
+            output.len(),
         )
     }
 }

@@ -1,6 +1,7 @@
 // The outward calls for C: each packs the answer of the call in Rattle.
 use blocks::blocks;
 use desk::desk;
+use earliest::earliest;
 use lists::list;
 use outages::outage;
 use pages::page;
@@ -17,6 +18,7 @@ ghost use Rattle.pages.specs.Page.{pageAnswer};
 ghost use Rattle.timelocks.specs.Timelocks.{timelocksAnswer};
 ghost use Rattle.desk.specs.Desk.{deskAnswer};
 ghost use Rattle.blocks.specs.BlockList.{blocksRefusal};
+ghost use Rattle.earliest.specs.Answer.{earliestAnswer};
 
 // Checks a sheet: refusal × 65,536.
 #[no_mangle]
@@ -102,4 +104,20 @@ pub extern "C" fn swap_blocks(sheet: &[u8], setup: &[u8], list: &[u8]) -> u32
     ensures { λ r. ⌜ r ≡ packed (blocksRefusal (now (sheet .entry)) (now (setup .entry)) (now (list .entry))) 0 ⌝ }
 {
     blocks(sheet, setup, list) * 65536
+}
+
+// Writes the earliest block list of an ending: refusal × 65,536 + the entries written.
+#[no_mangle]
+pub extern "C" fn swap_earliest(
+    sheet: &[u8],
+    setup: &[u8],
+    mask: u32,
+    dests: &[u8],
+    out: &mut [u8],
+) -> u32
+    ensures { λ r. ⌜ r ≡ packed (earliestAnswer (now (sheet .entry)) (now (setup .entry)) mask (now (dests .entry)) (now (out .entry)) .refusal) (earliestAnswer (now (sheet .entry)) (now (setup .entry)) mask (now (dests .entry)) (now (out .entry)) .count) ⌝ }
+    ensures { λ r. ⌜ now (out .exit) ≡ earliestAnswer (now (sheet .entry)) (now (setup .entry)) mask (now (dests .entry)) (now (out .entry)) .buffer ⌝ }
+{
+    let planned = earliest(sheet, setup, mask, dests, out);
+    planned.refusal * 65536 + planned.count
 }

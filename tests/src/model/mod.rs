@@ -9,6 +9,7 @@ pub mod calls;
 pub mod claims;
 pub mod conduct;
 pub mod desk;
+pub mod ending;
 pub mod faults;
 pub mod heights;
 pub mod journal;

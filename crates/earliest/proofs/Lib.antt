@@ -1,0 +1,4 @@
+pub mod NextBlocks
+pub mod Rows
+pub mod Lengths
+pub mod Answers

@@ -1,0 +1,56 @@
+-- The planned ones before t.
+use Prim.Native.Nat.{_≤_, _-_}
+use native.Mathlib.Omega.{arith}
+use mathlib.Core.Path.{_≡_}
+use Rattle.laws.specs.Sets.{setBelow, set-start, set-more, set-done}
+use Rattle.endings.specs.Plan.{planned}
+use Rattle.earliest.specs.Forms.Table.{members}
+use borrow.Author.Needs.{needs}
+use Rattle.earliest.proofs.members.members.Statement.{statement}
+use Rattle.earliest.proofs.members.members.Tie as tie
+
+abbrev Inv-loop : tie.InvT-loop
+Inv-loop sheet mask n found₀ t₀ found t = (t ≤ n) × (found ≡ setBelow t (planned sheet mask))
+
+abbrev μ-loop : tie.MeasureT-loop
+μ-loop sheet mask n found₀ t₀ found t = n - t
+
+count-requires : tie.Need-count-requires Inv-loop μ-loop
+count-requires c κs = search needs
+
+loop-holds : tie.Need-loop-holds Inv-loop μ-loop
+loop-holds c = (search needs, set-start _)
+
+is-planned-requires : tie.Need-is-planned-requires Inv-loop μ-loop
+is-planned-requires c κs = search needs
+
+join-requires : tie.Need-join-requires Inv-loop μ-loop
+join-requires c κs = search needs
+
+add-t : tie.Need-add-t Inv-loop μ-loop
+add-t c = search needs
+
+loop-less : tie.Need-loop-less Inv-loop μ-loop
+loop-less c = search needs
+
+loop-again : tie.Need-loop-again Inv-loop μ-loop
+loop-again c = (search needs, set-more _ _ _ _ _ (c .before .before .before .loop .inv .1) (c .join .ensures) (c .before .is-planned .ensures))
+
+returns : tie.Need-returns Inv-loop μ-loop
+unfolding members
+returns c = set-done _ _ _ _ (omega (arith, c .before .loop .inv .0, c .before .before .count .ensures .is)) (omega (arith, c .loop-test .left, c .before .before .count .ensures .is)) (c .before .loop .inv .1)
+
+pub members-spec : {M : Type 1} → statement M
+members-spec =
+    tie.close
+    (tie.spec
+    Inv-loop
+    μ-loop
+    count-requires
+    loop-holds
+    is-planned-requires
+    join-requires
+    add-t
+    loop-less
+    loop-again
+    returns)

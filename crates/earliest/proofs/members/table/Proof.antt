@@ -1,0 +1,60 @@
+-- The blocks of the transactions before t.
+use Prim.Native.Nat.{_≤_, _-_}
+use native.Mathlib.Omega.{arith}
+use mathlib.Core.Path.{_≡_}
+use lib.ListN.{replicate}
+use Rattle.laws.specs.Each.{rewriteFirst, rewrite-start, rewrite-again, rewrite-done}
+use Rattle.earliest.specs.Forms.Table.{blockIn, table}
+use borrow.Author.Needs.{needs}
+use Rattle.earliest.proofs.members.table.Statement.{statement}
+use Rattle.earliest.proofs.members.table.Tie as tie
+
+abbrev Inv-loop : tie.InvT-loop
+Inv-loop sheet per-day found n blocks₀ t₀ blocks t = (t ≤ n) × (blocks ≡ rewriteFirst t (λ k x. blockIn sheet per-day found k) (replicate 32 0))
+
+abbrev μ-loop : tie.MeasureT-loop
+μ-loop sheet per-day found n blocks₀ t₀ blocks t = n - t
+
+count-requires : tie.Need-count-requires Inv-loop μ-loop
+count-requires c κs = search needs
+
+loop-holds : tie.Need-loop-holds Inv-loop μ-loop
+loop-holds c = (search needs, rewrite-start _ _)
+
+block-in-requires : tie.Need-block-in-requires Inv-loop μ-loop
+block-in-requires c κs = search needs
+
+mul-blocks : tie.Need-mul-blocks Inv-loop μ-loop
+mul-blocks c = search needs
+
+array-write-blocks : tie.Need-array-write-blocks Inv-loop μ-loop
+array-write-blocks c = search needs
+
+add-t : tie.Need-add-t Inv-loop μ-loop
+add-t c = search needs
+
+loop-less : tie.Need-loop-less Inv-loop μ-loop
+loop-less c = search needs
+
+loop-again : tie.Need-loop-again Inv-loop μ-loop
+loop-again c = (search needs, rewrite-again _ _ _ _ 0 _ (c .before .before .loop .inv .1) (c .block-in .ensures))
+
+returns : tie.Need-returns Inv-loop μ-loop
+unfolding table
+returns c = rewrite-done _ _ _ _ _ (omega (arith, c .before .loop .inv .0, c .before .before .count .ensures .is)) (omega (arith, c .loop-test .left, c .before .before .count .ensures .is)) (c .before .loop .inv .1)
+
+pub table-spec : {M : Type 1} → statement M
+table-spec =
+    tie.close
+    (tie.spec
+    Inv-loop
+    μ-loop
+    count-requires
+    loop-holds
+    block-in-requires
+    mul-blocks
+    array-write-blocks
+    add-t
+    loop-less
+    loop-again
+    returns)

@@ -1,0 +1,11 @@
+pub mod Possible
+pub mod Lowest
+pub mod Plans
+pub mod Ended
+pub mod Ending
+pub mod Lists
+pub mod Causes
+pub mod Empty
+pub mod EmptyChain
+pub mod Theorems
+pub mod Examples

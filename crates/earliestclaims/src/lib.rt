@@ -1,0 +1,1 @@
+// What the earliest block list comes to: see specs/.

@@ -1,0 +1,3 @@
+pub mod Locks
+pub mod Counting
+pub mod Naming

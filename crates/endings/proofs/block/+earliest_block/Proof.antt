@@ -1,0 +1,112 @@
+-- Over the parent's block, or over block 1.
+use native.Mathlib.Omega.{arith}
+use Rattle.endings.proofs.Locks.{block-below, block-first}
+use borrow.Author.Needs.{needs}
+use Prim.Native.Nat.{ℕ, _<_}
+use borrow.Fn.Kinds.{In}
+use borrow.Fn.PlainCycle.{Measures, is, falls, and}
+use Rattle.endings.proofs.block.earliest_block.Reads as earliest-block
+use Rattle.endings.proofs.block.earliest_block.Kinds as earliest-block-kinds
+use Rattle.endings.proofs.block.+earliest_block.Lts-earliest_block as earliest-block-lts
+use Rattle.endings.proofs.block.earliest_from.Reads as earliest-from-reads
+use Rattle.sheet.proofs.field.parent.Reads as parent-reads
+use Rattle.endings.proofs.block.+earliest_block.{statement}
+use Rattle.endings.proofs.block.+earliest_block.Tie.{close}
+
+abbrev μ-earliest-block : Measures 1 earliest-block-kinds.ps ℕ
+μ-earliest-block κs a = a .1 .1 .0
+
+abbrev earliest-block-at : ℕ → In 1 earliest-block-kinds.ps
+earliest-block-at t =
+    and
+    1
+    earliest-block-kinds.ps
+    (is 1 earliest-block-kinds.ps μ-earliest-block t)
+    earliest-block.Pre
+
+abbrev earliest-block-below : ℕ → In 1 earliest-block-kinds.ps
+earliest-block-below t =
+    and
+    1
+    earliest-block-kinds.ps
+    (falls 1 earliest-block-kinds.ps _<_ μ-earliest-block t)
+    earliest-block.Pre
+
+earliest-block-parent-requires : (t : ℕ) → earliest-block-lts.Need-parent-requires (
+  parent-reads.Asked,
+  parent-reads.Learnt,
+  earliest-block-below t,
+  earliest-block.Post,
+  earliest-from-reads.Asked,
+  earliest-from-reads.Learnt,
+) (earliest-block-at t) earliest-block.Post
+earliest-block-parent-requires t c κs = search needs
+
+earliest-block-earliest-block-requires : (t : ℕ) → earliest-block-lts.Need-earliest-block-requires (
+  parent-reads.Asked,
+  parent-reads.Learnt,
+  earliest-block-below t,
+  earliest-block.Post,
+  earliest-from-reads.Asked,
+  earliest-from-reads.Learnt,
+) (earliest-block-at t) earliest-block.Post
+earliest-block-earliest-block-requires t c κs = search needs
+
+earliest-block-earliest-from-requires : (t : ℕ) → earliest-block-lts.Need-earliest-from-requires (
+  parent-reads.Asked,
+  parent-reads.Learnt,
+  earliest-block-below t,
+  earliest-block.Post,
+  earliest-from-reads.Asked,
+  earliest-from-reads.Learnt,
+) (earliest-block-at t) earliest-block.Post
+earliest-block-earliest-from-requires t c κs = let p = c .before .before .before .before .pre .1 in (p .0, (p .1, omega (arith, c .earliest-block .ensures .small, c .before .if1 .taken)))
+
+earliest-block-returns : (t : ℕ) → earliest-block-lts.Need-returns (
+  parent-reads.Asked,
+  parent-reads.Learnt,
+  earliest-block-below t,
+  earliest-block.Post,
+  earliest-from-reads.Asked,
+  earliest-from-reads.Learnt,
+) (earliest-block-at t) earliest-block.Post
+earliest-block-returns t c = record { is = block-below _ _ _ _ (c .before .before .before .parent .ensures .is) _ _ (c .before .before .if1 .taken) (c .before .earliest-block .ensures .is) (c .earliest-from .ensures .is); small = c .earliest-from .ensures .small }
+
+earliest-block-earliest-from-requires-2 :
+    (t : ℕ) → earliest-block-lts.Need-earliest-from-requires-2 (
+      parent-reads.Asked,
+      parent-reads.Learnt,
+      earliest-block-below t,
+      earliest-block.Post,
+      earliest-from-reads.Asked,
+      earliest-from-reads.Learnt,
+    ) (earliest-block-at t) earliest-block.Post
+earliest-block-earliest-from-requires-2 t c κs = search needs
+
+earliest-block-returns-2 : (t : ℕ) → earliest-block-lts.Need-returns-2 (
+  parent-reads.Asked,
+  parent-reads.Learnt,
+  earliest-block-below t,
+  earliest-block.Post,
+  earliest-from-reads.Asked,
+  earliest-from-reads.Learnt,
+) (earliest-block-at t) earliest-block.Post
+earliest-block-returns-2 t c = record { is = block-first _ _ _ _ (c .before .before .parent .ensures .is) _ (c .before .if1 .left) (c .earliest-from2 .ensures .is); small = c .earliest-from2 .ensures .small }
+
+pub +earliest-block-spec : {M : Type 1} → statement M
++earliest-block-spec = close μ-earliest-block λ t. earliest-block-lts.spec (
+  parent-reads.Asked,
+  parent-reads.Learnt,
+  earliest-block-below t,
+  earliest-block.Post,
+  earliest-from-reads.Asked,
+  earliest-from-reads.Learnt,
+)
+    (earliest-block-at t)
+    earliest-block.Post
+    (earliest-block-parent-requires t)
+    (earliest-block-earliest-block-requires t)
+    (earliest-block-earliest-from-requires t)
+    (earliest-block-returns t)
+    (earliest-block-earliest-from-requires-2 t)
+    (earliest-block-returns-2 t)

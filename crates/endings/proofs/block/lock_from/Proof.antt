@@ -1,0 +1,39 @@
+-- None, the product, or the block above plus it.
+use native.Mathlib.Omega.{arith}
+use Rattle.endings.proofs.Locks.{lock-none, lock-days, lock-since}
+use borrow.Author.Needs.{needs}
+use Rattle.endings.proofs.block.lock_from.Statement.{statement}
+use Rattle.endings.proofs.block.lock_from.Tie as tie
+
+lock-type-requires : tie.Need-lock-type-requires
+lock-type-requires c κs = search needs
+
+returns : tie.Need-returns
+returns c = record { is = lock-none _ _ _ _ _ (c .before .lock-type .ensures) (c .if1 .taken); small = search needs }
+
+days-requires : tie.Need-days-requires
+days-requires c κs = search needs
+
+product-requires : tie.Need-product-requires
+product-requires c κs = search needs
+
+returns-2 : tie.Need-returns-2
+returns-2 c = record { is = lock-days _ _ _ _ _ (c .before .before .before .before .lock-type .ensures) _ _ (c .before .before .days .ensures) (c .before .product .ensures .is) (c .before .before .before .if1 .left) (c .if2 .taken); small = omega (arith, c .before .product .ensures .small) }
+
+add-result : tie.Need-add-result
+add-result c = let h = c .before .product .ensures .small in let g = c .before .before .before .before .before .before .pre .1 .1 in search needs
+
+returns-3 : tie.Need-returns-3
+returns-3 c = record { is = lock-since _ _ _ _ _ (c .before .before .before .before .lock-type .ensures) _ _ (c .before .before .days .ensures) (c .before .product .ensures .is) (c .before .before .before .if1 .left) (c .if2 .left); small = omega (arith, c .before .product .ensures .small) }
+
+pub lock-from-spec : {M : Type 1} → statement M
+lock-from-spec =
+    tie.close
+    (tie.spec
+    lock-type-requires
+    returns
+    days-requires
+    product-requires
+    returns-2
+    add-result
+    returns-3)

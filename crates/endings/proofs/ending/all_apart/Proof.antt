@@ -1,0 +1,57 @@
+-- Each transaction below x is apart from all.
+use Prim.Native.Nat.{_≤_, _-_}
+use native.Mathlib.Omega.{arith}
+use mathlib.Core.Path.{_≡_, sym, _∙_}
+use mathlib.Core.Bool.{true}
+use borrow.Author.Tests.{not-true, not-false}
+use Rattle.laws.specs.Below.{allBelow, all-start, all-more, all-broken, all-done}
+use Rattle.sheet.specs.Field.{count}
+use Rattle.endings.specs.Ending.{coinsApart}
+use borrow.Author.Needs.{needs}
+use Rattle.endings.proofs.ending.all_apart.Statement.{statement}
+use Rattle.endings.proofs.ending.all_apart.Tie as tie
+
+abbrev Inv-loop : tie.InvT-loop
+Inv-loop sheet mask n x₀ x = (x ≤ n) × (allBelow x (λ k. allBelow (count sheet) (coinsApart sheet mask k)) ≡ true)
+
+abbrev μ-loop : tie.MeasureT-loop
+μ-loop sheet mask n x₀ x = n - x
+
+count-requires : tie.Need-count-requires Inv-loop μ-loop
+count-requires c κs = search needs
+
+loop-holds : tie.Need-loop-holds Inv-loop μ-loop
+loop-holds c = (search needs, all-start _)
+
+apart-from-requires : tie.Need-apart-from-requires Inv-loop μ-loop
+apart-from-requires c κs = search needs
+
+returns : tie.Need-returns Inv-loop μ-loop
+returns c = sym (all-broken _ _ _ (omega (arith, c .before .before .loop-test .taken, c .before .before .before .before .count .ensures .is)) (sym (c .before .apart-from .ensures) ∙ not-true _ (c .if1 .taken)))
+
+add-x : tie.Need-add-x Inv-loop μ-loop
+add-x c = search needs
+
+loop-less : tie.Need-loop-less Inv-loop μ-loop
+loop-less c = search needs
+
+loop-again : tie.Need-loop-again Inv-loop μ-loop
+loop-again c = (search needs, all-more _ _ (c .before .before .before .loop .inv .1) (sym (c .before .apart-from .ensures) ∙ not-false _ (c .if1 .left)))
+
+returns-2 : tie.Need-returns-2 Inv-loop μ-loop
+returns-2 c = all-done _ _ _ _ (omega (arith, c .before .loop .inv .0, c .before .before .count .ensures .is)) (omega (arith, c .loop-test .left, c .before .before .count .ensures .is)) (c .before .loop .inv .1)
+
+pub all-apart-spec : {M : Type 1} → statement M
+all-apart-spec =
+    tie.close
+    (tie.spec
+    Inv-loop
+    μ-loop
+    count-requires
+    loop-holds
+    apart-from-requires
+    returns
+    add-x
+    loop-less
+    loop-again
+    returns-2)

@@ -1,0 +1,55 @@
+-- Each transaction below t is in time.
+use Prim.Native.Nat.{_≤_, _-_}
+use mathlib.Core.Path.{_≡_, sym, _∙_}
+use mathlib.Core.Bool.{true}
+use borrow.Author.Tests.{not-true, not-false}
+use Rattle.laws.specs.Below.{allBelow, all-start, all-more, all-broken, all-done}
+use Rattle.endings.specs.Ending.{inTime}
+use borrow.Author.Needs.{needs}
+use Rattle.endings.proofs.ending.all_in_time.Statement.{statement}
+use Rattle.endings.proofs.ending.all_in_time.Tie as tie
+
+abbrev Inv-loop : tie.InvT-loop
+Inv-loop sheet per-day mask n t₀ t = (t ≤ n) × (allBelow t (inTime sheet per-day mask) ≡ true)
+
+abbrev μ-loop : tie.MeasureT-loop
+μ-loop sheet per-day mask n t₀ t = n - t
+
+count-requires : tie.Need-count-requires Inv-loop μ-loop
+count-requires c κs = search needs
+
+loop-holds : tie.Need-loop-holds Inv-loop μ-loop
+loop-holds c = (search needs, all-start _)
+
+in-time-requires : tie.Need-in-time-requires Inv-loop μ-loop
+in-time-requires c κs = search needs
+
+returns : tie.Need-returns Inv-loop μ-loop
+returns c = rw (← (c .before .before .before .before .count .ensures .is)) (sym (all-broken _ _ _ (c .before .before .loop-test .taken) (sym (c .before .in-time .ensures) ∙ not-true _ (c .if1 .taken))))
+
+add-t : tie.Need-add-t Inv-loop μ-loop
+add-t c = search needs
+
+loop-less : tie.Need-loop-less Inv-loop μ-loop
+loop-less c = search needs
+
+loop-again : tie.Need-loop-again Inv-loop μ-loop
+loop-again c = (search needs, all-more _ _ (c .before .before .before .loop .inv .1) (sym (c .before .in-time .ensures) ∙ not-false _ (c .if1 .left)))
+
+returns-2 : tie.Need-returns-2 Inv-loop μ-loop
+returns-2 c = rw (← (c .before .before .count .ensures .is)) (all-done _ _ _ _ (c .before .loop .inv .0) (c .loop-test .left) (c .before .loop .inv .1))
+
+pub all-in-time-spec : {M : Type 1} → statement M
+all-in-time-spec =
+    tie.close
+    (tie.spec
+    Inv-loop
+    μ-loop
+    count-requires
+    loop-holds
+    in-time-requires
+    returns
+    add-t
+    loop-less
+    loop-again
+    returns-2)

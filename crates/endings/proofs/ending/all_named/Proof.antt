@@ -1,0 +1,55 @@
+-- Each transaction below t is named.
+use Prim.Native.Nat.{_≤_, _-_}
+use mathlib.Core.Path.{_≡_, sym, _∙_}
+use mathlib.Core.Bool.{true}
+use borrow.Author.Tests.{not-true, not-false}
+use Rattle.laws.specs.Below.{allBelow, all-start, all-more, all-broken, all-done}
+use Rattle.endings.specs.Ending.{payingNamed}
+use borrow.Author.Needs.{needs}
+use Rattle.endings.proofs.ending.all_named.Statement.{statement}
+use Rattle.endings.proofs.ending.all_named.Tie as tie
+
+abbrev Inv-loop : tie.InvT-loop
+Inv-loop sheet mask dests n t₀ t = (t ≤ n) × (allBelow t (payingNamed sheet mask dests) ≡ true)
+
+abbrev μ-loop : tie.MeasureT-loop
+μ-loop sheet mask dests n t₀ t = n - t
+
+count-requires : tie.Need-count-requires Inv-loop μ-loop
+count-requires c κs = search needs
+
+loop-holds : tie.Need-loop-holds Inv-loop μ-loop
+loop-holds c = (search needs, all-start _)
+
+paying-named-requires : tie.Need-paying-named-requires Inv-loop μ-loop
+paying-named-requires c κs = search needs
+
+returns : tie.Need-returns Inv-loop μ-loop
+returns c = rw (← (c .before .before .before .before .count .ensures .is)) (sym (all-broken _ _ _ (c .before .before .loop-test .taken) (sym (c .before .paying-named .ensures) ∙ not-true _ (c .if1 .taken))))
+
+add-t : tie.Need-add-t Inv-loop μ-loop
+add-t c = search needs
+
+loop-less : tie.Need-loop-less Inv-loop μ-loop
+loop-less c = search needs
+
+loop-again : tie.Need-loop-again Inv-loop μ-loop
+loop-again c = (search needs, all-more _ _ (c .before .before .before .loop .inv .1) (sym (c .before .paying-named .ensures) ∙ not-false _ (c .if1 .left)))
+
+returns-2 : tie.Need-returns-2 Inv-loop μ-loop
+returns-2 c = rw (← (c .before .before .count .ensures .is)) (all-done _ _ _ _ (c .before .loop .inv .0) (c .loop-test .left) (c .before .loop .inv .1))
+
+pub all-named-spec : {M : Type 1} → statement M
+all-named-spec =
+    tie.close
+    (tie.spec
+    Inv-loop
+    μ-loop
+    count-requires
+    loop-holds
+    paying-named-requires
+    returns
+    add-t
+    loop-less
+    loop-again
+    returns-2)

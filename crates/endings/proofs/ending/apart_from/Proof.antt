@@ -1,0 +1,55 @@
+-- Each transaction below y is apart from x.
+use Prim.Native.Nat.{_≤_, _-_}
+use mathlib.Core.Path.{_≡_, sym, _∙_}
+use mathlib.Core.Bool.{true}
+use borrow.Author.Tests.{not-true, not-false}
+use Rattle.laws.specs.Below.{allBelow, all-start, all-more, all-broken, all-done}
+use Rattle.endings.specs.Ending.{coinsApart}
+use borrow.Author.Needs.{needs}
+use Rattle.endings.proofs.ending.apart_from.Statement.{statement}
+use Rattle.endings.proofs.ending.apart_from.Tie as tie
+
+abbrev Inv-loop : tie.InvT-loop
+Inv-loop sheet mask x n y₀ y = (y ≤ n) × (allBelow y (coinsApart sheet mask x) ≡ true)
+
+abbrev μ-loop : tie.MeasureT-loop
+μ-loop sheet mask x n y₀ y = n - y
+
+count-requires : tie.Need-count-requires Inv-loop μ-loop
+count-requires c κs = search needs
+
+loop-holds : tie.Need-loop-holds Inv-loop μ-loop
+loop-holds c = (search needs, all-start _)
+
+coins-apart-requires : tie.Need-coins-apart-requires Inv-loop μ-loop
+coins-apart-requires c κs = search needs
+
+returns : tie.Need-returns Inv-loop μ-loop
+returns c = rw (← (c .before .before .before .before .count .ensures .is)) (sym (all-broken _ _ _ (c .before .before .loop-test .taken) (sym (c .before .coins-apart .ensures) ∙ not-true _ (c .if1 .taken))))
+
+add-y : tie.Need-add-y Inv-loop μ-loop
+add-y c = search needs
+
+loop-less : tie.Need-loop-less Inv-loop μ-loop
+loop-less c = search needs
+
+loop-again : tie.Need-loop-again Inv-loop μ-loop
+loop-again c = (search needs, all-more _ _ (c .before .before .before .loop .inv .1) (sym (c .before .coins-apart .ensures) ∙ not-false _ (c .if1 .left)))
+
+returns-2 : tie.Need-returns-2 Inv-loop μ-loop
+returns-2 c = rw (← (c .before .before .count .ensures .is)) (all-done _ _ _ _ (c .before .loop .inv .0) (c .loop-test .left) (c .before .loop .inv .1))
+
+pub apart-from-spec : {M : Type 1} → statement M
+apart-from-spec =
+    tie.close
+    (tie.spec
+    Inv-loop
+    μ-loop
+    count-requires
+    loop-holds
+    coins-apart-requires
+    returns
+    add-y
+    loop-less
+    loop-again
+    returns-2)

@@ -1,0 +1,39 @@
+-- 33, then 34.
+use Rattle.laws.specs.Failing.{fails, passes, none-left}
+use Rattle.endings.specs.Ending.{endingTests}
+use Rattle.endings.proofs.Naming.{possible-by}
+use borrow.Author.Needs.{needs}
+use Rattle.endings.proofs.ending.ending_refusal.Statement.{statement}
+use Rattle.endings.proofs.ending.ending_refusal.Tie as tie
+
+ending-right-requires : tie.Need-ending-right-requires
+ending-right-requires c κs = search needs
+
+returns : tie.Need-returns
+unfolding endingTests
+returns c = fails 33 _ _ _ (c .before .ending-right .ensures) (c .if1 .taken)
+
+per-day-requires : tie.Need-per-day-requires
+per-day-requires c κs = search needs
+
+is-possible-requires : tie.Need-is-possible-requires
+is-possible-requires c κs = search needs
+
+returns-2 : tie.Need-returns-2
+unfolding endingTests
+returns-2 c = passes 33 _ _ _ _ (c .before .before .before .before .ending-right .ensures) (c .before .before .before .if1 .left) (fails 34 _ _ _ (possible-by _ _ _ _ _ (c .before .before .per-day .ensures) (c .before .is-possible .ensures)) (c .if2 .taken))
+
+returns-3 : tie.Need-returns-3
+unfolding endingTests
+returns-3 c = passes 33 _ _ _ _ (c .before .before .before .before .ending-right .ensures) (c .before .before .before .if1 .left) (passes 34 0 _ _ _ (possible-by _ _ _ _ _ (c .before .before .per-day .ensures) (c .before .is-possible .ensures)) (c .if2 .left) none-left)
+
+pub ending-refusal-spec : {M : Type 1} → statement M
+ending-refusal-spec =
+    tie.close
+    (tie.spec
+    ending-right-requires
+    returns
+    per-day-requires
+    is-possible-requires
+    returns-2
+    returns-3)

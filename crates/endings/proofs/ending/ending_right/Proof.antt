@@ -1,0 +1,42 @@
+-- Within the sheet, four bytes for each, and all named.
+use Rattle.endings.proofs.Naming.{mask-by, ones-by, size-by, right-outside, right-short, right-all}
+use borrow.Author.Needs.{needs}
+use Rattle.endings.proofs.ending.ending_right.Statement.{statement}
+use Rattle.endings.proofs.ending.ending_right.Tie as tie
+
+count-requires : tie.Need-count-requires
+count-requires c κs = search needs
+
+mask-within-requires : tie.Need-mask-within-requires
+mask-within-requires c κs = search needs
+
+returns : tie.Need-returns
+returns c = right-outside _ _ _ _ (mask-by _ _ _ _ (c .before .before .count .ensures .is) (c .before .mask-within .ensures)) (c .if1 .taken)
+
+ones-below-requires : tie.Need-ones-below-requires
+ones-below-requires c κs = search needs
+
+mul-if2 : tie.Need-mul-if2
+mul-if2 c = search needs
+
+returns-2 : tie.Need-returns-2
+returns-2 c = right-short _ _ _ _ (mask-by _ _ _ _ (c .before .before .before .before .count .ensures .is) (c .before .before .before .mask-within .ensures)) _ (ones-by _ _ _ _ (c .before .before .before .before .count .ensures .is) (c .before .ones-below .ensures .is)) (c .before .before .if1 .left) (c .if2 .taken)
+
+all-named-requires : tie.Need-all-named-requires
+all-named-requires c κs = (c .before .before .before .before .before .before .before .pre, size-by _ _ _ _ _ (c .before .before .before .before .count .ensures .is) (c .before .ones-below .ensures .is) (c .if2 .left))
+
+returns-3 : tie.Need-returns-3
+returns-3 c = right-all _ _ _ _ (mask-by _ _ _ _ (c .before .before .before .before .before .count .ensures .is) (c .before .before .before .before .mask-within .ensures)) _ (ones-by _ _ _ _ (c .before .before .before .before .before .count .ensures .is) (c .before .before .ones-below .ensures .is)) (c .before .before .before .if1 .left) _ (c .before .if2 .left) (c .all-named .ensures)
+
+pub ending-right-spec : {M : Type 1} → statement M
+ending-right-spec =
+    tie.close
+    (tie.spec
+    count-requires
+    mask-within-requires
+    returns
+    ones-below-requires
+    mul-if2
+    returns-2
+    all-named-requires
+    returns-3)

@@ -1,0 +1,42 @@
+-- Not in the mask, or with a payee in its place of the list.
+use Rattle.laws.specs.Booleans.{held}
+use Rattle.endings.specs.Ending.{destinationOf}
+use Rattle.endings.proofs.Counting.{ones-room}
+use Rattle.endings.proofs.Naming.{named-out, named-in}
+use borrow.Author.Needs.{needs}
+use Rattle.endings.proofs.ending.paying_named.Statement.{statement}
+use Rattle.endings.proofs.ending.paying_named.Tie as tie
+
+has-requires : tie.Need-has-requires
+has-requires c κs = search needs
+
+returns : tie.Need-returns
+returns c = named-out _ _ _ _ _ (c .before .has .ensures) (c .if1 .taken)
+
+ones-below-requires : tie.Need-ones-below-requires
+ones-below-requires c κs = search needs
+
+mul-number-at : tie.Need-mul-number-at
+mul-number-at c = search needs
+
+number-at-requires : tie.Need-number-at-requires
+number-at-requires c κs = let p = c .before .before .before .before .before .pre in ones-room _ _ _ _ _ (p .1 .0) (held _ _ (c .before .before .has .ensures) (c .before .if1 .left)) (c .ones-below .ensures .is) (p .1 .1)
+
+pays-requires : tie.Need-pays-requires
+pays-requires c κs = search needs
+
+returns-2 : tie.Need-returns-2
+unfolding destinationOf
+returns-2 c = named-in _ _ _ _ _ _ _ (c .before .before .before .before .has .ensures) (c .before .before .before .if1 .left) (c .pays .ensures) (rw (c .before .before .ones-below .ensures .is) at (c .before .number-at .ensures))
+
+pub paying-named-spec : {M : Type 1} → statement M
+paying-named-spec =
+    tie.close
+    (tie.spec
+    has-requires
+    returns
+    ones-below-requires
+    mul-number-at
+    number-at-requires
+    pays-requires
+    returns-2)

@@ -1,0 +1,33 @@
+-- A contract transaction has no payee; a party is one or not.
+use Rattle.laws.specs.Booleans.{tests}
+use Rattle.slots.specs.Destination.{isParty}
+use Rattle.steps.specs.Decode.{sharesTo}
+use borrow.Author.Needs.{needs}
+use Rattle.endings.proofs.ending.pays.Statement.{statement}
+use Rattle.endings.proofs.ending.pays.Tie as tie
+
+is-contract-requires : tie.Need-is-contract-requires
+is-contract-requires c κs = search needs
+
+returns : tie.Need-returns
+unfolding sharesTo
+returns c = simp (← (c .before .is-contract .ensures), c .if1 .taken)
+
+cast-is-payee : tie.Need-cast-is-payee
+cast-is-payee c = search needs
+
+is-payee-requires : tie.Need-is-payee-requires
+is-payee-requires c κs = search needs
+
+returns-2 : tie.Need-returns-2
+unfolding sharesTo isParty
+returns-2 c = simp (tests, ← (c .before .before .before .is-contract .ensures), c .before .before .if1 .left, c .before .if2 .taken, ← (c .is-payee .ensures))
+
+returns-3 : tie.Need-returns-3
+unfolding sharesTo isParty
+returns-3 c = simp (tests, ← (c .before .before .is-contract .ensures), c .before .if1 .left, c .if2 .left)
+
+pub pays-spec : {M : Type 1} → statement M
+pays-spec =
+    tie.close
+    (tie.spec is-contract-requires returns cast-is-payee is-payee-requires returns-2 returns-3)

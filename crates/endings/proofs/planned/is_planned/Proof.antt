@@ -1,0 +1,58 @@
+-- None below x leads to t.
+use Prim.Native.Nat.{_≤_, _-_}
+use mathlib.Core.Path.{_≡_, sym, _∙_}
+use mathlib.Core.Bool.{false, _&&_}
+use Rattle.laws.specs.Below.{anyBelow, any-start, any-more, any-found, any-done}
+use Rattle.laws.specs.Mask.{bit}
+use Rattle.slots.specs.Ancestry.{isSelfOrAncestor}
+use Rattle.endings.specs.Plan.{planned}
+use borrow.Author.Needs.{needs}
+use Rattle.endings.proofs.planned.is_planned.Statement.{statement}
+use Rattle.endings.proofs.planned.is_planned.Tie as tie
+
+abbrev Inv-loop : tie.InvT-loop
+Inv-loop sheet mask t n x₀ x = (x ≤ n) × (anyBelow x (λ k. bit mask k && isSelfOrAncestor sheet t k) ≡ false)
+
+abbrev μ-loop : tie.MeasureT-loop
+μ-loop sheet mask t n x₀ x = n - x
+
+count-requires : tie.Need-count-requires Inv-loop μ-loop
+count-requires c κs = search needs
+
+loop-holds : tie.Need-loop-holds Inv-loop μ-loop
+loop-holds c = (search needs, any-start _)
+
+leads-to-requires : tie.Need-leads-to-requires Inv-loop μ-loop
+leads-to-requires c κs = search needs
+
+returns : tie.Need-returns Inv-loop μ-loop
+unfolding planned
+returns c = rw (← (c .before .before .before .before .count .ensures .is)) (sym (any-found _ _ _ (c .before .before .loop-test .taken) (sym (c .before .leads-to .ensures) ∙ c .if1 .taken)))
+
+add-x : tie.Need-add-x Inv-loop μ-loop
+add-x c = search needs
+
+loop-less : tie.Need-loop-less Inv-loop μ-loop
+loop-less c = search needs
+
+loop-again : tie.Need-loop-again Inv-loop μ-loop
+loop-again c = (search needs, any-more _ _ (c .before .before .before .loop .inv .1) (sym (c .before .leads-to .ensures) ∙ c .if1 .left))
+
+returns-2 : tie.Need-returns-2 Inv-loop μ-loop
+unfolding planned
+returns-2 c = rw (← (c .before .before .count .ensures .is)) (any-done _ _ _ _ (c .before .loop .inv .0) (c .loop-test .left) (c .before .loop .inv .1))
+
+pub is-planned-spec : {M : Type 1} → statement M
+is-planned-spec =
+    tie.close
+    (tie.spec
+    Inv-loop
+    μ-loop
+    count-requires
+    loop-holds
+    leads-to-requires
+    returns
+    add-x
+    loop-less
+    loop-again
+    returns-2)

@@ -1,0 +1,5 @@
+pub mod Refusal
+pub mod Earliest
+pub mod Plan
+pub mod Ending
+pub mod Forms

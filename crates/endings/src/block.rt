@@ -1,0 +1,62 @@
+// The earliest block of a transaction: recursion up the sheet, where a parent is always a lower number.
+use slots::lock_height::wide;
+ghost use Prim.Native.Nat.{_+_, _*_, _≤_, _<_};
+ghost use mathlib.Core.Path.{_≡_};
+ghost use Rattle.sheet.specs.Field.{count, Sized};
+ghost use Rattle.slots.specs.Forms.Height.{Product};
+ghost use Rattle.ledger.specs.Ledger.{lockFrom};
+ghost use Rattle.endings.specs.Earliest.{earliestFrom, earliest};
+ghost use Rattle.endings.specs.Forms.Bounds.{Locked, Early};
+
+// Days times blocks per day.
+fn product(days: u8, per_day: u16) -> u32
+    ensures { λ r. ⌜ Product days «per_day» r ⌝ }
+{
+    (days as u32) * wide(per_day)
+}
+
+// The lock of t over a block of its parent.
+fn lock_from(sheet: &[u8], per_day: u16, above: u32, t: usize) -> u32
+    requires { ⌜ Sized (now sheet) ⌝ }
+    requires { ⌜ t < count (now sheet) ⌝ }
+    requires { ⌜ above ≤ 536870944 ⌝ }
+    ensures { λ r. ⌜ Locked (lockFrom (now (sheet .entry)) «per_day» above t) above r ⌝ }
+{
+    let lock = sheet::field::lock_type(sheet, t);
+    if lock == 0 {
+        return 0;
+    }
+    let blocks = product(sheet::field::days(sheet, t), per_day);
+    if lock == 1 {
+        return blocks;
+    }
+    above + blocks
+}
+
+// The earliest block of t over its parent's.
+fn earliest_from(sheet: &[u8], per_day: u16, t: usize, above: u32) -> u32
+    requires { ⌜ Sized (now sheet) ⌝ }
+    requires { ⌜ t < count (now sheet) ⌝ }
+    requires { ⌜ above ≤ 16777217 * t + 1 ⌝ }
+    ensures { λ r. ⌜ Early (earliestFrom (now (sheet .entry)) «per_day» t above) t r ⌝ }
+{
+    let next = lock_from(sheet, per_day, above, t) + 1;
+    if above < next {
+        return next;
+    }
+    above
+}
+
+// The earliest block of t.
+pub fn earliest_block(sheet: &[u8], per_day: u16, t: usize) -> u32
+    requires { ⌜ Sized (now sheet) ⌝ }
+    requires { ⌜ t < count (now sheet) ⌝ }
+    ensures { λ r. ⌜ Early (earliest (now (sheet .entry)) «per_day» t) t r ⌝ }
+{
+    let up = sheet::field::parent(sheet, t);
+    if up < t {
+        let above = earliest_block(sheet, per_day, up);
+        return earliest_from(sheet, per_day, t, above);
+    }
+    earliest_from(sheet, per_day, t, 1)
+}
