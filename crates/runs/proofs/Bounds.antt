@@ -64,7 +64,7 @@ module _ (s u : List ℕ) where
   decoded-below p (Read x) = take-below p x
   decoded-below p Refused = lit< tt
 
-  step-below : (p : Position) (b : FourBytes) → step s u p b .refusal < 25
+  pub step-below : (p : Position) (b : FourBytes) → step s u p b .refusal < 25
   unfolding step
   step-below p b = decoded-below p (decodeBytes s u b)
 
