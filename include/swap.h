@@ -47,7 +47,7 @@ enum swap_refusal {
     SWAP_STEP_NOT_OWED = 21,    /* kind 7, not owed */
     SWAP_STEP_EMPTY_BLOCK = 22, /* empty block too soon */
     SWAP_STEP_BLOCKS = 23,      /* 10,000 blocks mined */
-    SWAP_JOURNAL_LENGTH = 24,   /* journal not a multiple of 4, or over 65,536 bytes */
+    SWAP_JOURNAL_LENGTH = 24,   /* journal not a multiple of 4, or over 65,536 bytes; ask and commit: at 65,536 too */
     SWAP_BUFFER_SHORT = 25,     /* buffer too short for what is written */
     SWAP_TIMELOCK_RELATIVE = 26, /* a since-parent value is above 65,535 */
     SWAP_TIMELOCK_ABSOLUTE = 27, /* base plus an absolute lock's height reaches 500,000,000 */
@@ -56,7 +56,8 @@ enum swap_refusal {
     SWAP_BLOCKS_ORDER = 30,     /* entries don't rise by block and then transaction, or a block outside 1 to 10,000 */
     SWAP_BLOCKS_LEDGER = 31,    /* the ledger refuses the block list */
     SWAP_ENDING_FIELD = 33,     /* a mask beyond the sheet or with a contract transaction, or destinations that don't fit it */
-    SWAP_ENDING_IMPOSSIBLE = 34 /* no accepted block list confirms the ending */
+    SWAP_ENDING_IMPOSSIBLE = 34, /* no accepted block list confirms the ending */
+    SWAP_COUNT_STALE = 35       /* the count is not the journal's */
 };
 
 /* The two parts of an answer. */
@@ -235,6 +236,33 @@ uint32_t swap_earliest(const uint8_t *sheet, size_t sheet_length,
                        uint32_t mask,
                        const uint8_t *destinations, size_t destinations_length,
                        uint8_t *output, size_t output_length);
+
+/*
+ * Asks whether a step of 4 bytes would pass after a journal, and changes nothing. Refusals 1 to 24; 24 also where the
+ * journal has 65,536 bytes, so no room for a step. The journal's own refusal comes first, with the count of swap_run; then
+ * the step's, 11 where it is not of 4 bytes, with the count of steps in the journal, as under 0.
+ */
+uint32_t swap_ask(const uint8_t *sheet, size_t sheet_length,
+                  const uint8_t *setup, size_t setup_length,
+                  const uint8_t *journal, size_t journal_length,
+                  const uint8_t *step, size_t step_length);
+
+/*
+ * Commits a step of 4 bytes to a journal, which is the first `size` bytes of the buffer: where nothing is refused, the step
+ * stands in the 4 bytes after them, and `size` + 4 is the journal's new length. The count is the one that swap_ask gave; the
+ * answer's own count is 0.
+ *
+ * In this order: 1 to 10; 24, also where `size` is beyond the buffer or at 65,536; the journal's own 11 to 23; 35 where the
+ * count is not the number of the journal's steps; the step's own 11 to 23; 25 where the buffer has no 4 bytes left. All
+ * other bytes keep their values, and under a refusal all bytes do. After a commit that passed, a second one with the same
+ * count and the new length is refused.
+ */
+uint32_t swap_commit(const uint8_t *sheet, size_t sheet_length,
+                     const uint8_t *setup, size_t setup_length,
+                     const uint8_t *step, size_t step_length,
+                     uint32_t count,
+                     uint8_t *buffer, size_t buffer_length,
+                     uint32_t size);
 
 #ifdef __cplusplus
 }

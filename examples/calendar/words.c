@@ -38,13 +38,16 @@ static const struct refusal refusals[] = {
     REFUSAL(SWAP_STEP_BLOCKS, "10,000 blocks are mined"),
     REFUSAL(SWAP_JOURNAL_LENGTH, "journal not a multiple of 4 bytes, or over 65,536"),
     REFUSAL(SWAP_BUFFER_SHORT, "buffer too short"),
+    REFUSAL(SWAP_COUNT_STALE, "the journal has another count of steps"),
 };
 
 static const struct refusal unknown = {"unknown", "not in the refusal table"};
 
 static const struct refusal *refusal_of(uint32_t number)
 {
-    return number < sizeof refusals / sizeof refusals[0] ? &refusals[number] : &unknown;
+    bool known = number < sizeof refusals / sizeof refusals[0] && refusals[number].name != NULL;
+
+    return known ? &refusals[number] : &unknown;
 }
 
 const char *refusal_name(uint32_t refusal)

@@ -87,6 +87,28 @@ extern "C" {
         output: *mut u8,
         output_length: usize,
     ) -> u32;
+    fn swap_ask(
+        sheet: *const u8,
+        sheet_length: usize,
+        setup: *const u8,
+        setup_length: usize,
+        journal: *const u8,
+        journal_length: usize,
+        step: *const u8,
+        step_length: usize,
+    ) -> u32;
+    fn swap_commit(
+        sheet: *const u8,
+        sheet_length: usize,
+        setup: *const u8,
+        setup_length: usize,
+        step: *const u8,
+        step_length: usize,
+        count: u32,
+        buffer: *mut u8,
+        buffer_length: usize,
+        size: u32,
+    ) -> u32;
 }
 
 /// The engine's check of a sheet, in one number.
@@ -238,6 +260,49 @@ pub fn earliest(
             destinations.len(),
             output.as_mut_ptr(),
             output.len(),
+        )
+    }
+}
+
+/// The engine's answer whether a step would pass, in one number.
+pub fn ask(sheet: &[u8], setup: &[u8], journal: &[u8], step: &[u8]) -> u32 {
+    // SAFETY: each pointer and length are one slice's, and the call only reads.
+    unsafe {
+        swap_ask(
+            sheet.as_ptr(),
+            sheet.len(),
+            setup.as_ptr(),
+            setup.len(),
+            journal.as_ptr(),
+            journal.len(),
+            step.as_ptr(),
+            step.len(),
+        )
+    }
+}
+
+/// The engine's commit of a step to the journal that the buffer starts with, in one number.
+pub fn commit(
+    sheet: &[u8],
+    setup: &[u8],
+    step: &[u8],
+    count: u32,
+    buffer: &mut [u8],
+    size: u32,
+) -> u32 {
+    // SAFETY: each pointer and length are one slice's, and the call writes only to the buffer, which is lent alone.
+    unsafe {
+        swap_commit(
+            sheet.as_ptr(),
+            sheet.len(),
+            setup.as_ptr(),
+            setup.len(),
+            step.as_ptr(),
+            step.len(),
+            count,
+            buffer.as_mut_ptr(),
+            buffer.len(),
+            size,
         )
     }
 }

@@ -1,4 +1,6 @@
 // The outward calls for C: each packs the answer of the call in Rattle.
+use asks::ask::ask;
+use asks::commit::commit;
 use blocks::blocks;
 use desk::desk;
 use earliest::earliest;
@@ -19,6 +21,8 @@ ghost use Rattle.timelocks.specs.Timelocks.{timelocksAnswer};
 ghost use Rattle.desk.specs.Desk.{deskAnswer};
 ghost use Rattle.blocks.specs.BlockList.{blocksRefusal};
 ghost use Rattle.earliest.specs.Answer.{earliestAnswer};
+ghost use Rattle.asks.specs.Ask.{askAnswer};
+ghost use Rattle.asks.specs.Commit.{commitAnswer};
 
 // Checks a sheet: refusal × 65,536.
 #[no_mangle]
@@ -120,4 +124,29 @@ pub extern "C" fn swap_earliest(
 {
     let planned = earliest(sheet, setup, mask, dests, out);
     planned.refusal * 65536 + planned.count
+}
+
+// Asks whether a step would pass after a journal: refusal × 65,536 + the steps in the journal.
+#[no_mangle]
+pub extern "C" fn swap_ask(sheet: &[u8], setup: &[u8], journal: &[u8], step: &[u8]) -> u32
+    ensures { λ r. ⌜ r ≡ packed (askAnswer (now (sheet .entry)) (now (setup .entry)) (now (journal .entry)) (now (step .entry)) .refusal) (askAnswer (now (sheet .entry)) (now (setup .entry)) (now (journal .entry)) (now (step .entry)) .count) ⌝ }
+{
+    let asked = ask(sheet, setup, journal, step);
+    asked.refusal * 65536 + asked.count
+}
+
+// Commits a step to the journal that a buffer starts with: refusal × 65,536.
+#[no_mangle]
+pub extern "C" fn swap_commit(
+    sheet: &[u8],
+    setup: &[u8],
+    step: &[u8],
+    count: u32,
+    buffer: &mut [u8],
+    size: u32,
+) -> u32
+    ensures { λ r. ⌜ r ≡ packed (commitAnswer (now (sheet .entry)) (now (setup .entry)) (now (step .entry)) count (now (buffer .entry)) size .refusal) 0 ⌝ }
+    ensures { λ _. ⌜ now (buffer .exit) ≡ commitAnswer (now (sheet .entry)) (now (setup .entry)) (now (step .entry)) count (now (buffer .entry)) size .buffer ⌝ }
+{
+    commit(sheet, setup, step, count, buffer, size) * 65536
 }

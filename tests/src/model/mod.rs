@@ -4,6 +4,7 @@
 //! them; claims, what demand 3 says of them; faults, rules that the claims
 //! fail without; and a file for each further call.
 
+pub mod asks;
 pub mod block_list;
 pub mod calls;
 pub mod claims;

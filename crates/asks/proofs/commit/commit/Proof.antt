@@ -1,0 +1,62 @@
+-- Refused, or four bytes over the part after the journal.
+use native.Mathlib.Omega.{arith}
+use mathlib.Core.Path.{refl, sym, _∙_}
+use lib.ListN.{length-drop}
+use Rattle.laws.specs.Wrote.{to-end}
+use Rattle.asks.proofs.Commits.{part-written, answer-no, answer-yes, pass, answered}
+use borrow.Author.Needs.{needs}
+use Rattle.asks.proofs.commit.commit.Statement.{statement}
+use Rattle.asks.proofs.commit.commit.Tie as tie
+
+commit-refusal-requires : tie.Need-commit-refusal-requires
+commit-refusal-requires c κs = search needs
+
+same-length : tie.Need-same-length
+same-length c = search needs
+
+returns : tie.Need-returns
+returns c =
+    let a = c .before .before .before .before .before .before .before .args in
+    let e = c .before .commit-refusal .ensures in
+    let w = answered _ _ (answer-no (a .sheet .now) (a .setup .now) (a .step .now) (a .count) (a .buffer .now) (a .size) (λ z. c .if1 .taken (e ∙ z))) in
+    (e ∙ w .0, w .1)
+
+sub-write-step : tie.Need-sub-write-step
+sub-write-step c = let a = c .before .before .before .before .before .before .before .args in pass (a .sheet .now) (a .setup .now) (a .step .now) (a .count) (a .buffer .now) (a .size) (sym (c .before .commit-refusal .ensures) ∙ c .if1 .left) .within
+
+part-write-step-start : tie.Need-part-write-step-start
+part-write-step-start c = let a = c .before .before .before .before .before .before .before .args in pass (a .sheet .now) (a .setup .now) (a .step .now) (a .count) (a .buffer .now) (a .size) (sym (c .before .commit-refusal .ensures) ∙ c .if1 .left) .within
+
+part-write-step-end : tie.Need-part-write-step-end
+part-write-step-end c = search needs
+
+write-step-requires : tie.Need-write-step-requires
+write-step-requires c κs =
+    let a = c .before .before .before .before .before .before .before .before .args in
+    let w = pass (a .sheet .now) (a .setup .now) (a .step .now) (a .count) (a .buffer .now) (a .size) (sym (c .before .before .commit-refusal .ensures) ∙ c .before .if1 .left) in
+    (w .four, rw (to-end (a .buffer .now) (a .size)) (omega (arith, w .room, length-drop (a .size) (a .buffer .now))))
+
+same-length-2 : tie.Need-same-length-2
+same-length-2 c = search needs
+
+returns-2 : tie.Need-returns-2
+returns-2 c =
+    let a = c .before .before .before .before .before .before .before .before .before .before .before .args in
+    let z = sym (c .before .before .before .before .before .commit-refusal .ensures) ∙ c .before .before .before .before .if1 .left in
+    let w = pass (a .sheet .now) (a .setup .now) (a .step .now) (a .count) (a .buffer .now) (a .size) z in
+    let v = answered _ _ (answer-yes (a .sheet .now) (a .setup .now) (a .step .now) (a .count) (a .buffer .now) (a .size) z) in
+    (v .0, part-written (a .step .now) (a .buffer .now) (a .size) _ (w .four) (w .room) refl _ (c .before .before .write-step .ensures) ∙ v .1)
+
+pub commit-spec : {M : Type 1} → statement M
+commit-spec =
+    tie.close
+    (tie.spec
+    commit-refusal-requires
+    same-length
+    returns
+    sub-write-step
+    part-write-step-start
+    part-write-step-end
+    write-step-requires
+    same-length-2
+    returns-2)

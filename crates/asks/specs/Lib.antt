@@ -1,0 +1,4 @@
+pub mod Refusal
+pub mod Ask
+pub mod Commit
+pub mod Claim
