@@ -54,8 +54,7 @@ static uint8_t offset(unsigned blocks_per_day)
     }
 }
 
-/* The SASwap sheet for a number of blocks per day. */
-static void saswap_sheet(unsigned blocks_per_day, uint8_t sheet[SASWAP_SIZE])
+void saswap_sheet(unsigned blocks_per_day, uint8_t sheet[SASWAP_SIZE])
 {
     /* transactions, signatures, secrets, held by Alice, held by Bob */
     static const uint8_t head[5] = {SASWAP_COUNT, 4, 12, 5, 10};

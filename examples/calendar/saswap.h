@@ -14,6 +14,9 @@
 const char *saswap_transaction(uint8_t t);
 const char *saswap_signature(uint8_t number);
 
+/* Writes the SASwap sheet for a number of blocks per day. */
+void saswap_sheet(unsigned blocks_per_day, uint8_t sheet[SASWAP_SIZE]);
+
 /* Whether the sheet is the SASwap sheet for the setup's blocks per day; the setup has 4 bytes. */
 bool is_saswap(const struct swap *swap);
 

@@ -5,7 +5,7 @@ mod cases;
 pub mod rule;
 mod screen;
 mod view;
-mod words;
+pub mod words;
 
 pub use cases::{cases, Case};
 

@@ -12,3 +12,4 @@ pub mod older;
 pub mod random;
 pub mod rounds;
 pub mod samples;
+pub mod swapfile;

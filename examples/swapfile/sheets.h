@@ -1,0 +1,30 @@
+/* A sheet as text. */
+#ifndef SHEETS_H
+#define SHEETS_H
+
+#include "../calendar/files.h"
+#include "lines.h"
+
+#define TRANSACTIONS_MOST 32
+
+/* A sheet that is read line by line. */
+struct draft {
+    unsigned heading; /* the line on which it starts */
+    uint8_t count;
+    uint8_t head[4];    /* signatures, and the masks of secrets and of what Alice and Bob hold */
+    bool has_head[4];
+    uint8_t first[TRANSACTIONS_MOST][4];
+    uint8_t second[TRANSACTIONS_MOST][2];
+    unsigned lines[TRANSACTIONS_MOST];
+};
+
+/* Reads a line of a sheet. */
+bool read_sheet_line(struct line *line, struct draft *draft);
+
+/* Writes a draft whole as the swap's sheet, at the line that follows it. False, with a message, where it is refused. */
+bool end_sheet(const struct line *line, const struct draft *draft, struct swap *swap);
+
+/* Prints a sheet that is accepted. */
+void print_sheet(const struct swap *swap);
+
+#endif

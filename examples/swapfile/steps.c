@@ -1,0 +1,216 @@
+#include "steps.h"
+
+#include <stdio.h>
+#include <string.h>
+
+#include "../calendar/position.h"
+#include "../calendar/saswap.h"
+#include "../calendar/words.h"
+
+/* The most steps of a journal. */
+#define STEPS_MOST (JOURNAL_MOST / 4)
+
+/* What stands before and after the name of a transaction, by kind. */
+static const struct {
+    const char *before;
+    const char *after;
+} phrases[] = {
+    [SHARE] = {"shares signatures on", ""},
+    [SEND] = {"sends", "to the pool"},
+    [HAND_IN] = {"hands", "to the miner"},
+    [INCLUDE] = {"include", "in the block"},
+    [BUMP] = {"bump", "into the block"},
+};
+
+static const char first_shares[] = "makes the first shares";
+
+static const char *const parties[] = {"alice", "bob"};
+
+static bool take_party(struct line *line, uint8_t *party)
+{
+    for (uint8_t number = ALICE; number <= BOB; number++) {
+        if (take(line, parties[number])) {
+            *party = number;
+            return true;
+        }
+    }
+    return false;
+}
+
+static bool expect_party(struct line *line, uint8_t *party)
+{
+    return take_party(line, party) || bad(line, "'%s' where 'alice' or 'bob' is expected", next_word(line));
+}
+
+/* Takes a name of the SASwap sheet, or WORD and a number below COUNT. */
+static bool expect_name(struct line *line, const struct swap *swap, const char *name(uint8_t), const char *word,
+                        uint8_t count, uint8_t *found)
+{
+    unsigned number;
+
+    for (uint8_t i = 0; i < count && is_saswap(swap); i++) {
+        if (take(line, name(i))) {
+            *found = i;
+            return true;
+        }
+    }
+    if (!take(line, word)) {
+        return bad(line, "'%s' is no %s of this sheet%s", next_word(line), word,
+                   is_saswap(swap) ? "" : ", which has numbers instead of names");
+    }
+    if (!expect_number(line, 0, count - 1u, &number)) {
+        return false;
+    }
+    *found = (uint8_t)number;
+    return true;
+}
+
+static bool expect_transaction(struct line *line, const struct swap *swap, uint8_t *t)
+{
+    return expect_name(line, swap, saswap_transaction, "transaction", count_of(swap), t);
+}
+
+static bool expect_signature(struct line *line, const struct swap *swap, uint8_t *number)
+{
+    return expect_name(line, swap, saswap_signature, "signature", swap->sheet[1], number);
+}
+
+/* Takes whom the transaction pays; the contract where nobody is named. */
+static bool expect_destination(struct line *line, uint8_t *destination)
+{
+    *destination = CONTRACT;
+    return !take(line, "paying") || expect_party(line, destination);
+}
+
+/* The rest of a step on a transaction, after the words before its name. */
+static bool read_named(struct line *line, const struct swap *swap, uint8_t step[4])
+{
+    return expect_transaction(line, swap, &step[2]) && expect(line, phrases[step[0]].after) &&
+           (step[1] == MINER || expect_destination(line, &step[3]));
+}
+
+/* The kind from FIRST to LAST whose words come next; 0 where there is none. */
+static uint8_t take_kind(struct line *line, uint8_t first, uint8_t last)
+{
+    for (uint8_t kind = first; kind <= last; kind++) {
+        if (phrases[kind].before != NULL && take(line, phrases[kind].before)) {
+            return kind;
+        }
+    }
+    return 0;
+}
+
+/* A step of Alice or Bob, after the name. */
+static bool read_own(struct line *line, const struct swap *swap, uint8_t step[4])
+{
+    if (take(line, first_shares)) {
+        step[0] = SHARE;
+        step[2] = NONE;
+        return true;
+    }
+    if (take(line, "gives")) {
+        step[0] = GIVE;
+        return expect_signature(line, swap, &step[2]) && expect(line, "to") && expect_party(line, &step[3]);
+    }
+    step[0] = take_kind(line, SHARE, HAND_IN);
+    if (step[0] == 0) {
+        return bad(line, "'%s' where 'shares signatures on', '%s', 'gives', 'sends' or 'hands' is expected",
+                   next_word(line), first_shares);
+    }
+    return read_named(line, swap, step);
+}
+
+/* A row of blocks, after the word mine. */
+static bool read_blocks(struct line *line, uint8_t step[4], unsigned *times)
+{
+    step[0] = MINE;
+    step[2] = NONE;
+    if (take(line, "the block")) {
+        return true;
+    }
+    return expect_number(line, 1, STEPS_MOST, times) && (take(line, "block") || expect(line, "blocks"));
+}
+
+/* A step of the miner. */
+static bool read_miner(struct line *line, const struct swap *swap, uint8_t step[4], unsigned *times)
+{
+    if (take(line, "mine")) {
+        return read_blocks(line, step, times);
+    }
+    step[0] = take_kind(line, INCLUDE, BUMP);
+    if (step[0] == 0) {
+        return bad(line, "'%s' where a step is expected: 'alice', 'bob', 'include', 'bump' or 'mine'",
+                   next_word(line));
+    }
+    return read_named(line, swap, step);
+}
+
+bool read_steps(struct line *line, const struct swap *swap, uint8_t step[4], unsigned *times)
+{
+    bool sound;
+
+    *times = 1;
+    step[3] = CONTRACT;
+    if (take_party(line, &step[1])) {
+        sound = read_own(line, swap, step);
+    } else {
+        step[1] = MINER;
+        sound = read_miner(line, swap, step, times);
+    }
+    return sound && expect_end(line);
+}
+
+/* Prints the words of a step that mines no block. */
+static void print_words(const struct swap *swap, const uint8_t step[4])
+{
+    if (step[1] != MINER) {
+        printf("%s ", parties[step[1]]);
+    }
+    if (step[0] == GIVE && is_saswap(swap)) {
+        printf("gives %s to %s", saswap_signature(step[2]), parties[step[3]]);
+    } else if (step[0] == GIVE) {
+        printf("gives signature %u to %s", (unsigned)step[2], parties[step[3]]);
+    } else if (step[2] == NONE) {
+        printf("%s", first_shares);
+    } else {
+        const char *after = phrases[step[0]].after;
+
+        printf("%s %s%s%s", phrases[step[0]].before, transaction_label(swap, step[2]).text, *after == '\0' ? "" : " ",
+               after);
+        if (step[3] != CONTRACT) {
+            printf(", paying %s", parties[step[3]]);
+        }
+    }
+    putchar('\n');
+}
+
+/* Prints so many blocks, which follow MINED others. */
+static void print_blocks(size_t blocks, size_t mined)
+{
+    if (blocks == 1) {
+        printf("mine the block # block %zu\n", mined + 1);
+    } else {
+        printf("mine %zu blocks # blocks %zu to %zu\n", blocks, mined + 1, mined + blocks);
+    }
+}
+
+void print_journal(const struct swap *swap)
+{
+    size_t mined = 0;
+
+    for (size_t at = 0; at < swap->journal_length;) {
+        const uint8_t *step = swap->journal + at;
+        size_t blocks = 0;
+
+        if (step[0] != MINE) {
+            print_words(swap, step);
+            at += 4;
+            continue;
+        }
+        for (; at < swap->journal_length && swap->journal[at] == MINE; at += 4) {
+            blocks++;
+        }
+        print_blocks(blocks, mined);
+        mined += blocks;
+    }
+}

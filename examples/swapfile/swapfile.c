@@ -1,0 +1,160 @@
+/*
+ * The files of a swap as text that people write and read. Usage and meaning stand in `help` below; the text form in
+ * docs/FORMATS.md.
+ */
+#include <stdio.h>
+#include <string.h>
+
+#include "../calendar/arguments.h"
+#include "../calendar/position.h"
+#include "../calendar/saswap.h"
+#include "../calendar/words.h"
+#include "store.h"
+#include "text.h"
+
+/* The exit status. */
+enum { FINE = 0, REFUSED = 1, BAD_USAGE = 2 };
+
+static const char *const manual[] = {
+    "usage: swapfile encode TEXT FOLDER\n"
+    "       swapfile decode FOLDER\n"
+    "       swapfile new saswap BLOCKS_PER_DAY FOLDER [SIDE]\n",
+    "\n"
+    "encode  reads the text of a swap and writes sheet.bin, setup.bin and journal.bin\n"
+    "        to FOLDER, and the file `side` where the text has a side. What is wrong,\n"
+    "        or what the engine refuses, is told with its line, and nothing is written.\n"
+    "decode  prints the text of the swap in FOLDER, which the engine must accept.\n"
+    "new     writes a swap to start from: the SASwap sheet for 1 to 1000 blocks per\n"
+    "        day, careful conduct, no stealth, an empty journal; with SIDE, alice or\n"
+    "        bob, the file `side` too. FOLDER holds no swap before.\n"
+    "\n"
+    "    swapfile new saswap 144 deal && swapfile decode deal >deal.txt\n"
+    "\n"
+    "then add steps below `journal:` in deal.txt, and\n"
+    "\n"
+    "    swapfile encode deal.txt deal && ./calendar deal\n"
+    "\n"
+    "docs/FORMATS.md has the text form. Exit status: 0 done; 1 refused, or a file\n"
+    "cannot be read or written; 2 bad usage.\n",
+};
+
+static int misuse(const char *argument, const char *reason)
+{
+    if (argument != NULL) {
+        fprintf(stderr, "swapfile: %s: %s\n", argument, reason);
+    }
+    fputs(manual[0], stderr);
+    return BAD_USAGE;
+}
+
+static int encode(const char *file, const char *folder)
+{
+    static struct swap swap;
+    uint8_t sides;
+
+    return encode_text(file, &swap, &sides) && store_swap(folder, &swap, side_name(sides), false) ? FINE : REFUSED;
+}
+
+static int tell(const char *folder, const char *file, const char *reason)
+{
+    fprintf(stderr, "swapfile: %s/%s: %s\n", folder, file, reason);
+    return REFUSED;
+}
+
+/* Tells why the engine refuses a folder's swap. */
+static int refuse(const char *folder, uint32_t answer)
+{
+    uint32_t refusal = SWAP_REFUSAL(answer);
+    const char *file = refusal <= SWAP_SHEET_CHILDREN    ? "sheet.bin"
+                       : refusal <= SWAP_SETUP_CONDUCT ? "setup.bin"
+                                                       : "journal.bin";
+    char step[32] = "";
+
+    if (refusal >= SWAP_STEP_FIELD && refusal <= SWAP_STEP_BLOCKS) {
+        snprintf(step, sizeof step, "step %lu is ", (unsigned long)SWAP_COUNT(answer) + 1);
+    }
+    fprintf(stderr, "swapfile: %s/%s: %srefused: %s (%s)\n", folder, file, step, refusal_words(refusal),
+            refusal_name(refusal));
+    return REFUSED;
+}
+
+static int decode(const char *folder)
+{
+    static struct swap swap;
+    struct fault fault = read_swap(folder, &swap);
+    uint8_t sides = 0;
+    uint32_t answer;
+
+    if (fault.file == NULL) {
+        fault = read_side(folder, &sides);
+    }
+    if (fault.file != NULL) {
+        return tell(folder, fault.file, fault.reason);
+    }
+    answer = swap_run(swap.sheet, swap.sheet_length, swap.setup, swap.setup_length, swap.journal, swap.journal_length);
+    if (SWAP_REFUSAL(answer) != SWAP_ACCEPTED) {
+        return refuse(folder, answer);
+    }
+    decode_text(&swap, sides);
+    if (fflush(stdout) != 0 || ferror(stdout)) {
+        fputs("swapfile: cannot write the text\n", stderr);
+        return REFUSED;
+    }
+    return FINE;
+}
+
+/* A number from 1 to 1000, or 0 where it is none. */
+static unsigned blocks_named(const char *text)
+{
+    size_t length = strlen(text);
+    unsigned value = 0;
+
+    if (length == 0 || length > 4 || strspn(text, "0123456789") != length) {
+        return 0;
+    }
+    for (; *text != '\0'; text++) {
+        value = 10 * value + (unsigned)(*text - '0');
+    }
+    return value <= 1000 ? value : 0;
+}
+
+static int start(const char *sheet, const char *blocks, const char *folder, const char *side)
+{
+    static struct swap swap;
+    unsigned blocks_per_day = blocks_named(blocks);
+
+    if (strcmp(sheet, "saswap") != 0) {
+        return misuse(sheet, "the only sheet known by name is saswap");
+    }
+    if (blocks_per_day == 0) {
+        return misuse(blocks, "no number from 1 to 1000");
+    }
+    if (side != NULL && side_named(side) == 0) {
+        return misuse(side, "neither alice nor bob");
+    }
+    saswap_sheet(blocks_per_day, swap.sheet);
+    swap.sheet_length = SASWAP_SIZE;
+    swap.setup[0] = (uint8_t)(blocks_per_day & 255u);
+    swap.setup[1] = (uint8_t)(blocks_per_day >> 8);
+    swap.setup[2] = CAREFUL;
+    swap.setup_length = SETUP_MOST;
+    return store_swap(folder, &swap, side, true) ? FINE : REFUSED;
+}
+
+int main(int argc, char **argv)
+{
+    if (argc == 2 && strcmp(argv[1], "--help") == 0) {
+        printf("%s%s", manual[0], manual[1]);
+        return FINE;
+    }
+    if (argc == 4 && strcmp(argv[1], "encode") == 0) {
+        return encode(argv[2], argv[3]);
+    }
+    if (argc == 3 && strcmp(argv[1], "decode") == 0) {
+        return decode(argv[2]);
+    }
+    if ((argc == 5 || argc == 6) && strcmp(argv[1], "new") == 0) {
+        return start(argv[2], argv[3], argv[4], argc == 6 ? argv[5] : NULL);
+    }
+    return misuse(NULL, NULL);
+}
