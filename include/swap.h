@@ -4,6 +4,10 @@
  * Every call takes byte slices, each as a pointer and a length in bytes (a null pointer with length 0 is an empty slice),
  * and returns one number: refusal * 65536 + count. No bytes make a call trap; a refused call changes no buffer.
  *
+ * The calls are reentrant: they keep no state and no pointer, so any number of threads may call at once. The library is
+ * for x86-64. It needs no heap, and of other code memcpy and memset alone. All its functions are proved; the macros and
+ * the inline functions of this header, as swap_refusal_name, are plain C, compiled with the program that includes it.
+ *
  * The slices: a contract sheet of 5 + 6n bytes for n transactions, 197 at most; a setup of 4 bytes; a journal of 4 bytes
  * for each step, 65,536 at most. Values of more than one byte are little-endian, in what is read and in what is written.
  * An output buffer overlaps no other slice of its call.
@@ -21,62 +25,177 @@
 extern "C" {
 #endif
 
-/* The refusals, by name. */
+/* The version of header and library. The first number goes up where an answer or its layout changes, the second where
+ * calls are added. */
+#define SWAP_VERSION "1.0.0"
+
+/* The refusals: for each its name, its number and what it says. */
+#define SWAP_REFUSALS(X) \
+    X(SWAP_ACCEPTED, 0, "no refusal") \
+    X(SWAP_SHEET_SHORT, 1, "sheet under 5 bytes") \
+    X(SWAP_SHEET_COUNT, 2, "number of transactions outside 1 to 32") \
+    X(SWAP_SHEET_SIGNATURES, 3, "number of signatures outside 1 to 8, or a head mask beyond it") \
+    X(SWAP_SHEET_LENGTH, 4, "length of the sheet not 5 + 6 for each transaction") \
+    X(SWAP_SHEET_PARENT, 5, "parent neither 255 nor lower") \
+    X(SWAP_SHEET_ENTRY, 6, "payees, needs or veil out of range") \
+    X(SWAP_SHEET_LOCK, 7, "lock out of range, or since a parent that is not there") \
+    X(SWAP_SHEET_CHILDREN, 8, "payees 0 without child, or payees with child") \
+    X(SWAP_SETUP_BLOCKS, 9, "setup not 4 bytes, or blocks per day out of range") \
+    X(SWAP_SETUP_CONDUCT, 10, "conduct or stealth out of range, or sheet unfit for the conduct") \
+    X(SWAP_STEP_FIELD, 11, "step field out of range for its kind") \
+    X(SWAP_STEP_STEALTH, 12, "hand-in to the miner without stealth") \
+    X(SWAP_STEP_CONDUCT, 13, "not open to the party by its conduct, or share or give not met") \
+    X(SWAP_STEP_CONFLICT, 14, "a rival stands in the way") \
+    X(SWAP_STEP_PARENT, 15, "the parent is not there") \
+    X(SWAP_STEP_SIGNATURES, 16, "signatures are missing") \
+    X(SWAP_STEP_LOCK, 17, "the lock height is not reached") \
+    X(SWAP_STEP_DEADLINE, 18, "the deadline is reached") \
+    X(SWAP_STEP_POOL, 19, "not in the pool") \
+    X(SWAP_STEP_BUMP_OWED, 20, "a bump is owed") \
+    X(SWAP_STEP_NOT_OWED, 21, "no bump of it is owed") \
+    X(SWAP_STEP_EMPTY_BLOCK, 22, "an empty block before transaction 0 is confirmed") \
+    X(SWAP_STEP_BLOCKS, 23, "10,000 blocks are mined") \
+    X(SWAP_JOURNAL_LENGTH, 24, "journal not a multiple of 4 bytes, or over 65,536") \
+    X(SWAP_BUFFER_SHORT, 25, "buffer too short") \
+    X(SWAP_TIMELOCK_RELATIVE, 26, "a since-parent value is above 65,535") \
+    X(SWAP_TIMELOCK_ABSOLUTE, 27, "base plus an absolute lock's height reaches 500,000,000") \
+    X(SWAP_BUNDLE_LAYOUT, 28, "bundle empty or too short, over 64 swaps, or lengths that don't add up") \
+    X(SWAP_BLOCKS_FIELD, 29, "block list not a multiple of 4, a transaction beyond the sheet, or a wrong destination") \
+    X(SWAP_BLOCKS_ORDER, 30, "entries don't rise by block and then transaction, or a block outside 1 to 10,000") \
+    X(SWAP_BLOCKS_LEDGER, 31, "the ledger refuses the block list") \
+    X(SWAP_ENDING_FIELD, 33, "a mask beyond the sheet or with a contract transaction, or destinations that don't fit it") \
+    X(SWAP_ENDING_IMPOSSIBLE, 34, "no accepted block list confirms the ending") \
+    X(SWAP_COUNT_STALE, 35, "the journal has another count of steps")
+
+/* SWAP_ACCEPTED = 0, SWAP_SHEET_SHORT = 1 and so on. */
 enum swap_refusal {
-    SWAP_ACCEPTED = 0,          /* no refusal */
-    SWAP_SHEET_SHORT = 1,       /* sheet under 5 bytes */
-    SWAP_SHEET_COUNT = 2,       /* n outside 1 to 32 */
-    SWAP_SHEET_SIGNATURES = 3,  /* s outside 1 to 8, or a head mask beyond s */
-    SWAP_SHEET_LENGTH = 4,      /* length not 5 + 6n */
-    SWAP_SHEET_PARENT = 5,      /* parent neither 255 nor lower */
-    SWAP_SHEET_ENTRY = 6,       /* payees, needs (zero too) or veil out of range */
-    SWAP_SHEET_LOCK = 7,        /* lock pair out of range, or type 2 without parent */
-    SWAP_SHEET_CHILDREN = 8,    /* payees 0 without child, or payees with child */
-    SWAP_SETUP_BLOCKS = 9,      /* setup not 4 bytes, or blocks per day */
-    SWAP_SETUP_CONDUCT = 10,    /* conduct or stealth, or sheet unfit for it */
-    SWAP_STEP_FIELD = 11,       /* step field out of range for its kind */
-    SWAP_STEP_STEALTH = 12,     /* kind 4, stealth 0 */
-    SWAP_STEP_CONDUCT = 13,     /* conduct, or kind 1 or 2 unmet */
-    SWAP_STEP_CONFLICT = 14,    /* a rival stands in the way */
-    SWAP_STEP_PARENT = 15,      /* the parent is not there */
-    SWAP_STEP_SIGNATURES = 16,  /* signatures are missing */
-    SWAP_STEP_LOCK = 17,        /* the lock height is not reached */
-    SWAP_STEP_DEADLINE = 18,    /* the deadline is reached */
-    SWAP_STEP_POOL = 19,        /* kind 5, not in pool */
-    SWAP_STEP_BUMP_OWED = 20,   /* kind 5 or 6, a bump owed */
-    SWAP_STEP_NOT_OWED = 21,    /* kind 7, not owed */
-    SWAP_STEP_EMPTY_BLOCK = 22, /* empty block too soon */
-    SWAP_STEP_BLOCKS = 23,      /* 10,000 blocks mined */
-    SWAP_JOURNAL_LENGTH = 24,   /* journal not a multiple of 4, or over 65,536 bytes; ask and commit: at 65,536 too */
-    SWAP_BUFFER_SHORT = 25,     /* buffer too short for what is written */
-    SWAP_TIMELOCK_RELATIVE = 26, /* a since-parent value is above 65,535 */
-    SWAP_TIMELOCK_ABSOLUTE = 27, /* base plus an absolute lock's height reaches 500,000,000 */
-    SWAP_BUNDLE_LAYOUT = 28,    /* bundle empty or too short, over 64 swaps, or lengths that don't add up */
-    SWAP_BLOCKS_FIELD = 29,     /* block list not a multiple of 4, a transaction beyond the sheet, or a wrong destination */
-    SWAP_BLOCKS_ORDER = 30,     /* entries don't rise by block and then transaction, or a block outside 1 to 10,000 */
-    SWAP_BLOCKS_LEDGER = 31,    /* the ledger refuses the block list */
-    SWAP_ENDING_FIELD = 33,     /* a mask beyond the sheet or with a contract transaction, or destinations that don't fit it */
-    SWAP_ENDING_IMPOSSIBLE = 34, /* no accepted block list confirms the ending */
-    SWAP_COUNT_STALE = 35       /* the count is not the journal's */
+#define SWAP_ENTRY(name, number, words) name = number,
+    SWAP_REFUSALS(SWAP_ENTRY)
+#undef SWAP_ENTRY
 };
 
 /* The two parts of an answer. */
 #define SWAP_REFUSAL(answer) ((uint32_t)(answer) >> 16)
 #define SWAP_COUNT(answer) ((uint32_t)(answer) & 0xffffu)
 
+/* The name of a refusal's number, as "SWAP_SHEET_SHORT"; "unknown" where it is none. */
+static inline const char *swap_refusal_name(uint32_t refusal)
+{
+    switch (refusal) {
+#define SWAP_ENTRY(name, number, words) case number: return #name;
+    SWAP_REFUSALS(SWAP_ENTRY)
+#undef SWAP_ENTRY
+    default: return "unknown";
+    }
+}
+
+/* What it says, as "sheet under 5 bytes". */
+static inline const char *swap_refusal_words(uint32_t refusal)
+{
+    switch (refusal) {
+#define SWAP_ENTRY(name, number, words) case number: return words;
+    SWAP_REFUSALS(SWAP_ENTRY)
+#undef SWAP_ENTRY
+    default: return "not in the refusal table";
+    }
+}
+
+/* The number of four bytes, as they stand in a row or an entry. */
+static inline uint32_t swap_number(const uint8_t *bytes)
+{
+    return bytes[0] | (uint32_t)bytes[1] << 8 | (uint32_t)bytes[2] << 16 | (uint32_t)bytes[3] << 24;
+}
+
+/* The largest valid lengths in bytes, and the bytes of a step. */
+#define SWAP_TRANSACTIONS 32
+#define SWAP_SHEET_SIZE (5 + 6 * SWAP_TRANSACTIONS)
+#define SWAP_SETUP_SIZE 4
+#define SWAP_STEP_SIZE 4
+#define SWAP_JOURNAL_SIZE 65536
+
+/* No transaction: an opening's parent, the transaction of a mined block and of the first shares. No payee: that of an
+ * unconfirmed transaction. */
+#define SWAP_NONE 255
+
+/* A height that is not reached. */
+#define SWAP_NEVER 2147483647u
+
+/* Parties, byte 1 of a step. */
+enum swap_party {
+    SWAP_ALICE = 0,
+    SWAP_BOB = 1,
+    SWAP_MINER = 2,
+};
+
+/* Destinations, byte 3 of a step and byte 1 of a report's row and of a block list's entry: a payee's party number, or the
+ * contract. */
+enum swap_destination {
+    SWAP_CONTRACT = 2,
+};
+
+/* Payees of a transaction, in a sheet and in an outage's row, summed; 0: a contract transaction. */
+enum swap_payees {
+    SWAP_PAYS_ALICE = 1,
+    SWAP_PAYS_BOB = 2,
+};
+
+/* Kinds of step, byte 0. Byte 2 is the transaction; of SWAP_GIVE the signature, whose receiver is byte 3. */
+enum swap_kind {
+    SWAP_SHARE = 1,   /* shares signatures on a transaction; with SWAP_NONE the first shares */
+    SWAP_GIVE = 2,    /* gives a signature to another party */
+    SWAP_SEND = 3,    /* sends a transaction to the pool */
+    SWAP_HAND_IN = 4, /* hands a transaction to the miner */
+    SWAP_INCLUDE = 5, /* the miner includes a transaction of the pool in the block */
+    SWAP_MINE = 6,    /* the miner mines the block */
+    SWAP_BUMP = 7,    /* the miner bumps a transaction into the block */
+};
+
+/* Types of lock, in a sheet. */
+enum swap_lock {
+    SWAP_UNLOCKED = 0,
+    SWAP_ABSOLUTE = 1,
+    SWAP_SINCE_PARENT = 2,
+};
+
+/* Conducts, byte 2 of a setup. */
+enum swap_conduct {
+    SWAP_OPEN = 0,
+    SWAP_LOOSE = 1,
+    SWAP_CAREFUL = 2,
+};
+
 /* Bytes that are enough for every list: a transaction has at most 8 open steps, a signature 1, and 1 mines a block. */
-#define SWAP_LIST_SIZE (4 * (8 * 32 + 8 + 1))
+#define SWAP_LIST_SIZE (SWAP_STEP_SIZE * (8 * SWAP_TRANSACTIONS + 8 + 1))
 
 /* The bytes of a report: a row for each transaction, and 32 rows at most. */
 #define SWAP_REPORT_ROW 14
-#define SWAP_REPORT_SIZE (SWAP_REPORT_ROW * 32)
+#define SWAP_REPORT_SIZE (SWAP_REPORT_ROW * SWAP_TRANSACTIONS)
 
-/* The bytes of the two numbers of a transaction, and of 32 transactions. */
+/* Where the fields of a report's row begin. */
+#define SWAP_REPORT_STATUS 0
+#define SWAP_REPORT_PAYEE 1
+#define SWAP_REPORT_BLOCK 2
+#define SWAP_REPORT_LOCK_HEIGHT 6
+#define SWAP_REPORT_DEADLINE 10
+
+/* The bits of a status. */
+enum swap_status {
+    SWAP_IN_POOL = 1,
+    SWAP_IN_BLOCK = 2, /* the block being filled */
+    SWAP_CONFIRMED = 4,
+    SWAP_DEAD = 8,
+};
+
+/* The bytes of the two numbers of a transaction, where each begins, and the bytes of 32 transactions. */
 #define SWAP_TIMELOCKS_ROW 8
-#define SWAP_TIMELOCKS_SIZE (SWAP_TIMELOCKS_ROW * 32)
+#define SWAP_TIMELOCKS_NLOCKTIME 0
+#define SWAP_TIMELOCKS_NSEQUENCE 4
+#define SWAP_TIMELOCKS_SIZE (SWAP_TIMELOCKS_ROW * SWAP_TRANSACTIONS)
 
-/* The bytes of a desk's answers: an entry for each swap, and 64 swaps at most. */
+/* The bytes of a desk's answers: an entry for each swap, where its two numbers begin, and 64 swaps at most. */
 #define SWAP_DESK_ENTRY 8
+#define SWAP_DESK_REFUSAL 0
+#define SWAP_DESK_COUNT 4
 #define SWAP_DESK_SWAPS 64
 #define SWAP_DESK_SIZE (SWAP_DESK_ENTRY * SWAP_DESK_SWAPS)
 
@@ -132,9 +251,13 @@ uint32_t swap_report(const uint8_t *sheet, size_t sheet_length,
 #define SWAP_OUTAGE_COVERED 4u /* the soonest deadline is no later than the outage's last block */
 #define SWAP_OUTAGE_PASSED 8u  /* the soonest deadline is no later than the blocks mined */
 
-/* The bytes of an outage's answer: a row for each transaction, and 32 rows at most. */
+/* The bytes of an outage's answer: a row for each transaction, where its fields begin, and 32 rows at most. */
 #define SWAP_OUTAGE_ROW 10
-#define SWAP_OUTAGE_SIZE (SWAP_OUTAGE_ROW * 32)
+#define SWAP_OUTAGE_VERDICT 0
+#define SWAP_OUTAGE_PAYEES 1
+#define SWAP_OUTAGE_SOONEST_BLOCK 2
+#define SWAP_OUTAGE_SOONEST_DEADLINE 6
+#define SWAP_OUTAGE_SIZE (SWAP_OUTAGE_ROW * SWAP_TRANSACTIONS)
 
 /*
  * Tells what an outage of the next `blocks` blocks can cost after a journal: 10 bytes (SWAP_OUTAGE_ROW) for each
@@ -157,7 +280,7 @@ uint32_t swap_outage(const uint8_t *sheet, size_t sheet_length,
 
 /* The bytes of a page: a line for the header and for each transaction, and 33 lines at most. */
 #define SWAP_PAGE_LINE 73
-#define SWAP_PAGE_SIZE (SWAP_PAGE_LINE * 33)
+#define SWAP_PAGE_SIZE (SWAP_PAGE_LINE * (SWAP_TRANSACTIONS + 1))
 
 /*
  * Lays the report out as text: a header, then a line for each transaction, each of 72 characters and a line feed
@@ -230,7 +353,7 @@ uint32_t swap_blocks(const uint8_t *sheet, size_t sheet_length,
  * takes up 4 * count bytes, 128 (SWAP_EARLIEST_SIZE) at most; an empty mask gives an empty list. Bytes after the output keep their
  * values, and under a refusal all bytes do.
  */
-#define SWAP_EARLIEST_SIZE (4 * 32)
+#define SWAP_EARLIEST_SIZE (4 * SWAP_TRANSACTIONS)
 uint32_t swap_earliest(const uint8_t *sheet, size_t sheet_length,
                        const uint8_t *setup, size_t setup_length,
                        uint32_t mask,

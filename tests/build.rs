@@ -1,4 +1,4 @@
-//! Links the static library that `rt staticlib swap` writes.
+//! Links the static library that `build/crate swap` writes.
 fn main() {
     let top = std::env::var("CARGO_MANIFEST_DIR").expect("cargo names the package's folder");
     println!("cargo:rustc-link-search=native={top}/../target/staticlib");

@@ -42,7 +42,7 @@ void print_in_the_way(const struct position *position, uint8_t t, uint8_t side)
 
     for (uint8_t rival = 0; rival < count_of(swap); rival++) {
         if (in_the_way(position, t, rival, side)) {
-            bool sent = (status_of(position, rival) & (IN_POOL | IN_BLOCK)) != 0;
+            bool sent = (status_of(position, rival) & (SWAP_IN_POOL | SWAP_IN_BLOCK)) != 0;
 
             printf("; rival %s %s", transaction_label(swap, rival).text, sent ? "is sent" : "can be sent");
         }

@@ -18,7 +18,7 @@ static bool waits(const struct entry *entry)
 /* Whether it can stand in a bundle, where each setup takes up four bytes. */
 static bool fits(const struct entry *entry)
 {
-    return waits(entry) && entry->swap.setup_length == SETUP_MOST;
+    return waits(entry) && entry->swap.setup_length == SWAP_SETUP_SIZE;
 }
 
 static bool same_sheet(const struct swap *a, const struct swap *b)
@@ -80,7 +80,7 @@ static void write_bundle(const struct bundle *bundle, uint8_t *to)
 /* One entry of the engine's answer, as a run answers. */
 static uint32_t answer_of(const uint8_t *entry)
 {
-    return number_at(entry) << 16 | number_at(entry + 4);
+    return swap_number(entry + SWAP_DESK_REFUSAL) << 16 | swap_number(entry + SWAP_DESK_COUNT);
 }
 
 /* Runs a bundle. The sheet's refusal is each swap's; false where there is no memory. */

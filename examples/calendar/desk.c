@@ -139,7 +139,7 @@ void ask_desk(const struct question *question, struct desk *desk)
         if (question->sides != 0) {
             entry->sides = question->sides;
         } else if (entry->sides == 0) {
-            entry->sides = 1u << ALICE | 1u << BOB;
+            entry->sides = SWAP_PAYS_ALICE | SWAP_PAYS_BOB;
         }
     }
 }

@@ -4,15 +4,6 @@
 
 #include "files.h"
 
-/* No transaction: the parent of a coin's opening. */
-#define NONE 255
-
-/* The types of lock. */
-enum { UNLOCKED = 0, ABSOLUTE = 1, SINCE_PARENT = 2 };
-
-/* The conducts. */
-enum { OPEN = 0, LOOSE = 1, CAREFUL = 2 };
-
 /* The number of transactions. */
 uint8_t count_of(const struct swap *swap);
 

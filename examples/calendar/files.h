@@ -6,10 +6,7 @@
 #include <stddef.h>
 #include <stdint.h>
 
-/* The largest valid lengths. */
-#define SHEET_MOST 197
-#define SETUP_MOST 4
-#define JOURNAL_MOST 65536
+#include "swap.h"
 
 /* The bytes of a swap. Each array has room for one byte more than the largest valid length, so that a longer file stays
  * too long and the engine refuses it. */
@@ -17,9 +14,9 @@ struct swap {
     size_t sheet_length;
     size_t setup_length;
     size_t journal_length;
-    uint8_t sheet[SHEET_MOST + 1];
-    uint8_t setup[SETUP_MOST + 1];
-    uint8_t journal[JOURNAL_MOST + 1];
+    uint8_t sheet[SWAP_SHEET_SIZE + 1];
+    uint8_t setup[SWAP_SETUP_SIZE + 1];
+    uint8_t journal[SWAP_JOURNAL_SIZE + 1];
 };
 
 /* A file that cannot be read, and why; NULL: there is none. */

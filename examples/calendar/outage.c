@@ -27,8 +27,8 @@ uint8_t can_pay(const struct position *position, uint8_t t)
     const struct swap *swap = position->swap;
     uint8_t payees = payees_below(position, t);
 
-    if (conduct_of(swap) != OPEN && payees_of(swap, t) != 0 && (needs_of(swap, t) & SIG_BOB) != 0) {
-        payees &= 1u << BOB;
+    if (conduct_of(swap) != SWAP_OPEN && payees_of(swap, t) != 0 && (needs_of(swap, t) & SIG_BOB) != 0) {
+        payees &= SWAP_PAYS_BOB;
     }
     return payees;
 }
@@ -58,5 +58,5 @@ enum kind kind_of(const struct position *position, const struct outage *outage, 
     if ((verdict & SWAP_OUTAGE_COVERED) != 0 && outage->reach > 0) {
         return is_before(position, outage, t) ? BEFORE : WARNING;
     }
-    return deadline == NEVER || deadline <= position->mined ? FREE : AHEAD;
+    return deadline == SWAP_NEVER || deadline <= position->mined ? FREE : AHEAD;
 }

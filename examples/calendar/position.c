@@ -6,7 +6,7 @@ static uint32_t blocks_mined(const struct swap *swap)
     uint32_t blocks = 0;
 
     for (size_t at = 0; at < swap->journal_length; at += 4) {
-        blocks += swap->journal[at] == MINE;
+        blocks += swap->journal[at] == SWAP_MINE;
     }
     return blocks;
 }
@@ -48,60 +48,55 @@ uint32_t ask_outage(struct position *position, uint32_t blocks)
 
 uint8_t status_of(const struct position *position, uint8_t t)
 {
-    return position->report[SWAP_REPORT_ROW * t];
+    return position->report[SWAP_REPORT_ROW * t + SWAP_REPORT_STATUS];
 }
 
 uint8_t payee_of(const struct position *position, uint8_t t)
 {
-    return position->report[SWAP_REPORT_ROW * t + 1];
-}
-
-uint32_t number_at(const uint8_t *bytes)
-{
-    return bytes[0] | (uint32_t)bytes[1] << 8 | (uint32_t)bytes[2] << 16 | (uint32_t)bytes[3] << 24;
+    return position->report[SWAP_REPORT_ROW * t + SWAP_REPORT_PAYEE];
 }
 
 uint32_t block_of(const struct position *position, uint8_t t)
 {
-    return number_at(position->report + SWAP_REPORT_ROW * t + 2);
+    return swap_number(position->report + SWAP_REPORT_ROW * t + SWAP_REPORT_BLOCK);
 }
 
 uint32_t lock_height_of(const struct position *position, uint8_t t)
 {
-    return number_at(position->report + SWAP_REPORT_ROW * t + 6);
+    return swap_number(position->report + SWAP_REPORT_ROW * t + SWAP_REPORT_LOCK_HEIGHT);
 }
 
 uint32_t deadline_of(const struct position *position, uint8_t t)
 {
-    return number_at(position->report + SWAP_REPORT_ROW * t + 10);
+    return swap_number(position->report + SWAP_REPORT_ROW * t + SWAP_REPORT_DEADLINE);
 }
 
 uint8_t verdict_of(const struct position *position, uint8_t t)
 {
-    return position->outage[SWAP_OUTAGE_ROW * t];
+    return position->outage[SWAP_OUTAGE_ROW * t + SWAP_OUTAGE_VERDICT];
 }
 
 uint8_t payees_below(const struct position *position, uint8_t t)
 {
-    return position->outage[SWAP_OUTAGE_ROW * t + 1];
+    return position->outage[SWAP_OUTAGE_ROW * t + SWAP_OUTAGE_PAYEES];
 }
 
 uint32_t soonest_block_of(const struct position *position, uint8_t t)
 {
-    return number_at(position->outage + SWAP_OUTAGE_ROW * t + 2);
+    return swap_number(position->outage + SWAP_OUTAGE_ROW * t + SWAP_OUTAGE_SOONEST_BLOCK);
 }
 
 uint32_t soonest_deadline_of(const struct position *position, uint8_t t)
 {
-    return number_at(position->outage + SWAP_OUTAGE_ROW * t + 6);
+    return swap_number(position->outage + SWAP_OUTAGE_ROW * t + SWAP_OUTAGE_SOONEST_DEADLINE);
 }
 
 bool is_confirmed(const struct position *position, uint8_t t)
 {
-    return (status_of(position, t) & CONFIRMED) != 0;
+    return (status_of(position, t) & SWAP_CONFIRMED) != 0;
 }
 
-/* The confirmed child of a transaction, or NONE. */
+/* The confirmed child of a transaction, or SWAP_NONE. */
 static uint8_t confirmed_child(const struct position *position, uint8_t parent)
 {
     for (uint8_t t = 0; t < count_of(position->swap); t++) {
@@ -109,15 +104,15 @@ static uint8_t confirmed_child(const struct position *position, uint8_t parent)
             return t;
         }
     }
-    return NONE;
+    return SWAP_NONE;
 }
 
 uint8_t last_confirmed(const struct position *position, uint8_t opening)
 {
-    uint8_t last = NONE;
-    uint8_t next = is_confirmed(position, opening) ? opening : NONE;
+    uint8_t last = SWAP_NONE;
+    uint8_t next = is_confirmed(position, opening) ? opening : SWAP_NONE;
 
-    while (next != NONE) {
+    while (next != SWAP_NONE) {
         last = next;
         next = confirmed_child(position, last);
     }
@@ -130,7 +125,7 @@ static bool is_sent_by(const struct position *position, uint8_t t, uint8_t party
     for (uint32_t i = 0; i < position->open_count; i++) {
         const uint8_t *step = position->open + 4 * i;
 
-        if ((step[0] == SEND || step[0] == HAND_IN) && (step[1] == party) == own && step[2] == t) {
+        if ((step[0] == SWAP_SEND || step[0] == SWAP_HAND_IN) && (step[1] == party) == own && step[2] == t) {
             return true;
         }
     }

@@ -3,19 +3,6 @@
 #define POSITION_H
 
 #include "fields.h"
-#include "swap.h"
-
-/* Parties and destinations by number. 2 is the miner as a party, the contract as a destination. */
-enum { ALICE = 0, BOB = 1, MINER = 2, CONTRACT = 2 };
-
-/* A height that is not reached. */
-#define NEVER 2147483647u
-
-/* The kinds of step. */
-enum { SHARE = 1, GIVE = 2, SEND = 3, HAND_IN = 4, INCLUDE = 5, MINE = 6, BUMP = 7 };
-
-/* The bits of a status. */
-enum { IN_POOL = 1, IN_BLOCK = 2, CONFIRMED = 4, DEAD = 8 };
 
 /* The position after a journal that is accepted whole. */
 struct position {
@@ -27,9 +14,6 @@ struct position {
     uint8_t report[SWAP_REPORT_SIZE];
     uint8_t outage[SWAP_OUTAGE_SIZE];
 };
-
-/* The number of four bytes, the lowest first. */
-uint32_t number_at(const uint8_t *bytes);
 
 /* Checks a swap's sheet and runs its journal: the first answer that is a refusal, else the run's. */
 uint32_t run(const struct swap *swap);
@@ -55,7 +39,7 @@ uint32_t soonest_deadline_of(const struct position *position, uint8_t t);
 bool is_confirmed(const struct position *position, uint8_t t);
 
 /* The transaction whose payee holds the coin of this opening: the confirmed one, the opening or below it, that has no
- * confirmed child. NONE where the opening is not confirmed. */
+ * confirmed child. SWAP_NONE where the opening is not confirmed. */
 uint8_t last_confirmed(const struct position *position, uint8_t opening);
 
 /* Whether the party has an open step that sends the transaction, to the pool or to the miner. */

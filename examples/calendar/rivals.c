@@ -5,7 +5,7 @@ static uint32_t soonest_parent(const struct position *position, uint8_t t)
 {
     uint8_t parent = parent_of(position->swap, t);
 
-    return parent == NONE ? 0 : soonest_block_of(position, parent);
+    return parent == SWAP_NONE ? 0 : soonest_block_of(position, parent);
 }
 
 /* The lock of a rival of t, or its own, with the parent in its soonest block. */
@@ -13,12 +13,12 @@ static uint32_t lock_of(const struct position *position, uint8_t t, uint8_t riva
 {
     uint32_t blocks = (uint32_t)days_of(position->swap, rival) * blocks_per_day_of(position->swap);
 
-    return lock_type_of(position->swap, rival) == SINCE_PARENT ? soonest_parent(position, t) + blocks : blocks;
+    return lock_type_of(position->swap, rival) == SWAP_SINCE_PARENT ? soonest_parent(position, t) + blocks : blocks;
 }
 
 static bool are_rivals(const struct swap *swap, uint8_t t, uint8_t rival)
 {
-    return t != rival && parent_of(swap, t) != NONE && parent_of(swap, t) == parent_of(swap, rival);
+    return t != rival && parent_of(swap, t) != SWAP_NONE && parent_of(swap, t) == parent_of(swap, rival);
 }
 
 /* Whether the rival's lock makes this deadline: it is his lock, or the least above t's own that it can be once the
@@ -32,8 +32,8 @@ static bool makes(const struct position *position, uint8_t t, uint8_t rival, uin
     if (his > own) {
         return his == deadline;
     }
-    return !is_confirmed(position, parent_of(swap, t)) && lock_type_of(swap, rival) == SINCE_PARENT &&
-           lock_type_of(swap, t) != SINCE_PARENT && own + 1 == deadline;
+    return !is_confirmed(position, parent_of(swap, t)) && lock_type_of(swap, rival) == SWAP_SINCE_PARENT &&
+           lock_type_of(swap, t) != SWAP_SINCE_PARENT && own + 1 == deadline;
 }
 
 uint8_t later_rival(const struct position *position, uint8_t t)
@@ -45,7 +45,7 @@ uint8_t later_rival(const struct position *position, uint8_t t)
             return rival;
         }
     }
-    return NONE;
+    return SWAP_NONE;
 }
 
 bool in_the_way(const struct position *position, uint8_t t, uint8_t rival, uint8_t side)
@@ -53,5 +53,5 @@ bool in_the_way(const struct position *position, uint8_t t, uint8_t rival, uint8
     if (!are_rivals(position->swap, t, rival) || lock_of(position, t, rival) > lock_of(position, t, t)) {
         return false;
     }
-    return (status_of(position, rival) & (IN_POOL | IN_BLOCK)) != 0 || others_can_send(position, side, rival);
+    return (status_of(position, rival) & (SWAP_IN_POOL | SWAP_IN_BLOCK)) != 0 || others_can_send(position, side, rival);
 }

@@ -4,8 +4,8 @@
 
 #include "position.h"
 
-/* The first rival whose lock makes the soonest deadline: it can be confirmed from the block after that on. NONE where
- * the soonest deadline is never. */
+/* The first rival whose lock makes the soonest deadline: it can be confirmed from the block after that on. SWAP_NONE
+ * where the soonest deadline is never. */
 uint8_t later_rival(const struct position *position, uint8_t t);
 
 /* Whether the rival is another transaction that is locked no later, so that no deadline covers it, and that is sent or

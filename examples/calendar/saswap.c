@@ -12,21 +12,21 @@ struct entry {
 };
 
 static const struct entry table[SASWAP_COUNT] = {
-    {"lock_A", {NONE, 0, 1, 0}, {UNLOCKED, 0}},
-    {"lock_B", {NONE, 0, 2, 0}, {UNLOCKED, 0}},
-    {"success", {0, 0, 11, 0}, {UNLOCKED, 0}},
-    {"refund_1", {0, 0, 7, 0}, {ABSOLUTE, 1}},
-    {"revoke", {0, 0, 3, 0}, {ABSOLUTE, 2}},
-    {"refund_2", {4, 0, 7, 0}, {SINCE_PARENT, 1}},
-    {"timeout", {4, 0, 3, 0}, {SINCE_PARENT, 2}},
-    {"spend_A", {0, 3, 3, 0}, {UNLOCKED, 0}},
-    {"spend_B", {1, 3, 12, 1}, {UNLOCKED, 0}},
-    {"spend_success", {2, 2, 2, 0}, {UNLOCKED, 0}},
-    {"spend_refund_1_bob", {3, 2, 3, 0}, {UNLOCKED, 0}},
-    {"spend_refund_1_alice", {3, 1, 1, 0}, {SINCE_PARENT, 1}},
-    {"spend_revoke", {4, 3, 3, 0}, {UNLOCKED, 0}},
-    {"spend_refund_2", {5, 1, 1, 0}, {UNLOCKED, 0}},
-    {"spend_timeout", {6, 2, 2, 0}, {UNLOCKED, 0}},
+    {"lock_A", {SWAP_NONE, 0, 1, 0}, {SWAP_UNLOCKED, 0}},
+    {"lock_B", {SWAP_NONE, 0, 2, 0}, {SWAP_UNLOCKED, 0}},
+    {"success", {0, 0, 11, 0}, {SWAP_UNLOCKED, 0}},
+    {"refund_1", {0, 0, 7, 0}, {SWAP_ABSOLUTE, 1}},
+    {"revoke", {0, 0, 3, 0}, {SWAP_ABSOLUTE, 2}},
+    {"refund_2", {4, 0, 7, 0}, {SWAP_SINCE_PARENT, 1}},
+    {"timeout", {4, 0, 3, 0}, {SWAP_SINCE_PARENT, 2}},
+    {"spend_A", {0, 3, 3, 0}, {SWAP_UNLOCKED, 0}},
+    {"spend_B", {1, 3, 12, 1}, {SWAP_UNLOCKED, 0}},
+    {"spend_success", {2, 2, 2, 0}, {SWAP_UNLOCKED, 0}},
+    {"spend_refund_1_bob", {3, 2, 3, 0}, {SWAP_UNLOCKED, 0}},
+    {"spend_refund_1_alice", {3, 1, 1, 0}, {SWAP_SINCE_PARENT, 1}},
+    {"spend_revoke", {4, 3, 3, 0}, {SWAP_UNLOCKED, 0}},
+    {"spend_refund_2", {5, 1, 1, 0}, {SWAP_UNLOCKED, 0}},
+    {"spend_timeout", {6, 2, 2, 0}, {SWAP_UNLOCKED, 0}},
 };
 
 const char *saswap_transaction(uint8_t t)
@@ -65,7 +65,7 @@ void saswap_sheet(unsigned blocks_per_day, uint8_t sheet[SASWAP_SIZE])
     for (size_t t = 0; t < SASWAP_COUNT; t++) {
         memcpy(first + 4 * t, table[t].first, 4);
         memcpy(second + 2 * t, table[t].second, 2);
-        if (table[t].second[0] == ABSOLUTE) {
+        if (table[t].second[0] == SWAP_ABSOLUTE) {
             second[2 * t + 1] += offset(blocks_per_day);
         }
     }
@@ -86,22 +86,22 @@ struct repeated {
 };
 
 static const struct repeated embedded_course[] = {
-    {{1, 0, 255, 2}, 1},   /* Alice's first shares: revoke, timeout */
-    {{1, 1, 255, 2}, 1},   /* Bob's first shares: refund_1, revoke, refund_2, timeout */
-    {{3, 0, 0, 2}, 1},     /* Alice sends lock_A */
-    {{5, 2, 0, 2}, 1},     /* the miner includes it */
-    {{6, 2, 255, 2}, 1},   /* block 1 */
-    {{3, 1, 1, 2}, 1},     /* Bob sends lock_B */
-    {{5, 2, 1, 2}, 1},     /* the miner includes it */
-    {{6, 2, 255, 2}, 298}, /* blocks 2 to 299 */
-    {{3, 1, 4, 2}, 1},     /* Bob sends revoke */
-    {{5, 2, 4, 2}, 1},     /* the miner includes it */
-    {{6, 2, 255, 2}, 145}, /* blocks 300 to 444 */
+    {{SWAP_SHARE, SWAP_ALICE, SWAP_NONE, SWAP_CONTRACT}, 1},  /* her first shares: revoke, timeout */
+    {{SWAP_SHARE, SWAP_BOB, SWAP_NONE, SWAP_CONTRACT}, 1},    /* his first shares: refund_1, revoke, refund_2, timeout */
+    {{SWAP_SEND, SWAP_ALICE, 0, SWAP_CONTRACT}, 1},           /* lock_A */
+    {{SWAP_INCLUDE, SWAP_MINER, 0, SWAP_CONTRACT}, 1},
+    {{SWAP_MINE, SWAP_MINER, SWAP_NONE, SWAP_CONTRACT}, 1},   /* block 1 */
+    {{SWAP_SEND, SWAP_BOB, 1, SWAP_CONTRACT}, 1},             /* lock_B */
+    {{SWAP_INCLUDE, SWAP_MINER, 1, SWAP_CONTRACT}, 1},
+    {{SWAP_MINE, SWAP_MINER, SWAP_NONE, SWAP_CONTRACT}, 298}, /* blocks 2 to 299 */
+    {{SWAP_SEND, SWAP_BOB, 4, SWAP_CONTRACT}, 1},             /* revoke */
+    {{SWAP_INCLUDE, SWAP_MINER, 4, SWAP_CONTRACT}, 1},
+    {{SWAP_MINE, SWAP_MINER, SWAP_NONE, SWAP_CONTRACT}, 145}, /* blocks 300 to 444 */
 };
 
 void embedded_swap(struct swap *swap)
 {
-    const uint8_t setup[4] = {144, 0, 2, 0};
+    const uint8_t setup[SWAP_SETUP_SIZE] = {144, 0, SWAP_CAREFUL, 0};
     const size_t rows = sizeof embedded_course / sizeof embedded_course[0];
 
     saswap_sheet(144, swap->sheet);

@@ -14,10 +14,10 @@ enum { MARK_WIDTH = 11, NAME_WIDTH = 16 };
 struct line {
     const struct entry *entry;
     size_t place;      /* of the swap among all */
-    uint8_t side;      /* NONE for a swap that is no good */
-    uint8_t t;         /* NONE where no transaction has a deadline ahead */
+    uint8_t side;      /* SWAP_NONE for a swap that is no good */
+    uint8_t t;         /* SWAP_NONE where no transaction has a deadline ahead */
     unsigned urgency;  /* the less, the sooner */
-    uint32_t left;     /* blocks until its window ends, or NEVER */
+    uint32_t left;     /* blocks until its window ends, or SWAP_NEVER */
     unsigned warnings; /* of this swap and side */
 };
 
@@ -25,8 +25,8 @@ static uint32_t blocks_left(const struct position *position, uint8_t t)
 {
     uint32_t deadline = soonest_deadline_of(position, t);
 
-    if (deadline == NEVER) {
-        return NEVER;
+    if (deadline == SWAP_NEVER) {
+        return SWAP_NEVER;
     }
     return deadline > position->mined ? deadline - position->mined : 0;
 }
@@ -82,10 +82,10 @@ static void consider(struct line *line, uint8_t t)
 
 static struct line line_of(const struct entry *entry, size_t place, uint8_t side)
 {
-    struct line line = {.entry = entry, .place = place, .side = side, .t = NONE, .urgency = NO_DEADLINE};
+    struct line line = {.entry = entry, .place = place, .side = side, .t = SWAP_NONE, .urgency = NO_DEADLINE};
 
     if (!is_sound(entry)) {
-        line.side = NONE;
+        line.side = SWAP_NONE;
         line.urgency = FAULTY;
         return line;
     }
@@ -101,10 +101,10 @@ static size_t lines_of(const struct desk *desk, struct line *lines)
     size_t count = 0;
 
     for (size_t i = 0; i < desk->count; i++) {
-        for (uint8_t side = ALICE; side <= BOB; side++) {
+        for (uint8_t side = SWAP_ALICE; side <= SWAP_BOB; side++) {
             const struct entry *entry = desk->entries[i];
 
-            if (is_sound(entry) ? (entry->sides >> side & 1) == 1 : side == ALICE) {
+            if (is_sound(entry) ? (entry->sides >> side & 1) == 1 : side == SWAP_ALICE) {
                 lines[count++] = line_of(entry, i, side);
             }
         }
@@ -141,7 +141,7 @@ static void show_fault(const struct entry *entry)
     if (entry->fault.file != NULL) {
         printf(" %s: %s\n", entry->fault.file, entry->fault.reason);
     } else {
-        printf(" %s (%lu), %s\n", refusal_name(refusal), (unsigned long)refusal, refusal_words(refusal));
+        printf(" %s (%lu), %s\n", swap_refusal_name(refusal), (unsigned long)refusal, swap_refusal_words(refusal));
     }
 }
 
@@ -191,14 +191,14 @@ static void show_line(const struct question *question, const struct line *line)
     show_mark(line);
     print_name(line->entry->name, NAME_WIDTH);
     printf(" %-6s", party_name(line->side));
-    if (line->t == NONE) {
+    if (line->t == SWAP_NONE) {
         printf("no deadline ahead\n");
         return;
     }
     printf("%-21s%8s%8s%7s  ", transaction_label(position->swap, line->t).text,
            height_label(question->base, soonest_block_of(position, line->t)).text,
            height_label(question->base, soonest_deadline_of(position, line->t)).text,
-           line->left == NEVER ? "-" : height_label(0, line->left).text);
+           line->left == SWAP_NEVER ? "-" : height_label(0, line->left).text);
     show_after(question, line);
     printf("\n");
 }

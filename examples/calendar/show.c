@@ -81,11 +81,11 @@ static void show_coin(const struct position *position, uint8_t opening, uint32_t
     uint8_t last = last_confirmed(position, opening);
 
     printf("    coin of %s: ", transaction_label(swap, opening).text);
-    if (last == NONE) {
+    if (last == SWAP_NONE) {
         printf("none, not opened yet\n");
         return;
     }
-    if (payee_of(position, last) == CONTRACT) {
+    if (payee_of(position, last) == SWAP_CONTRACT) {
         printf("none, in the contract");
     } else {
         printf("paid to %s", destination_name(payee_of(position, last)));
@@ -98,7 +98,7 @@ static void show_payouts(const struct position *position, uint32_t base)
 {
     printf("  payouts so far\n");
     for (uint8_t t = 0; t < count_of(position->swap); t++) {
-        if (parent_of(position->swap, t) == NONE) {
+        if (parent_of(position->swap, t) == SWAP_NONE) {
             show_coin(position, t, base);
         }
     }
@@ -117,7 +117,7 @@ static void show_window(const struct position *position, uint8_t t, uint32_t bas
 /* A deadline that is passed, or that there is none. */
 static void show_no_window(const struct position *position, uint8_t t, uint32_t base)
 {
-    if (soonest_deadline_of(position, t) == NEVER) {
+    if (soonest_deadline_of(position, t) == SWAP_NEVER) {
         printf("no deadline");
     } else {
         printf("PASSED: block %s was the latest", height_label(base, soonest_deadline_of(position, t)).text);
@@ -173,10 +173,10 @@ static void show_standing(const struct position *position, uint8_t t, uint8_t si
 {
     uint8_t status = status_of(position, t);
 
-    if ((status & IN_POOL) != 0) {
+    if ((status & SWAP_IN_POOL) != 0) {
         printf("; in the pool");
     }
-    if ((status & IN_BLOCK) != 0) {
+    if ((status & SWAP_IN_BLOCK) != 0) {
         printf("; in the block being filled");
     }
     if (can_be_sent(position, side, t)) {
@@ -247,7 +247,8 @@ static void show_refusal(const struct swap *swap, uint32_t answer)
 {
     uint32_t refusal = SWAP_REFUSAL(answer);
 
-    printf("  refused: %s (%lu), %s\n", refusal_name(refusal), (unsigned long)refusal, refusal_words(refusal));
+    printf("  refused: %s (%lu), %s\n", swap_refusal_name(refusal), (unsigned long)refusal,
+           swap_refusal_words(refusal));
     if (refusal >= SWAP_STEP_FIELD && refusal <= SWAP_STEP_BLOCKS) {
         show_refused_step(swap, refusal, SWAP_COUNT(answer));
     }
@@ -260,11 +261,11 @@ static void show_position_of(const struct entry *entry, const struct question *q
 
     show_inputs(position, question->base);
     show_position(position, question->base);
-    show_open_steps(position, ALICE);
-    show_open_steps(position, BOB);
-    show_open_steps(position, MINER);
+    show_open_steps(position, SWAP_ALICE);
+    show_open_steps(position, SWAP_BOB);
+    show_open_steps(position, SWAP_MINER);
     show_payouts(position, question->base);
-    for (uint8_t side = ALICE; side <= BOB; side++) {
+    for (uint8_t side = SWAP_ALICE; side <= SWAP_BOB; side++) {
         if ((entry->sides >> side & 1) == 1) {
             show_deadlines(entry, side, question);
         }

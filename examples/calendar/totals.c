@@ -21,7 +21,7 @@ struct totals totals_of(const struct desk *desk)
         const struct entry *entry = desk->entries[i];
 
         totals.refused += !is_sound(entry);
-        for (uint8_t side = ALICE; side <= BOB && is_sound(entry); side++) {
+        for (uint8_t side = SWAP_ALICE; side <= SWAP_BOB && is_sound(entry); side++) {
             if ((entry->sides >> side & 1) == 1) {
                 add(&totals, entry, side);
             }

@@ -25,10 +25,6 @@ const char *destination_name(uint8_t destination);
 /* Payees, as a mask. */
 const char *payees_name(uint8_t payees);
 
-/* A refusal: its name in include/swap.h, and what it says. */
-const char *refusal_name(uint32_t refusal);
-const char *refusal_words(uint32_t refusal);
-
 /* Prints what a step does; its fields are in range. */
 void print_step(const struct swap *swap, const uint8_t step[4]);
 

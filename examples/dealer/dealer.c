@@ -78,7 +78,7 @@ static bool read_here(struct swap *swap)
 
 static void show_refusal(uint32_t refusal)
 {
-    printf("refused: %s (%s)\n", refusal_words(refusal), refusal_name(refusal));
+    printf("refused: %s (%s)\n", swap_refusal_words(refusal), swap_refusal_name(refusal));
 }
 
 /* Whether the journal passed, so that the answer is the step's. */

@@ -64,7 +64,7 @@ static bool read_parent(struct line *line, uint8_t t, uint8_t *parent)
     unsigned number;
 
     if (take(line, "opens a coin")) {
-        *parent = NONE;
+        *parent = SWAP_NONE;
         return true;
     }
     if (!take(line, "spends")) {
@@ -106,15 +106,16 @@ static bool read_lock(struct line *line, uint8_t parent, uint8_t lock[2])
 {
     unsigned days = 0;
 
-    lock[0] = UNLOCKED;
+    lock[0] = SWAP_UNLOCKED;
     if (take(line, "locked for")) {
         if (!expect_number(line, 1, 255, &days) || !(take(line, "day") || expect(line, "days"))) {
             return false;
         }
-        lock[0] = take(line, "after its parent") ? SINCE_PARENT : ABSOLUTE;
+        lock[0] = take(line, "after its parent") ? SWAP_SINCE_PARENT : SWAP_ABSOLUTE;
     }
     lock[1] = (uint8_t)days;
-    return lock[0] != SINCE_PARENT || parent != NONE || bad(line, "a transaction that opens a coin has no parent");
+    return lock[0] != SWAP_SINCE_PARENT || parent != SWAP_NONE ||
+           bad(line, "a transaction that opens a coin has no parent");
 }
 
 static bool read_transaction(struct line *line, struct draft *draft)
@@ -123,10 +124,10 @@ static bool read_transaction(struct line *line, struct draft *draft)
     uint8_t *entry;
     unsigned number;
 
-    if (t == TRANSACTIONS_MOST) {
-        return bad(line, "a sheet has %d transactions at most", TRANSACTIONS_MOST);
+    if (t == SWAP_TRANSACTIONS) {
+        return bad(line, "a sheet has %d transactions at most", SWAP_TRANSACTIONS);
     }
-    if (!expect_number(line, 0, TRANSACTIONS_MOST - 1, &number)) {
+    if (!expect_number(line, 0, SWAP_TRANSACTIONS - 1, &number)) {
         return false;
     }
     if (number != t) {
@@ -178,7 +179,7 @@ static bool refuse_sheet(const struct draft *draft, struct line at, uint32_t ref
                                  : "transaction %u pays nobody, so another must spend it", (unsigned)t);
         }
     }
-    return bad(&at, "the sheet is refused: %s (%s)", refusal_words(refusal), refusal_name(refusal));
+    return bad(&at, "the sheet is refused: %s (%s)", swap_refusal_words(refusal), swap_refusal_name(refusal));
 }
 
 bool end_sheet(const struct line *line, const struct draft *draft, struct swap *swap)
@@ -220,7 +221,7 @@ static void print_transaction(const struct swap *swap, uint8_t t)
     unsigned days = days_of(swap, t);
 
     printf("transaction %u: ", (unsigned)t);
-    if (parent_of(swap, t) == NONE) {
+    if (parent_of(swap, t) == SWAP_NONE) {
         printf("opens a coin");
     } else {
         printf("spends %u", (unsigned)parent_of(swap, t));
@@ -230,9 +231,9 @@ static void print_transaction(const struct swap *swap, uint8_t t)
     if (swap->sheet[5 + 4 * t + 3] != 0) {
         printf(", veiled");
     }
-    if (lock_type_of(swap, t) != UNLOCKED) {
+    if (lock_type_of(swap, t) != SWAP_UNLOCKED) {
         printf(", locked for %u day%s%s", days, days == 1 ? "" : "s",
-               lock_type_of(swap, t) == SINCE_PARENT ? " after its parent" : "");
+               lock_type_of(swap, t) == SWAP_SINCE_PARENT ? " after its parent" : "");
     }
     putchar('\n');
 }

@@ -5,17 +5,15 @@
 #include "../calendar/files.h"
 #include "lines.h"
 
-#define TRANSACTIONS_MOST 32
-
 /* A sheet that is read line by line. */
 struct draft {
     unsigned heading; /* the line on which it starts */
     uint8_t count;
     uint8_t head[4];    /* signatures, and the masks of secrets and of what Alice and Bob hold */
     bool has_head[4];
-    uint8_t first[TRANSACTIONS_MOST][4];
-    uint8_t second[TRANSACTIONS_MOST][2];
-    unsigned lines[TRANSACTIONS_MOST];
+    uint8_t first[SWAP_TRANSACTIONS][4];
+    uint8_t second[SWAP_TRANSACTIONS][2];
+    unsigned lines[SWAP_TRANSACTIONS];
 };
 
 /* Reads a line of a sheet. */

@@ -8,18 +8,18 @@
 #include "../calendar/words.h"
 
 /* The most steps of a journal. */
-#define STEPS_MOST (JOURNAL_MOST / 4)
+#define STEPS_MOST (SWAP_JOURNAL_SIZE / 4)
 
 /* What stands before and after the name of a transaction, by kind. */
 static const struct {
     const char *before;
     const char *after;
 } phrases[] = {
-    [SHARE] = {"shares signatures on", ""},
-    [SEND] = {"sends", "to the pool"},
-    [HAND_IN] = {"hands", "to the miner"},
-    [INCLUDE] = {"include", "in the block"},
-    [BUMP] = {"bump", "into the block"},
+    [SWAP_SHARE] = {"shares signatures on", ""},
+    [SWAP_SEND] = {"sends", "to the pool"},
+    [SWAP_HAND_IN] = {"hands", "to the miner"},
+    [SWAP_INCLUDE] = {"include", "in the block"},
+    [SWAP_BUMP] = {"bump", "into the block"},
 };
 
 static const char first_shares[] = "makes the first shares";
@@ -28,7 +28,7 @@ static const char *const parties[] = {"alice", "bob"};
 
 static bool take_party(struct line *line, uint8_t *party)
 {
-    for (uint8_t number = ALICE; number <= BOB; number++) {
+    for (uint8_t number = SWAP_ALICE; number <= SWAP_BOB; number++) {
         if (take(line, parties[number])) {
             *party = number;
             return true;
@@ -78,7 +78,7 @@ static bool expect_signature(struct line *line, const struct swap *swap, uint8_t
 /* Takes whom the transaction pays; the contract where nobody is named. */
 static bool expect_destination(struct line *line, uint8_t *destination)
 {
-    *destination = CONTRACT;
+    *destination = SWAP_CONTRACT;
     return !take(line, "paying") || expect_party(line, destination);
 }
 
@@ -86,7 +86,7 @@ static bool expect_destination(struct line *line, uint8_t *destination)
 static bool read_named(struct line *line, const struct swap *swap, uint8_t step[4])
 {
     return expect_transaction(line, swap, &step[2]) && expect(line, phrases[step[0]].after) &&
-           (step[1] == MINER || expect_destination(line, &step[3]));
+           (step[1] == SWAP_MINER || expect_destination(line, &step[3]));
 }
 
 /* The kind from FIRST to LAST whose words come next; 0 where there is none. */
@@ -104,15 +104,15 @@ static uint8_t take_kind(struct line *line, uint8_t first, uint8_t last)
 static bool read_own(struct line *line, const struct swap *swap, uint8_t step[4])
 {
     if (take(line, first_shares)) {
-        step[0] = SHARE;
-        step[2] = NONE;
+        step[0] = SWAP_SHARE;
+        step[2] = SWAP_NONE;
         return true;
     }
     if (take(line, "gives")) {
-        step[0] = GIVE;
+        step[0] = SWAP_GIVE;
         return expect_signature(line, swap, &step[2]) && expect(line, "to") && expect_party(line, &step[3]);
     }
-    step[0] = take_kind(line, SHARE, HAND_IN);
+    step[0] = take_kind(line, SWAP_SHARE, SWAP_HAND_IN);
     if (step[0] == 0) {
         return bad(line, "'%s' where 'shares signatures on', '%s', 'gives', 'sends' or 'hands' is expected",
                    next_word(line), first_shares);
@@ -123,8 +123,8 @@ static bool read_own(struct line *line, const struct swap *swap, uint8_t step[4]
 /* A row of blocks, after the word mine. */
 static bool read_blocks(struct line *line, uint8_t step[4], unsigned *times)
 {
-    step[0] = MINE;
-    step[2] = NONE;
+    step[0] = SWAP_MINE;
+    step[2] = SWAP_NONE;
     if (take(line, "the block")) {
         return true;
     }
@@ -137,7 +137,7 @@ static bool read_miner(struct line *line, const struct swap *swap, uint8_t step[
     if (take(line, "mine")) {
         return read_blocks(line, step, times);
     }
-    step[0] = take_kind(line, INCLUDE, BUMP);
+    step[0] = take_kind(line, SWAP_INCLUDE, SWAP_BUMP);
     if (step[0] == 0) {
         return bad(line, "'%s' where a step is expected: 'alice', 'bob', 'include', 'bump' or 'mine'",
                    next_word(line));
@@ -150,11 +150,11 @@ bool read_steps(struct line *line, const struct swap *swap, uint8_t step[4], uns
     bool sound;
 
     *times = 1;
-    step[3] = CONTRACT;
+    step[3] = SWAP_CONTRACT;
     if (take_party(line, &step[1])) {
         sound = read_own(line, swap, step);
     } else {
-        step[1] = MINER;
+        step[1] = SWAP_MINER;
         sound = read_miner(line, swap, step, times);
     }
     return sound && expect_end(line);
@@ -163,21 +163,21 @@ bool read_steps(struct line *line, const struct swap *swap, uint8_t step[4], uns
 /* Prints the words of a step that mines no block. */
 static void print_words(const struct swap *swap, const uint8_t step[4])
 {
-    if (step[1] != MINER) {
+    if (step[1] != SWAP_MINER) {
         printf("%s ", parties[step[1]]);
     }
-    if (step[0] == GIVE && is_saswap(swap)) {
+    if (step[0] == SWAP_GIVE && is_saswap(swap)) {
         printf("gives %s to %s", saswap_signature(step[2]), parties[step[3]]);
-    } else if (step[0] == GIVE) {
+    } else if (step[0] == SWAP_GIVE) {
         printf("gives signature %u to %s", (unsigned)step[2], parties[step[3]]);
-    } else if (step[2] == NONE) {
+    } else if (step[2] == SWAP_NONE) {
         printf("%s", first_shares);
     } else {
         const char *after = phrases[step[0]].after;
 
         printf("%s %s%s%s", phrases[step[0]].before, transaction_label(swap, step[2]).text, *after == '\0' ? "" : " ",
                after);
-        if (step[3] != CONTRACT) {
+        if (step[3] != SWAP_CONTRACT) {
             printf(", paying %s", parties[step[3]]);
         }
     }
@@ -202,12 +202,12 @@ void print_journal(const struct swap *swap)
         const uint8_t *step = swap->journal + at;
         size_t blocks = 0;
 
-        if (step[0] != MINE) {
+        if (step[0] != SWAP_MINE) {
             print_words(swap, step);
             at += 4;
             continue;
         }
-        for (; at < swap->journal_length && swap->journal[at] == MINE; at += 4) {
+        for (; at < swap->journal_length && swap->journal[at] == SWAP_MINE; at += 4) {
             blocks++;
         }
         print_blocks(blocks, mined);

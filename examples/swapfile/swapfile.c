@@ -73,8 +73,8 @@ static int refuse(const char *folder, uint32_t answer)
     if (refusal >= SWAP_STEP_FIELD && refusal <= SWAP_STEP_BLOCKS) {
         snprintf(step, sizeof step, "step %lu is ", (unsigned long)SWAP_COUNT(answer) + 1);
     }
-    fprintf(stderr, "swapfile: %s/%s: %srefused: %s (%s)\n", folder, file, step, refusal_words(refusal),
-            refusal_name(refusal));
+    fprintf(stderr, "swapfile: %s/%s: %srefused: %s (%s)\n", folder, file, step, swap_refusal_words(refusal),
+            swap_refusal_name(refusal));
     return REFUSED;
 }
 
@@ -136,8 +136,8 @@ static int start(const char *sheet, const char *blocks, const char *folder, cons
     swap.sheet_length = SASWAP_SIZE;
     swap.setup[0] = (uint8_t)(blocks_per_day & 255u);
     swap.setup[1] = (uint8_t)(blocks_per_day >> 8);
-    swap.setup[2] = CAREFUL;
-    swap.setup_length = SETUP_MOST;
+    swap.setup[2] = SWAP_CAREFUL;
+    swap.setup_length = SWAP_SETUP_SIZE;
     return store_swap(folder, &swap, side, true) ? FINE : REFUSED;
 }
 

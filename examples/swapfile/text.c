@@ -32,7 +32,7 @@ struct reading {
     unsigned values[FIELDS];
     unsigned lines[FIELDS]; /* where each stands; 0: nowhere */
     struct draft draft;
-    unsigned step_lines[JOURNAL_MOST / 4];
+    unsigned step_lines[SWAP_JOURNAL_SIZE / 4];
 };
 
 static bool read_word(struct line *line, unsigned field, unsigned *value)
@@ -72,7 +72,7 @@ static bool begin_sheet(struct line *line, struct reading *reading)
     swap->setup[1] = (uint8_t)(values[BLOCKS] >> 8);
     swap->setup[2] = (uint8_t)values[CONDUCT];
     swap->setup[3] = (uint8_t)values[STEALTH];
-    swap->setup_length = SETUP_MOST;
+    swap->setup_length = SWAP_SETUP_SIZE;
     reading->part = take(line, "saswap") ? NAMED_SHEET : SHEET;
     reading->draft.heading = line->number;
     if (reading->part == NAMED_SHEET) {
@@ -91,13 +91,13 @@ static bool refuse(const struct reading *reading, const struct line *line, uint3
 
     if (refusal >= SWAP_STEP_FIELD && refusal <= SWAP_STEP_BLOCKS) {
         at.number = reading->step_lines[count];
-        return bad(&at, "step %lu is refused: %s (%s)", (unsigned long)count + 1, refusal_words(refusal),
-                   refusal_name(refusal));
+        return bad(&at, "step %lu is refused: %s (%s)", (unsigned long)count + 1, swap_refusal_words(refusal),
+                   swap_refusal_name(refusal));
     }
     at.number = refusal == SWAP_SETUP_BLOCKS    ? reading->lines[BLOCKS]
                 : refusal == SWAP_SETUP_CONDUCT ? reading->lines[CONDUCT]
                                                 : reading->draft.heading;
-    return bad(&at, "refused: %s (%s)", refusal_words(refusal), refusal_name(refusal));
+    return bad(&at, "refused: %s (%s)", swap_refusal_words(refusal), swap_refusal_name(refusal));
 }
 
 static bool is_accepted(const struct reading *reading, const struct line *line)
@@ -143,8 +143,8 @@ static bool read_step_line(struct line *line, struct reading *reading)
     if (!read_steps(line, swap, step, &times)) {
         return false;
     }
-    if (times > (JOURNAL_MOST - swap->journal_length) / 4) {
-        return bad(line, "a journal has %d steps at most", JOURNAL_MOST / 4);
+    if (times > (SWAP_JOURNAL_SIZE - swap->journal_length) / 4) {
+        return bad(line, "a journal has %d steps at most", SWAP_JOURNAL_SIZE / 4);
     }
     for (; times > 0; times--) {
         reading->step_lines[swap->journal_length / 4] = line->number;

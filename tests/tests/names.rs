@@ -39,11 +39,11 @@ fn code() -> Names {
         .collect()
 }
 
-/// `SWAP_SHEET_SHORT = 1,`
+/// `X(SWAP_SHEET_SHORT, 1, "sheet under 5 bytes") \`
 fn header() -> Names {
     text("include/swap.h")
         .lines()
-        .filter_map(|line| line.trim().strip_prefix("SWAP_")?.split_once(" = "))
+        .filter_map(|line| line.trim().strip_prefix("X(SWAP_")?.split_once(", "))
         .map(|(name, rest)| (name.to_string(), number(rest)))
         .collect()
 }
