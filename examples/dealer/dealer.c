@@ -52,6 +52,7 @@ static bool read_step(char **texts, uint8_t step[4])
 {
     for (int i = 0; i < 4; i++) {
         if (!read_byte(texts[i], &step[i])) {
+            fprintf(stderr, "dealer: %s: not a number from 0 to 255\n", texts[i]);
             return false;
         }
     }

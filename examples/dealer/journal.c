@@ -5,12 +5,27 @@
 #include <errno.h>
 #include <fcntl.h>
 #include <stdio.h>
+#include <sys/stat.h>
 #include <unistd.h>
+
+/* Opens a plain file, which need not be there, to write; -1, with errno set, for all else, which is not waited for. */
+static int open_plain(const char *name, int mode)
+{
+    int file = open(name, mode | O_CREAT | O_NONBLOCK | O_NOFOLLOW, 0666);
+    struct stat status;
+
+    if (file >= 0 && (fstat(file, &status) != 0 || !S_ISREG(status.st_mode))) {
+        close(file);
+        errno = EINVAL;
+        return -1;
+    }
+    return file;
+}
 
 bool lock_journal(void)
 {
     struct flock whole = {.l_type = F_WRLCK, .l_whence = SEEK_SET};
-    int file = open("journal.lock", O_RDWR | O_CREAT, 0666);
+    int file = open_plain("journal.lock", O_RDWR);
 
     return file >= 0 && fcntl(file, F_SETLKW, &whole) == 0;
 }
@@ -45,9 +60,10 @@ static bool close_after(int file, bool sound)
 
 static bool write_file(const char *name, const uint8_t *bytes, size_t length)
 {
-    int file = open(name, O_WRONLY | O_CREAT | O_TRUNC, 0666);
+    int file = open_plain(name, O_WRONLY);
 
-    return file >= 0 && close_after(file, write_all(file, bytes, length) && fsync(file) == 0);
+    return file >= 0 &&
+           close_after(file, ftruncate(file, 0) == 0 && write_all(file, bytes, length) && fsync(file) == 0);
 }
 
 /* Makes the new name last: some file systems keep names apart from files. What they answer does not matter here. */
