@@ -1,42 +1,40 @@
 #include "after.h"
 
-#include <stdio.h>
-
 #include "rivals.h"
 #include "words.h"
 
-void print_else(const struct position *position, uint8_t t, uint32_t base)
+void print_else(FILE *to, const struct position *position, uint8_t t, uint32_t base)
 {
     uint8_t rival = later_rival(position, t);
 
-    printf("else %s, pays %s, from %s", transaction_label(position->swap, rival).text,
-           payees_name(can_pay(position, rival)), height_label(base, soonest_deadline_of(position, t) + 1).text);
+    fprintf(to, "else %s, pays %s, from %s", transaction_label(position->swap, rival).text,
+            payees_name(can_pay(position, rival)), height_label(base, soonest_deadline_of(position, t) + 1).text);
 }
 
-void print_if(const char *words, const struct position *position, uint8_t t, uint32_t base)
+void print_if(FILE *to, const char *words, const struct position *position, uint8_t t, uint32_t base)
 {
     uint8_t parent = parent_of(position->swap, t);
 
     if (soonest_deadline_of(position, t) != deadline_of(position, t)) {
-        printf("%s, if %s is confirmed in %s", words, transaction_label(position->swap, parent).text,
-               height_label(base, soonest_block_of(position, parent)).text);
+        fprintf(to, "%s, if %s is confirmed in %s", words, transaction_label(position->swap, parent).text,
+                height_label(base, soonest_block_of(position, parent)).text);
     }
 }
 
-void print_before(const struct position *position, const struct outage *outage, uint8_t t, uint32_t base)
+void print_before(FILE *to, const struct position *position, const struct outage *outage, uint8_t t, uint32_t base)
 {
     uint32_t from = soonest_block_of(position, t);
-    uint32_t to = soonest_deadline_of(position, t);
+    uint32_t last = soonest_deadline_of(position, t);
 
-    if (to >= outage->first) {
-        to = outage->first - 1;
+    if (last >= outage->first) {
+        last = outage->first - 1;
     }
-    if (from <= to && to > position->mined) {
-        printf("before the outage in %s to %s, ", height_label(base, from).text, height_label(base, to).text);
+    if (from <= last && last > position->mined) {
+        fprintf(to, "before the outage in %s to %s, ", height_label(base, from).text, height_label(base, last).text);
     }
 }
 
-void print_in_the_way(const struct position *position, uint8_t t, uint8_t side)
+void print_in_the_way(FILE *to, const struct position *position, uint8_t t, uint8_t side)
 {
     const struct swap *swap = position->swap;
 
@@ -44,7 +42,7 @@ void print_in_the_way(const struct position *position, uint8_t t, uint8_t side)
         if (in_the_way(position, t, rival, side)) {
             bool sent = (status_of(position, rival) & (SWAP_IN_POOL | SWAP_IN_BLOCK)) != 0;
 
-            printf("; rival %s %s", transaction_label(swap, rival).text, sent ? "is sent" : "can be sent");
+            fprintf(to, "; rival %s %s", transaction_label(swap, rival).text, sent ? "is sent" : "can be sent");
         }
     }
 }

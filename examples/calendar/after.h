@@ -2,19 +2,21 @@
 #ifndef AFTER_H
 #define AFTER_H
 
+#include <stdio.h>
+
 #include "desk.h"
 
 /* Prints what can be confirmed after the soonest deadline: "else timeout, pays Bob, from 589". */
-void print_else(const struct position *position, uint8_t t, uint32_t base);
+void print_else(FILE *to, const struct position *position, uint8_t t, uint32_t base);
 
 /* Prints on what the soonest deadline hangs, where it can still change: the words, then ", if revoke is confirmed in
  * 289". */
-void print_if(const char *words, const struct position *position, uint8_t t, uint32_t base);
+void print_if(FILE *to, const char *words, const struct position *position, uint8_t t, uint32_t base);
 
 /* Prints, for an outage that begins later, the part of the window before it: "before the outage in 445 to 499; ". */
-void print_before(const struct position *position, const struct outage *outage, uint8_t t, uint32_t base);
+void print_before(FILE *to, const struct position *position, const struct outage *outage, uint8_t t, uint32_t base);
 
 /* Prints the rivals that no deadline covers: "; rival success can be sent". */
-void print_in_the_way(const struct position *position, uint8_t t, uint8_t side);
+void print_in_the_way(FILE *to, const struct position *position, uint8_t t, uint8_t side);
 
 #endif

@@ -3,8 +3,9 @@
 #include <stdio.h>
 #include <string.h>
 
-const char usage[] = "usage: calendar [--full] [--blocks N | --days D] [--from BLOCK] [--margin N]\n"
-                     "                [--side SIDE] [--base HEIGHT] [FOLDER]\n";
+const char usage[] = "usage: calendar [--full | --json] [--html FILE] [--blocks N | --days D]\n"
+                     "                [--from BLOCK] [--margin N] [--side SIDE] [--base HEIGHT]\n"
+                     "                [FOLDER]\n";
 
 const char help[] =
     "\n"
@@ -21,6 +22,10 @@ const char help[] =
     "               printed, and --from is read, as the real chain's\n"
     "--full         for each swap the position, the steps that each party could take\n"
     "               now, the payouts so far and all that can still be confirmed\n"
+    "--json         the position and the windows of each swap as JSON, for programs;\n"
+    "               docs/FORMATS.md has the fields\n"
+    "--html FILE    also writes a page to look at and to print: all windows as bars,\n"
+    "               the outage as a band; FILE is new or a plain file\n"
     "The older form [FOLDER] [BLOCKS] [SIDE] works too; a dash leaves a place out.\n"
     "\n"
     "A line for each swap and side, the most urgent first: its most urgent\n"
@@ -35,7 +40,7 @@ const char help[] =
     "or there is none; 2 bad usage.\n";
 
 /* The arguments that have a value. The first three can stand by their place too. */
-enum { FOLDER, BLOCKS, SIDE, DAYS, FROM, MARGIN, BASE, ARGUMENTS };
+enum { FOLDER, BLOCKS, SIDE, DAYS, FROM, MARGIN, BASE, HTML, ARGUMENTS };
 
 static const struct {
     const char *name;
@@ -49,6 +54,7 @@ static const struct {
     [FROM] = {"--from", 1, 999999999},
     [MARGIN] = {"--margin", 0, 999999999},
     [BASE] = {"--base", 0, 499999999},
+    [HTML] = {"--html", 0, 0},
 };
 
 uint8_t side_named(const char *name)
@@ -107,6 +113,10 @@ static bool read_length(const char *const values[ARGUMENTS], struct question *qu
 static bool read_values(const char *const values[ARGUMENTS], struct question *question)
 {
     question->folder = values[FOLDER];
+    question->html = values[HTML];
+    if (question->json && question->full) {
+        return wrong("--json", NULL, "not beside --full");
+    }
     if (!read_length(values, question) || !read_number(BASE, values[BASE], &question->base) ||
         !read_number(FROM, values[FROM], &question->from) || !read_number(MARGIN, values[MARGIN], &question->margin)) {
         return false;
@@ -155,6 +165,8 @@ bool read_question(int argc, char **argv, struct question *question)
             question->help = true;
         } else if (strcmp(argv[i], "--full") == 0) {
             question->full = true;
+        } else if (strcmp(argv[i], "--json") == 0) {
+            question->json = true;
         } else if (argument < ARGUMENTS) {
             i++;
             sound = i < argc ? set(values, argument, argv[i]) : wrong(arguments[argument].name, NULL, "no value");

@@ -8,6 +8,8 @@
 struct question {
     bool help;
     bool full;          /* the whole position of each swap, and not one line */
+    bool json;          /* all of it for programs, and no lines */
+    const char *html;   /* the file of the page, or NULL */
     const char *folder; /* NULL: the embedded swap */
     uint8_t sides;      /* whose lines, a mask as payees have it; 0: by each swap's folder */
     bool in_days;       /* whether the length is in days */

@@ -2,13 +2,18 @@
  * The planner's calendar over the swap engine: by which block each transaction of ours must be confirmed, and what an
  * outage can cost. Usage and meaning stand in arguments.c.
  */
+#define _POSIX_C_SOURCE 200809L
+
 #include <errno.h>
 #include <stdio.h>
+#include <stdlib.h>
 #include <string.h>
 
+#include "json.h"
+#include "page.h"
 #include "screen.h"
 #include "show.h"
-#include "totals.h"
+#include "whole.h"
 
 /* The exit status. */
 enum { NO_WARNING = 0, FAULT = 1, BAD_USAGE = 2, WARNINGS = 3 };
@@ -26,17 +31,55 @@ static int printed(int status)
     return fflush(stdout) != 0 || ferror(stdout) ? fault("output", strerror(errno)) : status;
 }
 
-/* Shows the swaps in the form that is asked for: the exit status. */
-static int show(const struct question *question, const struct desk *desk)
+/* Writes the page to its file: NULL, or the reason why that cannot be. */
+static const char *store_page(const struct question *question, const struct desk *desk, const struct totals *totals,
+                              const struct target *target)
 {
-    struct totals totals = totals_of(desk);
+    char *bytes = NULL;
+    size_t length = 0;
+    FILE *page = open_memstream(&bytes, &length);
+    const char *reason;
+    bool sound;
 
+    if (page == NULL) {
+        return strerror(errno);
+    }
+    sound = write_page(page, question, desk, totals);
+    sound = fclose(page) == 0 && sound;
+    reason = sound ? write_target(target, bytes, length) : strerror(errno);
+    free(bytes);
+    return reason;
+}
+
+/* Shows the swaps in the form that is asked for; false where there is no memory. */
+static bool show_form(const struct question *question, const struct desk *desk, const struct totals *totals)
+{
+    if (question->json) {
+        show_json(question, desk, totals);
+        return true;
+    }
     if (question->full) {
         show_desk(question, desk);
     } else if (!show_screen(question, desk)) {
+        return false;
+    }
+    print_totals(stdout, totals);
+    printf("\n");
+    return true;
+}
+
+/* Shows the swaps, and writes the page first where there is a target: the exit status. */
+static int show(const struct question *question, const struct desk *desk, const struct target *target)
+{
+    struct totals totals = totals_of(desk);
+    const char *reason = target == NULL ? NULL : store_page(question, desk, &totals, target);
+
+    if (reason != NULL) {
+        return fault(question->html, reason);
+    }
+    if (!show_form(question, desk, &totals)) {
         return fault("memory", strerror(errno));
     }
-    show_totals(&totals);
     if (totals.refused > 0) {
         return printed(FAULT);
     }
@@ -44,7 +87,7 @@ static int show(const struct question *question, const struct desk *desk)
 }
 
 /* Answers a question: the exit status. */
-static int answer(const struct question *question)
+static int answer(const struct question *question, const struct target *target)
 {
     struct desk desk = {NULL, 0};
     int status;
@@ -55,9 +98,24 @@ static int answer(const struct question *question)
         status = fault(question->folder, "no swap here");
     } else {
         ask_desk(question, &desk);
-        status = show(question, &desk);
+        status = show(question, &desk, target);
     }
     free_desk(&desk);
+    return status;
+}
+
+/* The same, with the page's folder open first: the swaps are read from another one. */
+static int answer_with_page(const struct question *question)
+{
+    struct target target;
+    const char *reason = open_target(question->html, &target);
+    int status;
+
+    if (reason != NULL) {
+        return fault(question->html, reason);
+    }
+    status = answer(question, &target);
+    close_target(&target);
     return status;
 }
 
@@ -73,5 +131,5 @@ int main(int argc, char **argv)
         printf("%s%s", usage, help);
         return printed(NO_WARNING);
     }
-    return answer(&question);
+    return question.html == NULL ? answer(&question, NULL) : answer_with_page(&question);
 }

@@ -3,25 +3,14 @@
 #include <stdio.h>
 #include <stdlib.h>
 
-#include "after.h"
+#include "outlook.h"
 #include "rivals.h"
 #include "words.h"
 
 /* The names of swaps and transactions, and the marks before them. */
 enum { MARK_WIDTH = 11, NAME_WIDTH = 16 };
 
-/* A line: a swap that is no good, or the most urgent transaction of a side. */
-struct line {
-    const struct entry *entry;
-    size_t place;      /* of the swap among all */
-    uint8_t side;      /* SWAP_NONE for a swap that is no good */
-    uint8_t t;         /* SWAP_NONE where no transaction has a deadline ahead */
-    unsigned urgency;  /* the less, the sooner */
-    uint32_t left;     /* blocks until its window ends, or SWAP_NEVER */
-    unsigned warnings; /* of this swap and side */
-};
-
-static uint32_t blocks_left(const struct position *position, uint8_t t)
+uint32_t blocks_left(const struct position *position, uint8_t t)
 {
     uint32_t deadline = soonest_deadline_of(position, t);
 
@@ -30,11 +19,6 @@ static uint32_t blocks_left(const struct position *position, uint8_t t)
     }
     return deadline > position->mined ? deadline - position->mined : 0;
 }
-
-/* The urgency of a transaction: a warning with its window open, one with only a hand-in left, what is due before the
- * outage or after it, what is sent, and what has no deadline ahead but a rival in the way. The last is that of no
- * transaction. */
-enum { FAULTY, OPEN_WARNING, LATE_WARNING, DUE_BEFORE, DUE_AFTER, UNDER_WAY, CONTESTED, NO_DEADLINE };
 
 static bool is_contested(const struct position *position, uint8_t t, uint8_t side)
 {
@@ -145,7 +129,7 @@ static void show_fault(const struct entry *entry)
     }
 }
 
-/* What stands before the name: the warnings, where there are some. */
+/* What stands before the name: the warnings, where there are some. A number of two digits takes up a place more. */
 static void show_mark(const struct line *line)
 {
     struct label mark = {""};
@@ -155,29 +139,7 @@ static void show_mark(const struct line *line)
     } else if (line->warnings == 1) {
         snprintf(mark.text, sizeof mark.text, "WARNING");
     }
-    printf("%-*s", MARK_WIDTH, mark.text);
-}
-
-/* The last column. */
-static void show_after(const struct question *question, const struct line *line)
-{
-    const struct position *position = &line->entry->position;
-    const struct outage *outage = &line->entry->outage;
-
-    if (line->urgency == LATE_WARNING) {
-        printf("passed, a hand-in may save it, ");
-    } else if (question->from > 0 && line->urgency <= DUE_BEFORE) {
-        print_before(position, outage, line->t, question->base);
-    }
-    if (line->urgency == UNDER_WAY) {
-        printf("sent, box not needed");
-    } else if (line->urgency == CONTESTED) {
-        printf("no deadline ahead");
-    } else {
-        print_else(position, line->t, question->base);
-        print_if("", position, line->t, question->base);
-    }
-    print_in_the_way(position, line->t, line->side);
+    printf("%-*s%s", MARK_WIDTH, mark.text, line->warnings > 9 ? " " : "");
 }
 
 static void show_line(const struct question *question, const struct line *line)
@@ -199,38 +161,31 @@ static void show_line(const struct question *question, const struct line *line)
            height_label(question->base, soonest_block_of(position, line->t)).text,
            height_label(question->base, soonest_deadline_of(position, line->t)).text,
            line->left == SWAP_NEVER ? "-" : height_label(0, line->left).text);
-    show_after(question, line);
+    print_outlook(stdout, question, line->entry, line->t, line->side);
     printf("\n");
 }
 
-/* What is asked, in words. */
-static void show_question(const struct question *question)
+struct line *lines_by_urgency(const struct desk *desk, size_t *count)
 {
-    unsigned long length = question->length;
+    struct line *lines = malloc((2 * desk->count + 1) * sizeof *lines);
 
-    printf("outage: %lu %s%s", length, question->in_days ? "day" : "block", length == 1 ? "" : "s");
-    if (question->from > 0) {
-        printf(" from block %lu", (unsigned long)question->from);
-    } else {
-        printf(" from the next block");
+    if (lines != NULL) {
+        *count = lines_of(desk, lines);
+        qsort(lines, *count, sizeof *lines, by_urgency);
     }
-    if (question->margin > 0) {
-        printf(", margin %lu", (unsigned long)question->margin);
-    }
-    printf("\n");
+    return lines;
 }
 
 bool show_screen(const struct question *question, const struct desk *desk)
 {
-    struct line *lines = malloc((2 * desk->count + 1) * sizeof *lines);
     size_t count;
+    struct line *lines = lines_by_urgency(desk, &count);
 
     if (lines == NULL) {
         return false;
     }
-    count = lines_of(desk, lines);
-    qsort(lines, count, sizeof *lines, by_urgency);
-    show_question(question);
+    print_question(stdout, question);
+    printf("\n");
     printf("%-*s%-*s %-6s%-21s%8s%8s%7s  %s\n", MARK_WIDTH, "", NAME_WIDTH, "swap", "side", "transaction", "from", "to",
            "left", "after that");
     for (size_t i = 0; i < count; i++) {

@@ -4,6 +4,28 @@
 
 #include "desk.h"
 
+/* The urgency of a transaction: a warning with its window open, one with only a hand-in left, what is due before the
+ * outage or after it, what is sent, and what has no deadline ahead but a rival in the way. The last is that of no
+ * transaction; the first that of a swap that is no good. */
+enum { FAULTY, OPEN_WARNING, LATE_WARNING, DUE_BEFORE, DUE_AFTER, UNDER_WAY, CONTESTED, NO_DEADLINE };
+
+/* A line: a swap that is no good, or the most urgent transaction of a side. */
+struct line {
+    const struct entry *entry;
+    size_t place;      /* of the swap among all */
+    uint8_t side;      /* SWAP_NONE for a swap that is no good */
+    uint8_t t;         /* SWAP_NONE where no transaction has a deadline ahead */
+    unsigned urgency;  /* the less, the sooner */
+    uint32_t left;     /* blocks until its window ends, or SWAP_NEVER */
+    unsigned warnings; /* of this swap and side */
+};
+
+/* The lines of all swaps, the most urgent first; NULL where there is no memory. */
+struct line *lines_by_urgency(const struct desk *desk, size_t *count);
+
+/* Blocks until the window of a transaction ends, 0 where it is passed; or SWAP_NEVER. */
+uint32_t blocks_left(const struct position *position, uint8_t t);
+
 /* Prints it; false where there is no memory. */
 bool show_screen(const struct question *question, const struct desk *desk);
 

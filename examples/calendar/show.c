@@ -8,34 +8,17 @@
 
 static void show_inputs(const struct position *position, uint32_t base)
 {
-    static const char *const conducts[] = {"open", "loose", "careful"};
     const struct swap *swap = position->swap;
 
     printf("  sheet: %s, transactions %u\n", is_saswap(swap) ? "SASwap" : "other", (unsigned)count_of(swap));
-    printf("  setup: blocks per day %u, conduct %s, stealth %u\n", blocks_per_day_of(swap), conducts[conduct_of(swap)],
-           (unsigned)stealth_of(swap));
+    printf("  setup: blocks per day %u, conduct %s, stealth %u\n", blocks_per_day_of(swap),
+           conduct_name(conduct_of(swap)), (unsigned)stealth_of(swap));
     printf("  journal: steps accepted %lu, blocks mined %lu", (unsigned long)position->steps,
            (unsigned long)position->mined);
     if (base > 0) {
         printf(", height %lu", (unsigned long)base + position->mined);
     }
     printf("\n");
-}
-
-/* A status in words; "-" where it is 0. */
-static struct label status_label(uint8_t status)
-{
-    static const char *const words[] = {"pool", "block", "confirmed", "dead"};
-    struct label label = {"-"};
-    size_t length = 0;
-
-    for (unsigned bit = 0; bit < 4; bit++) {
-        if ((status >> bit & 1) == 1) {
-            length += (size_t)snprintf(label.text + length, sizeof label.text - length, "%s%s", length > 0 ? "+" : "",
-                                       words[bit]);
-        }
-    }
-    return label;
 }
 
 static void show_position(const struct position *position, uint32_t base)
@@ -109,9 +92,9 @@ static void show_window(const struct position *position, uint8_t t, uint32_t bas
 {
     printf("in blocks %s to %s", height_label(base, soonest_block_of(position, t)).text,
            height_label(base, soonest_deadline_of(position, t)).text);
-    print_if(" at the soonest", position, t, base);
+    print_if(stdout, " at the soonest", position, t, base);
     printf(", ");
-    print_else(position, t, base);
+    print_else(stdout, position, t, base);
 }
 
 /* A deadline that is passed, or that there is none. */
@@ -133,11 +116,11 @@ static void show_warning(const struct entry *entry, uint8_t t, const struct ques
     if (soonest_deadline_of(position, t) <= position->mined) {
         printf("block %s was the latest, a hand-in may save it, ",
                height_label(question->base, soonest_deadline_of(position, t)).text);
-        print_else(position, t, question->base);
+        print_else(stdout, position, t, question->base);
         return;
     }
     if (question->from > 0) {
-        print_before(position, &entry->outage, t, question->base);
+        print_before(stdout, position, &entry->outage, t, question->base);
     }
     show_window(position, t, question->base);
 }
@@ -217,7 +200,7 @@ static void show_deadlines(const struct entry *entry, uint8_t side, const struct
             show_kind(entry, t, kind, question);
             show_standing(position, t, side);
             if (kind != OTHERS) {
-                print_in_the_way(position, t, side);
+                print_in_the_way(stdout, position, t, side);
             }
             printf("\n");
             shown++;

@@ -1,7 +1,5 @@
 #include "totals.h"
 
-#include <stdio.h>
-
 /* Adds the transactions of one side of a swap. */
 static void add(struct totals *totals, const struct entry *entry, uint8_t side)
 {
@@ -30,9 +28,9 @@ struct totals totals_of(const struct desk *desk)
     return totals;
 }
 
-void show_totals(const struct totals *totals)
+void print_totals(FILE *to, const struct totals *totals)
 {
-    printf("swaps: %lu; warnings: %lu; due before the outage: %lu; refused or unreadable: %lu\n",
-           (unsigned long)totals->swaps, (unsigned long)totals->warnings, (unsigned long)totals->before,
-           (unsigned long)totals->refused);
+    fprintf(to, "swaps: %lu; warnings: %lu; due before the outage: %lu; refused or unreadable: %lu",
+            (unsigned long)totals->swaps, (unsigned long)totals->warnings, (unsigned long)totals->before,
+            (unsigned long)totals->refused);
 }

@@ -2,6 +2,8 @@
 #ifndef TOTALS_H
 #define TOTALS_H
 
+#include <stdio.h>
+
 #include "desk.h"
 
 struct totals {
@@ -13,7 +15,7 @@ struct totals {
 
 struct totals totals_of(const struct desk *desk);
 
-/* Prints them, as the last line. */
-void show_totals(const struct totals *totals);
+/* Prints them in words. */
+void print_totals(FILE *to, const struct totals *totals);
 
 #endif

@@ -16,12 +16,17 @@ void print_name(const char *name, size_t width)
     }
 }
 
+uint32_t chain_height(uint32_t base, uint32_t height)
+{
+    return height == 0 ? 0 : base + height;
+}
+
 struct label height_label(uint32_t base, uint32_t height)
 {
     struct label label = {"never"};
 
     if (height != SWAP_NEVER) {
-        snprintf(label.text, sizeof label.text, "%lu", height == 0 ? 0 : (unsigned long)base + height);
+        snprintf(label.text, sizeof label.text, "%lu", (unsigned long)chain_height(base, height));
     }
     return label;
 }
@@ -66,6 +71,34 @@ const char *payees_name(uint8_t payees)
     static const char *const names[] = {"nobody", "Alice", "Bob", "either"};
 
     return names[payees];
+}
+
+const char *conduct_name(uint8_t conduct)
+{
+    static const char *const names[] = {"open", "loose", "careful"};
+
+    return names[conduct];
+}
+
+const char *status_word(unsigned bit)
+{
+    static const char *const words[STATUS_BITS] = {"pool", "block", "confirmed", "dead"};
+
+    return words[bit];
+}
+
+struct label status_label(uint8_t status)
+{
+    struct label label = {"-"};
+    size_t length = 0;
+
+    for (unsigned bit = 0; bit < STATUS_BITS; bit++) {
+        if ((status >> bit & 1) == 1) {
+            length += (size_t)snprintf(label.text + length, sizeof label.text - length, "%s%s", length > 0 ? "+" : "",
+                                       status_word(bit));
+        }
+    }
+    return label;
 }
 
 /* A step's verb and what follows the name of its transaction, by kind. */

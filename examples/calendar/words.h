@@ -12,7 +12,9 @@ struct label {
 /* A folder's name, with control characters as question marks, so that each line is the calendar's own. */
 void print_name(const char *name, size_t width);
 
-/* A height of the real chain, which stood at BASE before block 1; "never", and 0 for no block and no lock. */
+/* A height of the real chain, which stood at BASE before block 1; 0 for no block and no lock. Then as text, with
+ * "never". */
+uint32_t chain_height(uint32_t base, uint32_t height);
 struct label height_label(uint32_t base, uint32_t height);
 
 /* A transaction: its name on the SASwap sheet, else its number. */
@@ -24,6 +26,13 @@ const char *destination_name(uint8_t destination);
 
 /* Payees, as a mask. */
 const char *payees_name(uint8_t payees);
+
+const char *conduct_name(uint8_t conduct);
+
+/* The word for a bit of a status; and a status in words, "-" where it is 0. */
+#define STATUS_BITS 4
+const char *status_word(unsigned bit);
+struct label status_label(uint8_t status);
 
 /* Prints what a step does; its fields are in range. */
 void print_step(const struct swap *swap, const uint8_t step[4]);

@@ -9,6 +9,8 @@
 #include <sys/stat.h>
 #include <unistd.h>
 
+#include "../calendar/whole.h"
+
 #define FILES_MOST 4
 
 /* A file to write: its name, the one that it has until all are written, and its bytes. */
@@ -64,46 +66,14 @@ static bool are_free(const struct store *store, bool fresh)
     return true;
 }
 
-static bool write_all(int file, const uint8_t *bytes, size_t length)
-{
-    while (length > 0) {
-        ssize_t written = write(file, bytes, length);
-
-        if (written < 0 && errno != EINTR) {
-            return false;
-        }
-        if (written > 0) {
-            bytes += written;
-            length -= (size_t)written;
-        }
-    }
-    return true;
-}
-
-/* Writes a file under its unfinished name; one that an earlier run left there goes. */
-static bool write_part(const struct store *store, const struct part *part)
-{
-    int file;
-    bool sound;
-
-    unlinkat(store->descriptor, part->unfinished, 0);
-    file = openat(store->descriptor, part->unfinished, O_WRONLY | O_CREAT | O_EXCL | O_CLOEXEC, 0666);
-    if (file < 0) {
-        return fail(store, part->unfinished, strerror(errno));
-    }
-    sound = write_all(file, part->bytes, part->length) && fsync(file) == 0;
-    if (!sound) {
-        fail(store, part->unfinished, strerror(errno));
-    }
-    close(file);
-    return sound;
-}
-
+/* Writes the files under their unfinished names; one that an earlier run left there goes. */
 static bool write_parts(const struct store *store)
 {
     for (size_t i = 0; i < store->count; i++) {
-        if (!write_part(store, &store->parts[i])) {
-            return false;
+        const struct part *part = &store->parts[i];
+
+        if (!write_new(store->descriptor, part->unfinished, part->bytes, part->length)) {
+            return fail(store, part->unfinished, strerror(errno));
         }
     }
     return true;

@@ -2,6 +2,8 @@
 
 mod after;
 mod cases;
+pub mod data;
+pub mod page;
 pub mod rule;
 mod screen;
 mod view;

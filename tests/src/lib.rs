@@ -7,6 +7,8 @@ pub mod compare;
 pub mod engine;
 pub mod every;
 pub mod fast;
+pub mod json;
+pub mod markup;
 pub mod model;
 pub mod older;
 pub mod random;

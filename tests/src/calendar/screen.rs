@@ -71,7 +71,7 @@ fn line(name: &str, view: &View, question: &Question, side: u8) -> ((u32, u32), 
     let mark = match warnings.count() {
         0 => String::new(),
         1 => "WARNING".to_string(),
-        count => format!("WARNING x{count}"),
+        count => format!("WARNING x{count} "),
     };
     let Some(&((urgency, left), t)) = ranked.iter().min() else {
         let text = cells(&mark, name, party_name(side), "no deadline ahead");

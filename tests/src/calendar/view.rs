@@ -26,6 +26,20 @@ impl View {
         }
     }
 
+    pub fn outcome(&self) -> &Outcome {
+        &self.outcome
+    }
+
+    pub fn open(&self) -> &[[u8; 4]] {
+        &self.open
+    }
+
+    /// Whether the side has an open step that sends the transaction.
+    pub fn can_send(&self, t: u8, side: u8) -> bool {
+        let sends = |step: &[u8; 4]| [3, 4].contains(&step[0]) && step[1] == side && step[2] == t;
+        self.open.iter().any(sends)
+    }
+
     fn mined(&self) -> u32 {
         self.outcome.course.position.mined
     }
@@ -234,11 +248,10 @@ impl View {
     /// Where a transaction stands.
     fn standing(&self, t: u8, side: u8) -> String {
         let position = &self.outcome.course.position;
-        let sends = |step: &[u8; 4]| [3, 4].contains(&step[0]) && step[1] == side && step[2] == t;
         let standing = [
             ("; in the pool", position.in_pool(t)),
             ("; in the block being filled", position.in_block(t)),
-            ("; can be sent now", self.open.iter().any(sends)),
+            ("; can be sent now", self.can_send(t, side)),
         ];
         let standing = standing.iter().filter(|(_, holds)| *holds);
         standing.map(|(words, _)| *words).collect()

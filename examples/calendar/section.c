@@ -1,0 +1,180 @@
+#include "section.h"
+
+#include "lanes.h"
+#include "markup.h"
+#include "outlook.h"
+#include "screen.h"
+#include "sides.h"
+#include "words.h"
+
+/* A number after its name. */
+static void write_fact(FILE *page, const char *name, uint64_t number)
+{
+    fprintf(page, "; %s ", name);
+    write_number(page, number);
+}
+
+static void write_facts(FILE *page, const struct question *question, const struct entry *entry)
+{
+    const struct position *position = &entry->position;
+    const struct swap *swap = &entry->swap;
+
+    fprintf(page, "<p class=\"facts\">conduct %s", conduct_name(conduct_of(swap)));
+    write_fact(page, "stealth", stealth_of(swap));
+    write_fact(page, "blocks per day", blocks_per_day_of(swap));
+    write_fact(page, "steps accepted", position->steps);
+    write_fact(page, "blocks mined", position->mined);
+    if (entry->outage.last >= entry->outage.first) {
+        fputs("; outage in blocks ", page);
+        write_height(page, AS_HTML, question->base, entry->outage.first);
+        fputs(" to ", page);
+        write_height(page, AS_HTML, question->base, entry->outage.last);
+    } else {
+        fputs("; no outage", page);
+    }
+    fputs("</p>\n", page);
+}
+
+/* The confirmed transactions with payee and block, and the dead ones. */
+static void write_settled(FILE *page, const struct question *question, const struct entry *entry)
+{
+    const struct position *position = &entry->position;
+
+    fputs("<ul class=\"settled\">", page);
+    for (uint8_t t = 0; t < count_of(&entry->swap); t++) {
+        if (is_settled(entry, t)) {
+            fprintf(page, "<li>%s", transaction_label(&entry->swap, t).text);
+            if (is_confirmed(position, t)) {
+                fputs(": block ", page);
+                write_height(page, AS_HTML, question->base, block_of(position, t));
+                fprintf(page, ", to %s", destination_name(payee_of(position, t)));
+            } else {
+                fputs(": dead", page);
+            }
+            fputs("</li>", page);
+        }
+    }
+    fputs("</ul>\n", page);
+}
+
+/* Whether a transaction is of this kind for all sides that are shown, or else for one of them. */
+static bool has_kind(const struct entry *entry, uint8_t t, enum kind kind, bool all)
+{
+    for (size_t i = 0; i < SIDES; i++) {
+        bool shown = (entry->sides & sides[i].bit) != 0;
+
+        if (shown && (kind_of(&entry->position, &entry->outage, t, sides[i].party) == kind) != all) {
+            return !all;
+        }
+    }
+    return all;
+}
+
+/* What can happen to it, for one side. */
+static void write_side(FILE *page, const struct question *question, const struct entry *entry, uint8_t t, uint8_t side)
+{
+    enum kind kind = kind_of(&entry->position, &entry->outage, t, side);
+
+    fprintf(page, "<div>%s: ", party_name(side));
+    if (kind == WARNING) {
+        fputs("<b>WARNING</b>, ", page);
+    } else if (kind == BEFORE) {
+        fputs("due before the outage, ", page);
+    }
+    print_outlook(page, question, entry, t, side);
+    if (can_be_sent(&entry->position, side, t)) {
+        fputs("; can be sent now", page);
+    }
+    fputs("</div>", page);
+}
+
+static void write_heights(FILE *page, uint32_t base, const struct position *position, uint8_t t)
+{
+    const uint32_t heights[] = {lock_height_of(position, t), deadline_of(position, t), soonest_block_of(position, t),
+                                soonest_deadline_of(position, t)};
+    uint32_t left = blocks_left(position, t);
+
+    for (size_t i = 0; i < sizeof heights / sizeof heights[0]; i++) {
+        fputs("<td class=\"n\">", page);
+        write_height(page, AS_HTML, base, heights[i]);
+        fputs("</td>", page);
+    }
+    fprintf(page, "<td class=\"n\">%s</td>", left == SWAP_NEVER ? "-" : height_label(0, left).text);
+}
+
+static void write_row(FILE *page, const struct question *question, const struct entry *entry, uint8_t t,
+                      const struct axis *axis)
+{
+    const struct position *position = &entry->position;
+    bool warning = has_kind(entry, t, WARNING, false);
+    const char *class = warning ? "warning" : has_kind(entry, t, OTHERS, true) ? "others" : "calm";
+
+    fprintf(page, "<tr class=\"%s\"><th>%s</th><td>%s</td><td>%s</td>", class, transaction_label(&entry->swap, t).text,
+            payees_name(can_pay(position, t)), status_label(status_of(position, t)).text);
+    write_heights(page, question->base, position, t);
+    fputs("<td class=\"lane\">", page);
+    write_lane(page, axis, question, entry, t, warning);
+    fputs("</td><td>", page);
+    for (size_t i = 0; i < SIDES; i++) {
+        if ((entry->sides & sides[i].bit) != 0) {
+            write_side(page, question, entry, t, sides[i].party);
+        }
+    }
+    fputs("</td></tr>\n", page);
+}
+
+/* The name of a swap, and its warnings for each side. */
+static void write_title(FILE *page, const struct entry *entry)
+{
+    fputs("<h2><bdi>", page);
+    write_text(page, AS_HTML, entry->name);
+    fputs("</bdi>", page);
+    for (size_t i = 0; i < SIDES; i++) {
+        if ((entry->sides & sides[i].bit) != 0) {
+            size_t warnings = warnings_of(entry, &sides[i]);
+
+            fprintf(page, ", %s", party_name(sides[i].party));
+            if (warnings > 0) {
+                fprintf(page, ": <b>%lu WARNING%s</b>", (unsigned long)warnings, warnings > 1 ? "S" : "");
+            }
+        }
+    }
+    fputs("</h2>\n", page);
+}
+
+static void write_table(FILE *page, const struct question *question, const struct entry *entry, const struct axis *axis)
+{
+    uint32_t now = question->base + entry->position.mined;
+
+    fputs("<table>\n<thead><tr><th>transaction</th><th>pays</th><th>status</th><th class=\"n\">lock height</th>"
+          "<th class=\"n\">deadline</th><th class=\"n\">from</th><th class=\"n\">to</th><th class=\"n\">left</th>"
+          "<th class=\"lane\">blocks",
+          page);
+    write_axis(page, axis, &now);
+    fputs("</th><th class=\"after\">after that</th></tr></thead>\n<tbody>\n", page);
+    for (uint8_t t = 0; t < count_of(&entry->swap); t++) {
+        if (!is_settled(entry, t)) {
+            write_row(page, question, entry, t, axis);
+        }
+    }
+    fputs("</tbody>\n</table>\n", page);
+}
+
+void write_section(FILE *page, const struct question *question, const struct entry *entry, size_t number)
+{
+    struct axis axis = {.table = number, .span = 0};
+
+    for (uint8_t t = 0; t < count_of(&entry->swap); t++) {
+        if (!is_settled(entry, t)) {
+            widen(&axis, entry, t);
+        }
+    }
+    fprintf(page, "<section id=\"swap-%lu\">\n", (unsigned long)number);
+    write_title(page, entry);
+    write_facts(page, question, entry);
+    write_settled(page, question, entry);
+    if (axis.span > 0) {
+        write_table(page, question, entry, &axis);
+    }
+    fputs("</section>\n", page);
+}

@@ -1,0 +1,288 @@
+//! The calendar's JSON by the model, and its words for the page.
+
+use super::after::After;
+use super::rule::Kind;
+use super::view::View;
+use super::words::{destination_name, party_name};
+use super::{found, totals, Found, Length, Question};
+use crate::json::Value;
+use crate::model::calls;
+use crate::model::heights::{self, NEVER};
+use crate::model::setup::Conduct;
+use crate::model::{report, ALICE, BOB};
+use crate::samples::Files;
+
+/// "one object a swap", with what is asked and the totals before them.
+pub fn json(swaps: &[(String, Files)], question: &Question) -> Value {
+    let found: Vec<(String, Found)> = swaps
+        .iter()
+        .map(|(name, files)| (name.clone(), found(files, question)))
+        .collect();
+    let totals = totals(&found, question);
+    let totals = Value::object([
+        ("swaps", Value::number(totals.swaps)),
+        ("warnings", Value::number(totals.warnings)),
+        ("before", Value::number(totals.before)),
+        ("faulty", Value::number(totals.refused)),
+    ]);
+    let swaps = found
+        .iter()
+        .zip(swaps)
+        .map(|((name, found), (_, files))| swap(name, found, files, question));
+    Value::object([
+        ("question", asked(question)),
+        ("totals", totals),
+        ("swaps", Value::List(swaps.collect())),
+    ])
+}
+
+fn asked(question: &Question) -> Value {
+    let (unit, length) = match question.length {
+        Length::Days(days) => ("day", days),
+        Length::Blocks(blocks) => ("block", blocks),
+    };
+    Value::object([
+        ("unit", Value::text(unit)),
+        ("length", Value::number(length)),
+        ("from", question.from.map_or(Value::Null, Value::number)),
+        ("margin", Value::number(question.margin)),
+        ("base", Value::number(question.base)),
+    ])
+}
+
+/// A swap: its name, then what is to be told.
+fn swap(name: &str, found: &Found, files: &Files, question: &Question) -> Value {
+    let Value::Object(fields) = (match found {
+        Found::Sound(view, sides) => sound(view, sides, question),
+        Found::Faulty("UNREADABLE", reason) => unreadable(reason),
+        Found::Faulty(_, reason) => refused(reason, files),
+    }) else {
+        panic!("no object")
+    };
+    let name = ("name".to_string(), Value::text(name));
+    Value::Object([vec![name], fields].concat())
+}
+
+fn unreadable(reason: &str) -> Value {
+    let (file, reason) = reason.split_once(": ").expect("a file and a reason");
+    Value::object([
+        ("state", Value::text("unreadable")),
+        ("file", Value::text(file)),
+        ("reason", Value::text(reason)),
+    ])
+}
+
+/// The reason is "NAME (NUMBER), WORDS".
+fn refused(reason: &str, files: &Files) -> Value {
+    let [Some(sheet), Some(setup), Some(journal), _] = files else {
+        panic!("a refused swap is read")
+    };
+    let run = calls::run(sheet, setup, journal);
+    let (name, _) = reason.split_once(" (").expect("a name");
+    let (_, words) = reason.split_once("), ").expect("words");
+    Value::object([
+        ("state", Value::text("refused")),
+        ("refusal", Value::number(run.refusal)),
+        ("refusal_name", Value::text(name)),
+        ("reason", Value::text(words)),
+        ("steps", Value::number(run.accepted)),
+    ])
+}
+
+/// A height of the real chain; null is never.
+fn height(base: u32, height: u32) -> Value {
+    match height {
+        NEVER => Value::Null,
+        0 => Value::number(0u32),
+        _ => Value::number(base + height),
+    }
+}
+
+fn parties(parties: &[u8]) -> Value {
+    let names = parties.iter().map(|&party| Value::text(party_name(party)));
+    Value::List(names.collect())
+}
+
+/// The parties of a mask.
+fn payees(mask: u8) -> Value {
+    let parties_of: Vec<u8> = [ALICE, BOB]
+        .into_iter()
+        .filter(|party| mask >> party & 1 == 1)
+        .collect();
+    parties(&parties_of)
+}
+
+fn sound(view: &View, sides: &[u8], question: &Question) -> Value {
+    let outcome = view.outcome();
+    let outage = view.outage(question);
+    let conduct = match outcome.setup.conduct {
+        Conduct::Open => "open",
+        Conduct::Loose => "loose",
+        Conduct::Careful => "careful",
+    };
+    let blocks = match outage.last < outage.first {
+        true => Value::Null,
+        false => Value::object([
+            ("first", height(question.base, outage.first)),
+            ("last", height(question.base, outage.last)),
+        ]),
+    };
+    let all = 0..outcome.sheet.count();
+    let transactions = all.map(|t| transaction(view, sides, question, t));
+    Value::object([
+        ("state", Value::text("sound")),
+        ("sides", parties(sides)),
+        (
+            "blocks_per_day",
+            Value::number(outcome.setup.blocks_per_day),
+        ),
+        ("conduct", Value::text(conduct)),
+        ("stealth", Value::Bool(outcome.setup.stealth)),
+        ("steps", Value::number(outcome.course.accepted.len())),
+        ("mined", Value::number(outcome.course.position.mined)),
+        ("outage", blocks),
+        ("transactions", Value::List(transactions.collect())),
+    ])
+}
+
+fn transaction(view: &View, sides: &[u8], question: &Question, t: u8) -> Value {
+    let after = view.after(question.base);
+    let (sheet, setup, position) = (after.swap.sheet, after.swap.setup, after.swap.position);
+    let (payee, block) = match position.confirmed.get(&t) {
+        None => (Value::Null, Value::Null),
+        Some(confirmation) => (
+            Value::text(destination_name(confirmation.destination)),
+            height(question.base, confirmation.block),
+        ),
+    };
+    let lock_height = heights::lock_height(sheet, setup, position, t);
+    let settled = after.swap.kind(&view.outage(question), t, ALICE) == Kind::Settled;
+    let sides = sides.iter().map(|&side| verdict(view, question, t, side));
+    Value::object([
+        ("number", Value::number(t)),
+        ("name", Value::text(view.names.transaction(t))),
+        ("status", status(report::status(sheet, position, t))),
+        ("payee", payee),
+        ("block", block),
+        ("lock_height", height(question.base, lock_height)),
+        ("deadline", height(question.base, after.swap.deadline(t))),
+        ("pays", payees(after.swap.can_pay(t))),
+        (
+            "window",
+            match settled {
+                true => Value::Null,
+                false => window(&after, t),
+            },
+        ),
+        ("sides", Value::List(sides.collect())),
+    ])
+}
+
+fn status(status: u8) -> Value {
+    let words = [(1, "pool"), (2, "block"), (4, "confirmed"), (8, "dead")];
+    let standing = words.iter().filter(|(bit, _)| status & bit != 0);
+    Value::List(standing.map(|(_, word)| Value::text(*word)).collect())
+}
+
+fn window(after: &After, t: u8) -> Value {
+    let swap = &after.swap;
+    let (from, to) = (swap.soonest_block(t), swap.soonest_deadline(t));
+    let left = match to {
+        NEVER => Value::Null,
+        _ => Value::number(to.saturating_sub(swap.position.mined)),
+    };
+    let rival = swap.later_rival(t).filter(|_| to != NEVER);
+    let otherwise = rival.map_or(Value::Null, |rival| {
+        Value::object([
+            ("number", Value::number(rival)),
+            ("name", Value::text(after.names.transaction(rival))),
+            ("pays", payees(swap.can_pay(rival))),
+            ("from", height(after.base, to + 1)),
+        ])
+    });
+    let parent = swap.sheet.transaction(t).parent;
+    let parent = parent.filter(|_| to != swap.deadline(t));
+    let hangs_on = parent.map_or(Value::Null, |parent| {
+        Value::object([
+            ("number", Value::number(parent)),
+            ("name", Value::text(after.names.transaction(parent))),
+            ("block", height(after.base, swap.soonest_block(parent))),
+        ])
+    });
+    Value::object([
+        ("from", height(after.base, from)),
+        ("to", height(after.base, to)),
+        ("left", left),
+        ("else", otherwise),
+        ("if", hangs_on),
+    ])
+}
+
+/// What the outage does to a transaction for a side.
+fn verdict(view: &View, question: &Question, t: u8, side: u8) -> Value {
+    let kind = match view.swap().kind(&view.outage(question), t, side) {
+        Kind::Warning => "warning",
+        Kind::Before => "before",
+        Kind::Ahead => "ahead",
+        Kind::Sent => "sent",
+        Kind::Free => "free",
+        Kind::Others => "others",
+        Kind::Settled => "settled",
+    };
+    let rivals = view.swap().in_the_way(view.open(), t, side);
+    let rivals = rivals.into_iter().map(|(rival, sent)| {
+        Value::object([
+            ("number", Value::number(rival)),
+            ("name", Value::text(view.names.transaction(rival))),
+            ("sent", Value::Bool(sent)),
+        ])
+    });
+    Value::object([
+        ("side", Value::text(party_name(side))),
+        ("outage", Value::text(kind)),
+        ("can_send", Value::Bool(view.can_send(t, side))),
+        ("rivals", Value::List(rivals.collect())),
+    ])
+}
+
+/// The page's words for a transaction of a sound swap that is not settled, a text for each side.
+pub fn words(files: &Files, question: &Question, t: u8) -> Vec<String> {
+    let Found::Sound(view, sides) = found(files, question) else {
+        panic!("no sound swap")
+    };
+    sides
+        .iter()
+        .map(|&side| side_words(&view, question, t, side))
+        .collect()
+}
+
+fn side_words(view: &View, question: &Question, t: u8, side: u8) -> String {
+    let after = view.after(question.base);
+    let outage = view.outage(question);
+    let otherwise = || after.otherwise(t) + &after.hangs_on("", t);
+    let before = || match question.from {
+        None => String::new(),
+        Some(_) => after.before(&outage, t),
+    };
+    let passed = after.swap.soonest_deadline(t) <= after.swap.position.mined;
+    let mut words = match after.swap.kind(&outage, t, side) {
+        Kind::Warning if passed => {
+            let otherwise = otherwise();
+            format!("WARNING, passed, a hand-in may save it, {otherwise}")
+        }
+        Kind::Warning => format!("WARNING, {}{}", before(), otherwise()),
+        Kind::Before => format!("due before the outage, {}{}", before(), otherwise()),
+        Kind::Ahead => otherwise(),
+        Kind::Sent => "sent, box not needed".to_string(),
+        Kind::Free => "no deadline ahead".to_string(),
+        Kind::Others => "the other side's".to_string(),
+        Kind::Settled => panic!("transaction {t} is settled"),
+    };
+    if after.swap.kind(&outage, t, side) != Kind::Others {
+        words += &after.in_the_way(t, side);
+    }
+    if view.can_send(t, side) {
+        words += "; can be sent now";
+    }
+    format!("{}: {words}", party_name(side))
+}

@@ -1,0 +1,467 @@
+//! The calendar's page and its JSON, by the program built with sanitizers: read by strict readers, and each number and word
+//! held to the model; names that would break out of the text; and files that must not be written.
+
+use std::collections::BTreeMap;
+use std::ffi::{OsStr, OsString};
+use std::fs;
+use std::os::unix::ffi::{OsStrExt, OsStringExt};
+use std::path::{Path, PathBuf};
+use std::process::{Command, Output};
+use std::sync::OnceLock;
+use swap_tests::calendar::{self, data, page, Length, Question};
+use swap_tests::json::{self, Value};
+use swap_tests::markup;
+use swap_tests::model::{ALICE, BOB};
+use swap_tests::random::{self, Random};
+use swap_tests::samples::{self, Files};
+
+fn top() -> PathBuf {
+    let top = Path::new(env!("CARGO_MANIFEST_DIR")).join("..");
+    top.canonicalize().expect("the repository")
+}
+
+/// The calendar with sanitizers, built once.
+fn program() -> &'static Path {
+    static BUILT: OnceLock<PathBuf> = OnceLock::new();
+    BUILT.get_or_init(|| {
+        let program = top().join("target/c/calendar_pages");
+        let mut build = Command::new(top().join("examples/calendar/build"));
+        let flags = [
+            "-g",
+            "-O1",
+            "-fsanitize=address,undefined",
+            "-fno-sanitize-recover=all",
+        ];
+        let status = build.arg(&program).args(flags).status();
+        assert!(status.expect("the build runs").success());
+        program
+    })
+}
+
+/// An empty folder of this name.
+fn folder(name: &str) -> PathBuf {
+    let folder = Path::new(env!("CARGO_TARGET_TMPDIR")).join(name);
+    let _ = fs::remove_dir_all(&folder);
+    fs::create_dir_all(&folder).expect("a folder");
+    folder
+}
+
+/// Runs the calendar in a folder. One that waits for ever is ended.
+fn run<S: AsRef<OsStr>>(from: &Path, arguments: &[S]) -> Output {
+    let mut command = Command::new("timeout");
+    command.arg("300").arg(program()).args(arguments);
+    command
+        .current_dir(from)
+        .output()
+        .expect("the calendar runs")
+}
+
+fn arguments(question: &Question) -> Vec<String> {
+    let mut words = match question.length {
+        Length::Days(days) => format!("--days {days}"),
+        Length::Blocks(blocks) => format!("--blocks {blocks}"),
+    };
+    words += &format!(" --margin {} --base {}", question.margin, question.base);
+    if let Some(from) = question.from {
+        words += &format!(" --from {from}");
+    }
+    if let Some(side) = question.side {
+        words += &format!(" --side {}", ["alice", "bob"][usize::from(side)]);
+    }
+    words.split(' ').map(str::to_string).collect()
+}
+
+/// The page and the JSON of the swaps in a folder, held to the model; the counts of bars by name.
+fn compare(
+    folder: &Path,
+    swaps: &[(String, Files)],
+    question: &Question,
+) -> BTreeMap<String, usize> {
+    let file = folder.with_extension("html");
+    let mut words = arguments(question);
+    words.extend(["--json", "--html"].map(str::to_string));
+    words.push(file.to_str().expect("a name").to_string());
+    words.push(folder.to_str().expect("a name").to_string());
+    let output = run(&top(), &words);
+    let expected = data::json(swaps, question);
+    let printed = String::from_utf8(output.stdout).expect("UTF-8");
+    let read = json::read(&printed).expect("JSON");
+    for (read, expected) in read
+        .get("swaps")
+        .list()
+        .iter()
+        .zip(expected.get("swaps").list())
+    {
+        assert_eq!(read, expected, "with {question:?}");
+    }
+    assert_eq!(read, expected, "with {question:?}");
+    let totals = calendar::text(swaps, question).1;
+    assert_eq!(output.status.code(), Some(totals.status()));
+    let written = fs::read_to_string(&file).expect("a page in UTF-8");
+    let read = markup::read(&written).expect("a page");
+    page::check_self_contained(&read);
+    page::check_overview(&read, swaps, &expected, question);
+    page::check_sections(&read, swaps, &expected, question);
+    let mut bars = BTreeMap::new();
+    for bar in read.named("section").iter().flat_map(|s| s.named("rect")) {
+        *bars.entry(bar.get("class").to_string()).or_insert(0) += 1;
+    }
+    bars
+}
+
+fn written(name: &str, swaps: &[(String, Files)]) -> PathBuf {
+    let folder = folder(name);
+    for (name, files) in swaps {
+        samples::write(&folder.join(name), files).expect("a folder to write to");
+    }
+    folder
+}
+
+fn blocks(blocks: u32) -> Question {
+    Question {
+        length: Length::Blocks(blocks),
+        ..Question::default()
+    }
+}
+
+/// Questions of every sort.
+fn questions() -> Vec<Question> {
+    let plain = Question::default();
+    vec![
+        plain,
+        blocks(0),
+        Question {
+            margin: 3,
+            side: Some(ALICE),
+            ..blocks(2)
+        },
+        Question {
+            from: Some(6),
+            side: Some(BOB),
+            ..blocks(3)
+        },
+        Question {
+            from: Some(700_020),
+            base: 700_000,
+            margin: 7,
+            ..blocks(5)
+        },
+        Question {
+            length: Length::Days(999_999),
+            margin: 999_999_999,
+            ..plain
+        },
+    ]
+}
+
+#[test]
+fn stored_samples() {
+    for name in ["swaps", "desk", "refused"] {
+        let swaps = samples::in_folder(name);
+        let folder = written(&format!("pages_{name}"), &swaps);
+        for question in questions() {
+            let bars = compare(&folder, &swaps, &question);
+            println!("{name}, {question:?}: {bars:?}");
+        }
+    }
+}
+
+/// The forty swaps at one day: 24 warnings, each with a part of its bar covered, and one that runs past the axis.
+#[test]
+fn desk_of_forty() {
+    let swaps = samples::in_folder("desk");
+    let folder = written("pages_forty", &swaps);
+    let bars = compare(&folder, &swaps, &Question::default());
+    assert_eq!(bars["covered"], 24);
+    assert!(bars["window"] > 100 && bars["outage"] > 200 && !bars.contains_key("margin"));
+    let none = compare(&folder, &swaps, &blocks(0));
+    assert!(!none.contains_key("covered") && !none.contains_key("outage"));
+}
+
+fn random_swaps(random: &mut Random, count: usize) -> Vec<(String, Files)> {
+    let swap = |i: usize| {
+        let (sheet, setup) = random::game(random);
+        let manner = random::Manner {
+            wrong: if i % 8 == 0 { 30 } else { 0 },
+            leap: 10,
+            ..random::manner(random, 60)
+        };
+        let journal = random::journal(random, &sheet, &setup, manner);
+        let side = random.pick(&[None, None, Some("alice\n"), Some("bob"), Some("Bob\n")]);
+        let side = side.map(|name| name.as_bytes().to_vec());
+        (
+            format!("{i:03}"),
+            [Some(sheet), Some(setup), Some(journal), side],
+        )
+    };
+    (0..count).map(swap).collect()
+}
+
+#[test]
+fn random_swaps_as_by_the_model() {
+    let mut random = Random::new(71);
+    let swaps = random_swaps(&mut random, 150);
+    let folder = written("pages_random", &swaps);
+    let mut sums: BTreeMap<String, usize> = BTreeMap::new();
+    for question in questions() {
+        for (name, count) in compare(&folder, &swaps, &question) {
+            *sums.entry(name).or_insert(0) += count;
+        }
+    }
+    println!("{sums:?}");
+    assert!(["outage", "margin", "window", "covered"]
+        .iter()
+        .all(|&name| sums[name] > 200));
+}
+
+/// Names of folders, and their text.
+const NAMES: [(&[u8], &str); 9] = [
+    (b"\"'", "\"'"),
+    (b"&amp;", "&amp;"),
+    (b"<b>bold<!--", "<b>bold<!--"),
+    (b"<script>alert(1)", "<script>alert(1)"),
+    (b"back\\slash\\u0041", "back\\slash\\u0041"),
+    (b"tab\tline\nend", "tab\tline\nend"),
+    (
+        "\u{202e}\u{20ac}\u{1f512}".as_bytes(),
+        "\u{202e}\u{20ac}\u{1f512}",
+    ),
+    (
+        b"\xed\xa0\x80\xc0\xaf",
+        "\u{fffd}\u{fffd}\u{fffd}\u{fffd}\u{fffd}",
+    ),
+    (b"\xff<", "\u{fffd}<"),
+];
+
+/// Names that are markup, quotes, control characters, and no UTF-8.
+#[test]
+fn names_are_text() {
+    let sound = samples::in_folder("swaps/standing").remove(0).1;
+    let faulty = samples::in_folder("refused/late_step").remove(0).1;
+    for files in [sound, faulty] {
+        let folder = folder("pages <names>&");
+        for (bytes, _) in NAMES {
+            let path = folder.join(OsString::from_vec(bytes.to_vec()));
+            samples::write(&path, &files).expect("a folder to write to");
+        }
+        let swap = |(_, name): &(&[u8], &str)| (name.to_string(), files.clone());
+        let swaps: Vec<(String, Files)> = NAMES.iter().map(swap).collect();
+        let shown =
+            |(name, files): &(String, Files)| (name.replace(['\t', '\n'], "?"), files.clone());
+        let shown: Vec<(String, Files)> = swaps.iter().map(shown).collect();
+        let file = folder.with_extension("html");
+        let arguments = [
+            OsStr::new("--json"),
+            OsStr::new("--html"),
+            file.as_ref(),
+            folder.as_ref(),
+        ];
+        let output = run(&top(), &arguments);
+        let read = json::read(&String::from_utf8(output.stdout).expect("UTF-8")).expect("JSON");
+        let expected = data::json(&swaps, &Question::default());
+        assert_eq!(read, expected);
+        let read = markup::read(&fs::read_to_string(&file).expect("UTF-8")).expect("a page");
+        assert!(read.named("title")[0].text().ends_with("pages <names>&"));
+        page::check_self_contained(&read);
+        page::check_overview(&read, &shown, &expected, &Question::default());
+        page::check_sections(&read, &swaps, &expected, &Question::default());
+    }
+}
+
+/// All below a folder: names, kinds, contents of plain files.
+fn state(folder: &Path) -> BTreeMap<OsString, (bool, Vec<u8>)> {
+    let entries = fs::read_dir(folder).expect("a folder");
+    let entry = |entry: fs::DirEntry| {
+        let plain = entry.file_type().expect("a kind").is_file();
+        let bytes = if plain {
+            fs::read(entry.path()).expect("a file")
+        } else {
+            Vec::new()
+        };
+        (entry.file_name(), (plain, bytes))
+    };
+    entries
+        .map(|found| entry(found.expect("an entry")))
+        .collect()
+}
+
+/// A folder with a swap, an old page, and what is no plain file.
+fn occupied(name: &str) -> PathBuf {
+    let folder = folder(name);
+    samples::write(&folder.join("swap"), &samples::revoked()).expect("a swap");
+    fs::create_dir(folder.join("empty")).expect("a folder");
+    fs::write(folder.join("old.html"), "old").expect("a file");
+    let made = Command::new("mkfifo").arg(folder.join("pipe")).status();
+    assert!(made.expect("mkfifo runs").success());
+    let link = |to: &str, name: &str| std::os::unix::fs::symlink(to, folder.join(name));
+    link("/dev/full", "device").expect("a link");
+    link("nowhere", "broken").expect("a link");
+    folder
+}
+
+/// Exit status, arguments, and the message.
+const REFUSED: [(i32, &str, &str); 14] = [
+    (1, "--html pipe swap", "calendar: pipe: not a plain file\n"),
+    (
+        1,
+        "--html device swap",
+        "calendar: device: not a plain file\n",
+    ),
+    (
+        1,
+        "--html broken swap",
+        "calendar: broken: not a plain file\n",
+    ),
+    (
+        1,
+        "--html empty swap",
+        "calendar: empty: not a plain file\n",
+    ),
+    (
+        1,
+        "--html empty/ swap",
+        "calendar: empty/: Is a directory\n",
+    ),
+    (
+        1,
+        "--html no/page swap",
+        "calendar: no/page: No such file or directory\n",
+    ),
+    (
+        1,
+        "--html old.html/page swap",
+        "calendar: old.html/page: Not a directory\n",
+    ),
+    (
+        1,
+        "--html old.html nowhere",
+        "calendar: nowhere: No such file or directory\n",
+    ),
+    (
+        1,
+        "--html new.html nowhere",
+        "calendar: nowhere: No such file or directory\n",
+    ),
+    (
+        1,
+        "--html old.html empty",
+        "calendar: empty: no swap here\n",
+    ),
+    (
+        2,
+        "--html old.html --size swap",
+        "calendar: --size: no such argument\n",
+    ),
+    (
+        2,
+        "--html old.html --html new.html swap",
+        "calendar: --html new.html: given twice\n",
+    ),
+    (2, "swap --html", "calendar: --html: no value\n"),
+    (
+        2,
+        "--html old.html --json --full swap",
+        "calendar: --json: not beside --full\n",
+    ),
+];
+
+#[test]
+fn nothing_is_written() {
+    let folder = occupied("pages_refused");
+    let before = state(&folder);
+    for (status, words, message) in REFUSED {
+        let arguments: Vec<&str> = words.split(' ').collect();
+        let output = run(&folder, &arguments);
+        let told = String::from_utf8_lossy(&output.stderr);
+        assert!(told.starts_with(message), "{words}: {told}");
+        assert_eq!(
+            (output.status.code(), output.stdout.len()),
+            (Some(status), 0),
+            "{words}"
+        );
+        assert_eq!(state(&folder), before, "{words}");
+    }
+}
+
+/// A page that does not fit on the disk leaves the old one as it is, and nothing beside it.
+#[test]
+fn page_is_written_whole_or_not() {
+    let folder = occupied("pages_whole");
+    let before = state(&folder);
+    let script = "trap '' XFSZ; ulimit -f 4; exec \"$0\" --html old.html swap";
+    let mut command = Command::new("bash");
+    command
+        .args(["-c", script])
+        .arg(program())
+        .current_dir(&folder);
+    let output = command.output().expect("bash runs");
+    let told = String::from_utf8_lossy(&output.stderr);
+    assert_eq!(
+        (output.status.code(), &*told),
+        (Some(1), "calendar: old.html: File too large\n")
+    );
+    assert_eq!(state(&folder), before);
+    let output = run(&folder, &["--html", "old.html", "swap"]);
+    let after = state(&folder);
+    assert_eq!(output.status.code(), Some(3));
+    assert_eq!(
+        after.keys().collect::<Vec<_>>(),
+        before.keys().collect::<Vec<_>>()
+    );
+    let page = &after[OsStr::from_bytes(b"old.html")].1;
+    markup::read(std::str::from_utf8(page).expect("UTF-8")).expect("a page");
+}
+
+/// The example of `docs/FORMATS.md`.
+#[test]
+fn example_of_the_document() {
+    let document = fs::read_to_string(top().join("docs/FORMATS.md")).expect("the document");
+    let (_, rest) = document
+        .split_once("```json calendar\n")
+        .expect("an example");
+    let (example, _) = rest.split_once("```").expect("its end");
+    let swaps = samples::in_folder("swaps/numbers");
+    let expected = data::json(&swaps, &Question::default());
+    assert_eq!(json::read(example), Ok(expected));
+}
+
+/// The readers refuse what is not well-formed.
+#[test]
+fn readers_are_strict() {
+    let sound = "{\"a\": [1, null, true, \"x\\u0041\"], \"b\": {}}";
+    let read = json::read(sound).expect("JSON");
+    assert_eq!(read.get("a").list()[3], Value::text("xA"));
+    let wrong = [
+        "",
+        "{\"a\": 1,}",
+        "[1 2]",
+        "01",
+        "\"\n\"",
+        "{\"a\": 1, \"a\": 2}",
+        "[1] x",
+        "\"\\x\"",
+        "-1",
+        "nul",
+    ];
+    for text in wrong {
+        assert!(json::read(text).is_err(), "{text}");
+    }
+    let page = |body: &str| markup::read(&format!("<!DOCTYPE html>\n<html>{body}</html>\n"));
+    let read = page("<p class=\"a\">x &lt;&amp; <rect/></p>").expect("a page");
+    assert_eq!((read.text().as_str(), read.named("p").len()), ("x <& ", 1));
+    let wrong = [
+        "<p>",
+        "</p>",
+        "<p></b>",
+        "a & b",
+        "a > b",
+        "<p x=1></p>",
+        "<p x=\"1\" x=\"1\"></p>",
+        "<p/>",
+        "&nbsp;",
+        "\t",
+    ];
+    for body in wrong {
+        assert!(page(body).is_err(), "{body}");
+    }
+}
