@@ -5,17 +5,15 @@ use native.Mathlib.Omega.{arith}
 use mathlib.Core.Path.{_≡_, refl, ap, _∙_}
 use mathlib.Core.Bool.{true}
 use mathlib.Core.List.{List, [], _∷_, _++_}
-use lib.Dec.{eqb}
 use lib.ListN.{length, length-append}
-use borrow.Author.Tests.{eq-eqb, eqb-false, le-leb}
-use Rattle.laws.specs.Booleans.{split}
+use borrow.Author.Tests.{eq-eqb, le-leb}
 use Rattle.laws.specs.Failing.{firstFailing}
 use Rattle.sheet.specs.Refusal.{accepted}
 use Rattle.position.specs.declared.Position.{Position}
 use Rattle.position.specs.Position.{start}
 use Rattle.position.specs.Play.{FourBytes, journalSteps, step, runFrom, journalRight, callTests, run}
 use Rattle.runs.proofs.Calls.{sheet-passes, setup-passes, journal-whole}
-use Rattle.runs.proofs.Runs.{run-next, run-stops, run-ends, run-allowed}
+use Rattle.runs.proofs.Runs.{run-next, run-ends, row-append, run-allowed}
 use Rattle.asks.specs.Ask.{stepCount, stepOf}
 use Rattle.asks.proofs.Opens.{after-setup, call-tests, run-checked}
 
@@ -44,17 +42,6 @@ unfolding stepCount
 one-more j b h f = rw (steps-append j b h, steps-four b f) (length-append (journalSteps j) (stepOf b ∷ []))
 
 module _ (s u : List ℕ) where
-  -- a row that is accepted goes on with what follows it
-  row-append : (bs cs : List FourBytes) (c : ℕ) (p : Position) → runFrom s u bs c p .refusal ≡ 0
-      → runFrom s u (bs ++ cs) c p ≡ runFrom s u cs (runFrom s u bs c p .accepted) (runFrom s u bs c p .position)
-  row-append [] cs c p h = rw (run-ends s u c p)
-  row-append (b ∷ bs) cs c p h =
-      split (eqb (step s u p b .refusal) accepted)
-      (λ e.
-      let n = run-next s u b bs c p e in
-      run-next s u b (bs ++ cs) c p e ∙ rw n (row-append bs cs (c + 1) (step s u p b .position) (rw n at h)))
-      (λ e. absurd (eqb-false (step s u p b .refusal) accepted e (rw (run-stops s u b bs c p e) at h)))
-
   -- a row of one accepted step
   row-one : (b : FourBytes) (c : ℕ) (p : Position) → step s u p b .refusal ≡ 0 → (runFrom s u (b ∷ []) c p .refusal ≡ 0) × (runFrom s u (b ∷ []) c p .accepted ≡ c + 1)
   row-one b c p h = rw (run-next s u b [] c p (eq-eqb (step s u p b .refusal) accepted h), run-ends s u (c + 1) (step s u p b .position)) (refl, refl)
@@ -85,5 +72,5 @@ module _ (s u : List ℕ) where
         → (run s u (j ++ b) .refusal ≡ 0) × (run s u (j ++ b) .accepted ≡ run s u j .accepted + 1)
     run-appended m g =
         let e = run-allowed s u j passed in
-        rw (run-allowed s u (j ++ b) (checked m), steps-append j b whole, steps-four b f, row-append (journalSteps j) (stepOf b ∷ []) 0 (start s) (rw e at z), ← e)
+        rw (run-allowed s u (j ++ b) (checked m), steps-append j b whole, steps-four b f, row-append s u (journalSteps j) (stepOf b ∷ []) 0 (start s) (rw e at z), ← e)
         (row-one (stepOf b) (run s u j .accepted) (run s u j .position) g)

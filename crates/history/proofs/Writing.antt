@@ -19,7 +19,7 @@ use Rattle.position.specs.Position.{start}
 use Rattle.position.specs.Play.{FourBytes, journalSteps, journalBytes, step, acceptedOf}
 use Rattle.position.specs.Forms.Journal.{stepAt}
 use Rattle.history.specs.Forms.Steps.{taken}
-use Rattle.runs.proofs.Groups.{groupsFrom, groups-all, groups-none}
+use Rattle.runs.proofs.Groups.{bytes-append, no-bytes, groupsFrom, groups-all, groups-none}
 use Rattle.history.proofs.Playing.{accepted-none, accepted-turn}
 
 -- the bytes of the step at place i where it was accepted
@@ -27,15 +27,6 @@ pub taken-bytes : (j : List ℕ) (i n : ℕ)
     → emitted (eqb n 0) (byte j i) (byte j (i + 1)) (byte j (i + 2)) (byte j (i + 3)) ≡ journalBytes (taken n (stepAt j i))
 unfolding emitted journalBytes taken stepAt
 taken-bytes j i n = split (eqb n 0) (λ h. rw h) (λ h. rw h)
-
-bytes-append : (x y : List FourBytes) → journalBytes (x ++ y) ≡ journalBytes x ++ journalBytes y
-unfolding journalBytes
-bytes-append [] y = refl
-bytes-append (b ∷ x) y = ap (λ r. b .kind ∷ b .party ∷ b .transaction ∷ b .destination ∷ r) (bytes-append x y)
-
-no-bytes : journalBytes [] ≡ []
-unfolding journalBytes
-no-bytes = refl
 
 module _ (s u j : List ℕ) where
   -- the bytes of the accepted steps from group k on

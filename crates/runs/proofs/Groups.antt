@@ -3,11 +3,11 @@
 use Prim.Native.Nat.{ℕ, suc, _+_, _*_, _≤_, _<_}
 use native.Mathlib.Omega.{arith}
 use mathlib.Core.Path.{_≡_, refl, ap, _∙_}
-use mathlib.Core.List.{List, [], _∷_}
+use mathlib.Core.List.{List, [], _∷_, _++_}
 use lib.ListN.{length, drop, length-drop}
 use lib.Seq.{drop-cons}
 use Rattle.sheet.specs.Field.{byte}
-use Rattle.position.specs.Play.{FourBytes, journalSteps}
+use Rattle.position.specs.Play.{FourBytes, journalSteps, journalBytes}
 use Rattle.position.specs.Forms.Journal.{stepAt}
 
 -- one byte in front, and four
@@ -28,6 +28,16 @@ few-bytes (k ∷ []) h = refl
 few-bytes (k ∷ a ∷ []) h = refl
 few-bytes (k ∷ a ∷ t ∷ []) h = refl
 few-bytes (k ∷ a ∷ t ∷ d ∷ l) h = absurd (omega arith)
+
+-- the bytes of a row of steps, and of no step
+pub bytes-append : (x y : List FourBytes) → journalBytes (x ++ y) ≡ journalBytes x ++ journalBytes y
+unfolding journalBytes
+bytes-append [] y = refl
+bytes-append (b ∷ x) y = ap (λ r. b .kind ∷ b .party ∷ b .transaction ∷ b .destination ∷ r) (bytes-append x y)
+
+pub no-bytes : journalBytes [] ≡ []
+unfolding journalBytes
+no-bytes = refl
 
 -- the groups from number k on
 unfoldable pub groupsFrom : List ℕ → ℕ → List FourBytes

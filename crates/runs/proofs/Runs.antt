@@ -3,7 +3,7 @@
 use Prim.Native.Nat.{ℕ, _+_, _*_, _≤_, _<_}
 use mathlib.Core.Path.{_≡_, refl, sym, _∙_}
 use mathlib.Core.Bool.{true, false}
-use mathlib.Core.List.{List, [], _∷_}
+use mathlib.Core.List.{List, [], _∷_, _++_}
 use lib.Dec.{eqb}
 use lib.ListN.{length}
 use borrow.Author.Tests.{eq-eqb, ne-eqb, eqb-true, eqb-false}
@@ -33,6 +33,17 @@ module _ (s u : List ℕ) where
   pub run-ends : (c : ℕ) (p : Position) → runFrom s u [] c p ≡ record { refusal = accepted; accepted = c; position = p }
   unfolding runFrom
   run-ends c p = refl
+
+  -- a row that is accepted goes on with what follows it
+  pub row-append : (bs cs : List FourBytes) (c : ℕ) (p : Position) → runFrom s u bs c p .refusal ≡ 0
+      → runFrom s u (bs ++ cs) c p ≡ runFrom s u cs (runFrom s u bs c p .accepted) (runFrom s u bs c p .position)
+  row-append [] cs c p h = rw (run-ends c p)
+  row-append (b ∷ bs) cs c p h =
+      split (eqb (step s u p b .refusal) accepted)
+      (λ e.
+      let n = run-next b bs c p e in
+      run-next b (bs ++ cs) c p e ∙ rw n (row-append bs cs (c + 1) (step s u p b .position) (rw n at h)))
+      (λ e. absurd (eqb-false (step s u p b .refusal) accepted e (rw (run-stops b bs c p e) at h)))
 
 module _ (s u j : List ℕ) where
   -- what is left to do of the journal: its steps from step k on, after k accepted ones
