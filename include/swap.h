@@ -65,7 +65,9 @@ extern "C" {
     X(SWAP_BLOCKS_LEDGER, 31, "the ledger refuses the block list") \
     X(SWAP_ENDING_FIELD, 33, "a mask beyond the sheet or with a contract transaction, or destinations that don't fit it") \
     X(SWAP_ENDING_IMPOSSIBLE, 34, "no accepted block list confirms the ending") \
-    X(SWAP_COUNT_STALE, 35, "the journal has another count of steps")
+    X(SWAP_COUNT_STALE, 35, "the journal has another count of steps") \
+    X(SWAP_JOURNAL_LONG, 36, "the journal has over 1,024 steps") \
+    X(SWAP_NONE_REFUSED, 37, "no step of the journal is refused")
 
 /* SWAP_ACCEPTED = 0, SWAP_SHEET_SHORT = 1 and so on. */
 enum swap_refusal {
@@ -386,6 +388,23 @@ uint32_t swap_commit(const uint8_t *sheet, size_t sheet_length,
                      uint32_t count,
                      uint8_t *buffer, size_t buffer_length,
                      uint32_t size);
+
+/*
+ * Writes the few steps of a refused journal that matter, 4 bytes each: steps of the journal in their old order, of which
+ * the last is the refused one. Run as a journal, they are accepted up to it, and it gets the same refusal; without any one
+ * of the others that is lost. Of such parts it is the one that is left when the steps are gone through from the first,
+ * each that can go is dropped, and this is repeated until a full round drops none.
+ *
+ * Refusals 1 to 10; 24; 36 where the journal has over 1,024 steps; 37 where no step of it is refused; 25. The count is the
+ * number of steps written, 1 at least, and 0 under a refusal. The output takes up 4 * count bytes, 4,096 (SWAP_SHRINK_SIZE)
+ * at most. Refusal 25, the last, says that the buffer is shorter than that. Bytes after the output keep their values, and
+ * under a refusal all bytes do.
+ */
+#define SWAP_SHRINK_SIZE (4 * 1024)
+uint32_t swap_shrink(const uint8_t *sheet, size_t sheet_length,
+                     const uint8_t *setup, size_t setup_length,
+                     const uint8_t *journal, size_t journal_length,
+                     uint8_t *output, size_t output_length);
 
 #ifdef __cplusplus
 }

@@ -97,6 +97,16 @@ extern "C" {
         step: *const u8,
         step_length: usize,
     ) -> u32;
+    fn swap_shrink(
+        sheet: *const u8,
+        sheet_length: usize,
+        setup: *const u8,
+        setup_length: usize,
+        journal: *const u8,
+        journal_length: usize,
+        output: *mut u8,
+        output_length: usize,
+    ) -> u32;
     fn swap_commit(
         sheet: *const u8,
         sheet_length: usize,
@@ -164,6 +174,11 @@ fn lent(call: Writes, sheet: &[u8], setup: &[u8], journal: &[u8], output: &mut [
 /// The engine's list of open steps, in one number.
 pub fn list(sheet: &[u8], setup: &[u8], journal: &[u8], output: &mut [u8]) -> u32 {
     lent(swap_list, sheet, setup, journal, output)
+}
+
+/// The engine's few steps of a refused journal, in one number.
+pub fn shrink(sheet: &[u8], setup: &[u8], journal: &[u8], output: &mut [u8]) -> u32 {
+    lent(swap_shrink, sheet, setup, journal, output)
 }
 
 /// The engine's report, in one number.

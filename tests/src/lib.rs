@@ -14,4 +14,5 @@ pub mod older;
 pub mod random;
 pub mod rounds;
 pub mod samples;
+pub mod slow;
 pub mod swapfile;

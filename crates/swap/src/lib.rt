@@ -10,6 +10,7 @@ use pages::page;
 use reports::report;
 use runs::journal::ran;
 use sheet::check::sheet_refusal;
+use shrink::shrink;
 use timelocks::timelocks;
 ghost use mathlib.Core.Path.{_≡_};
 ghost use Rattle.sheet.specs.Check.{sheetRefusal};
@@ -23,6 +24,7 @@ ghost use Rattle.blocks.specs.BlockList.{blocksRefusal};
 ghost use Rattle.earliest.specs.Answer.{earliestAnswer};
 ghost use Rattle.asks.specs.Ask.{askAnswer};
 ghost use Rattle.asks.specs.Commit.{commitAnswer};
+ghost use Rattle.shrink.specs.Shrink.{shrinkAnswer};
 
 // Checks a sheet: refusal × 65,536.
 #[no_mangle]
@@ -149,4 +151,14 @@ pub extern "C" fn swap_commit(
     ensures { λ _. ⌜ now (buffer .exit) ≡ commitAnswer (now (sheet .entry)) (now (setup .entry)) (now (step .entry)) count (now (buffer .entry)) size .buffer ⌝ }
 {
     commit(sheet, setup, step, count, buffer, size) * 65536
+}
+
+// Writes the few steps of a refused journal that matter: refusal × 65,536 + the steps written.
+#[no_mangle]
+pub extern "C" fn swap_shrink(sheet: &[u8], setup: &[u8], journal: &[u8], out: &mut [u8]) -> u32
+    ensures { λ r. ⌜ r ≡ packed (shrinkAnswer (now (sheet .entry)) (now (setup .entry)) (now (journal .entry)) (now (out .entry)) .refusal) (shrinkAnswer (now (sheet .entry)) (now (setup .entry)) (now (journal .entry)) (now (out .entry)) .count) ⌝ }
+    ensures { λ r. ⌜ now (out .exit) ≡ shrinkAnswer (now (sheet .entry)) (now (setup .entry)) (now (journal .entry)) (now (out .entry)) .buffer ⌝ }
+{
+    let shrunk = shrink(sheet, setup, journal, out);
+    shrunk.refusal * 65536 + shrunk.count
 }

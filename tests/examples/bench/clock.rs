@@ -33,7 +33,7 @@ extern "C" {
 const THREAD: i32 = 3;
 
 /// The time that this thread has had a processor: what other programs take meanwhile does not count.
-fn thread_time() -> Duration {
+pub fn thread_time() -> Duration {
     let mut time = Timespec {
         seconds: 0,
         nanoseconds: 0,

@@ -6,6 +6,7 @@
 mod blocks;
 mod clock;
 mod desk;
+mod shrink;
 mod works;
 
 use clock::{measure, steps, Buffer, Times};
@@ -143,4 +144,5 @@ fn main() {
     growth_with_transactions("rivals", works::rivals);
     desk::rates();
     blocks::rates();
+    shrink::rates();
 }

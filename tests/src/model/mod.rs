@@ -22,6 +22,7 @@ pub mod position;
 pub mod report;
 pub mod setup;
 pub mod sheet;
+pub mod shrink;
 pub mod slips;
 pub mod step;
 pub mod swapreport;

@@ -1,0 +1,12 @@
+pub mod Rows
+pub mod Rounding
+pub mod Positions
+pub mod Trying
+pub mod Writing
+pub mod Testing
+pub mod Refused
+pub mod Repeating
+pub mod Answering
+pub mod Claims
+pub mod Examples
+pub mod Theorems

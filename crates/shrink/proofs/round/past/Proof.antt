@@ -1,0 +1,19 @@
+-- The same position, or the one after the step.
+use Rattle.shrink.specs.Forms.Round.{positionPast}
+use borrow.Author.Needs.{needs}
+use Rattle.shrink.proofs.round.past.Statement.{statement}
+use Rattle.shrink.proofs.round.past.Tie as tie
+
+returns : tie.Need-returns
+unfolding positionPast
+returns c = rw (c .if1 .taken)
+
+step-at-requires : tie.Need-step-at-requires
+step-at-requires c κs = search needs
+
+returns-2 : tie.Need-returns-2
+unfolding positionPast
+returns-2 c = rw (c .before .before .if1 .left, c .before .step-at .ensures)
+
+pub past-spec : {M : Type 1} → statement M
+past-spec = tie.close (tie.spec returns step-at-requires returns-2)

@@ -1,0 +1,85 @@
+-- What the steps that are left shrink to is the whole.
+use Prim.Native.Nat.{_*_}
+use native.Mathlib.Omega.{arith}
+use mathlib.Core.Path.{sym}
+use lib.ListN.{take}
+use Rattle.position.specs.Play.{journalSteps}
+use Rattle.shrink.specs.Shrink.{shrunk}
+use Rattle.shrink.proofs.Repeating.{Going, front-length, going-done, going-less, kept-fits, kept-length, going-on}
+use borrow.Author.Needs.{needs}
+use Rattle.shrink.proofs.rounds.rounds.Statement.{statement}
+use Rattle.shrink.proofs.rounds.rounds.Tie as tie
+
+abbrev Inv-loop : tie.InvT-loop
+Inv-loop sheet setup number n part₀ spare₀ left₀ part spare left = Going sheet setup number (shrunk sheet setup number (journalSteps (take (4 * n) part₀))) part₀ spare₀ part spare left
+
+abbrev μ-loop : tie.MeasureT-loop
+μ-loop sheet setup number n part₀ spare₀ left₀ part spare left = left
+
+loop-holds : tie.Need-loop-holds Inv-loop μ-loop
+loop-holds c = search needs
+
+mul-end : tie.Need-mul-end Inv-loop μ-loop
+mul-end c = search needs
+
+slice-reshare-prefix-write-round : tie.Need-slice-reshare-prefix-write-round Inv-loop μ-loop
+slice-reshare-prefix-write-round c = search needs
+
+slice-aggregate-write-round : tie.Need-slice-aggregate-write-round Inv-loop μ-loop
+slice-aggregate-write-round c = sym (front-length _ _ _ _ _ _ _ _ _ (c .before .loop .inv))
+
+write-round-requires : tie.Need-write-round-requires Inv-loop μ-loop
+write-round-requires c κs =
+    let p = c .before .before .before .before .before .before .before .pre in
+    let g = c .before .before .loop .inv in
+    let l = front-length _ _ _ _ _ _ _ _ _ g in
+    (p .0, (omega (arith, l, g .few), (omega (arith, l, g .fits, g .room), g .still)))
+
+same-length : tie.Need-same-length Inv-loop μ-loop
+same-length c = search needs
+
+same-length-2 : tie.Need-same-length-2 Inv-loop μ-loop
+same-length-2 c = search needs
+
+returns : tie.Need-returns Inv-loop μ-loop
+returns c = going-done _ _ _ _ _ _ _ _ _ (c .before .before .before .before .before .before .loop .inv) _ _ (c .before .before .before .write-round .ensures .0) (c .before .before .before .write-round .ensures .1) (c .if1 .taken)
+
+mul-size : tie.Need-mul-size Inv-loop μ-loop
+mul-size c = record { fits = omega (arith, c .before .before .before .before .before .before .loop .inv .few, going-less _ _ _ _ _ _ _ _ _ (c .before .before .before .before .before .before .loop .inv) _ _ (c .before .before .before .write-round .ensures .0) (c .before .before .before .write-round .ensures .1) (c .if1 .left)) }
+
+slice-reshare-prefix-copy : tie.Need-slice-reshare-prefix-copy Inv-loop μ-loop
+slice-reshare-prefix-copy c = kept-fits _ _ _ _ _ _ _ _ _ (c .before .before .before .before .before .before .loop .inv) _ _ (c .before .before .before .write-round .ensures .0) (c .before .before .before .write-round .ensures .1)
+
+slice-aggregate-copy : tie.Need-slice-aggregate-copy Inv-loop μ-loop
+slice-aggregate-copy c = sym (kept-length _ _ _ _ _ _ _ _ _ (c .before .before .before .before .before .before .before .loop .inv) _ _ (c .before .before .before .before .write-round .ensures .0) (c .before .before .before .before .write-round .ensures .1))
+
+copy-requires : tie.Need-copy-requires Inv-loop μ-loop
+copy-requires c κs =
+    omega (arith, kept-length _ _ _ _ _ _ _ _ _ (c .before .before .before .before .before .before .before .before .loop .inv) _ _ (c .before .before .before .before .before .write-round .ensures .0) (c .before .before .before .before .before .write-round .ensures .1), going-less _ _ _ _ _ _ _ _ _ (c .before .before .before .before .before .before .before .before .loop .inv) _ _ (c .before .before .before .before .before .write-round .ensures .0) (c .before .before .before .before .before .write-round .ensures .1) (c .before .before .if1 .left), c .before .before .before .before .before .before .before .before .loop .inv .fits)
+
+loop-less : tie.Need-loop-less Inv-loop μ-loop
+loop-less c = going-less _ _ _ _ _ _ _ _ _ (c .before .before .before .before .before .before .before .before .before .before .before .loop .inv) _ _ (c .before .before .before .before .before .before .before .before .write-round .ensures .0) (c .before .before .before .before .before .before .before .before .write-round .ensures .1) (c .before .before .before .before .before .if1 .left)
+
+loop-again : tie.Need-loop-again Inv-loop μ-loop
+loop-again c = going-on _ _ _ _ _ _ _ _ _ (c .before .before .before .before .before .before .before .before .before .before .before .loop .inv) _ _ (c .before .before .before .before .before .before .before .before .write-round .ensures .0) (c .before .before .before .before .before .before .before .before .write-round .ensures .1) _ (c .before .before .copy .ensures) (c .before .before .before .before .before .if1 .left)
+
+pub rounds-spec : {M : Type 1} → statement M
+rounds-spec =
+    tie.close
+    (tie.spec
+    Inv-loop
+    μ-loop
+    loop-holds
+    mul-end
+    slice-reshare-prefix-write-round
+    slice-aggregate-write-round
+    write-round-requires
+    same-length
+    same-length-2
+    returns
+    mul-size
+    slice-reshare-prefix-copy
+    slice-aggregate-copy
+    copy-requires
+    loop-less
+    loop-again)

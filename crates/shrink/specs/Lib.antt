@@ -1,0 +1,4 @@
+pub mod Refusal
+pub mod Shrink
+pub mod Claim
+pub mod Forms
