@@ -12,6 +12,7 @@ use Rattle.sheet.specs.Refusal.{bufferShort}
 use Rattle.sheet.specs.Field.{count}
 use Rattle.sheet.specs.Check.{arrayTests, sheetTests, sheetRefusal}
 use Rattle.sheet.specs.Setup.{setupTests, setupRefusal}
+use Rattle.readings.specs.Reported.{rowWidth}
 use Rattle.position.specs.Play.{FourBytes}
 use Rattle.history.specs.Promise.{acceptedBytes, roomRight, historyNumber}
 
@@ -48,10 +49,10 @@ module _ (s u : List ℕ) (bs : List FourBytes) (a o : List ℕ) where
     unfolding firstFailing roomRight
     by-accepted l = rw (after-setup h k, lt-leb (length (acceptedBytes s u bs)) (length a) l)
 
-    pub by-report : length (acceptedBytes s u bs) ≤ length a → length o < 14 * count s → bufferShort ≡ historyNumber s u bs a o
+    pub by-report : length (acceptedBytes s u bs) ≤ length a → length o < rowWidth * count s → bufferShort ≡ historyNumber s u bs a o
     unfolding firstFailing roomRight
-    by-report m l = rw (after-setup h k, le-leb (length (acceptedBytes s u bs)) (length a) m, lt-leb (14 * count s) (length o) l)
+    by-report m l = rw (after-setup h k, le-leb (length (acceptedBytes s u bs)) (length a) m, lt-leb (rowWidth * count s) (length o) l)
 
-    pub by-none : length (acceptedBytes s u bs) ≤ length a → 14 * count s ≤ length o → 0 ≡ historyNumber s u bs a o
+    pub by-none : length (acceptedBytes s u bs) ≤ length a → rowWidth * count s ≤ length o → 0 ≡ historyNumber s u bs a o
     unfolding firstFailing roomRight
-    by-none m l = rw (after-setup h k, le-leb (length (acceptedBytes s u bs)) (length a) m, le-leb (14 * count s) (length o) l)
+    by-none m l = rw (after-setup h k, le-leb (length (acceptedBytes s u bs)) (length a) m, le-leb (rowWidth * count s) (length o) l)

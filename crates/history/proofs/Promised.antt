@@ -14,7 +14,7 @@ use Rattle.sheet.specs.Check.{sheetRefusal}
 use Rattle.sheet.specs.Saswap.{saswap}
 use Rattle.sheet.specs.Setup.{perDay, conduct, setupRefusal}
 use Rattle.sheet.proofs.Theorems.{setup-checked}
-use Rattle.readings.specs.Reported.{reportedHolder}
+use Rattle.readings.specs.Reported.{rowWidth, reportedHolder}
 use Rattle.position.specs.declared.Position.{Position}
 use Rattle.position.specs.Holder.{holderIn}
 use Rattle.position.specs.Position.{start}
@@ -94,10 +94,10 @@ module _ (s u j a o : List ℕ) where
       accepted-short r l f = unplayed-promise s u j a o bufferShort r (by-accepted s u bs a o h k (bytes-short s u j a c q l)) (λ z. omega (arith, z)) f
 
       module _ (m : 4 * c ≤ length a) where
-        pub report-short : (r : Outcome) → length o < 14 * count s → r ≡ record { number = bufferShort; report = 0; position = start s } → Demand3 s u j a o r a o
+        pub report-short : (r : Outcome) → length o < rowWidth * count s → r ≡ record { number = bufferShort; report = 0; position = start s } → Demand3 s u j a o r a o
         report-short r l f = unplayed-promise s u j a o bufferShort r (by-report s u bs a o h k (bytes-room s u j a c q m) l) (λ z. omega (arith, z)) f
 
-        module _ (l : 14 * count s ≤ length o) where
+        module _ (l : rowWidth * count s ≤ length o) where
           -- the report of the accepted steps answers 0 where they are no more than a journal may have
           answers : length (acceptedBytes s u bs) ≤ 65536 → reportOf s u bs o .refusal ≡ 0
           unfolding reportAnswer

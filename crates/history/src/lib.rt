@@ -1,6 +1,7 @@
 // Demand 3 of the engine: any list of steps played, its accepted steps written and reported.
 use position::Position;
 use position::journal;
+use readings::reported::ROW_WIDTH;
 use sheet::refusal;
 ghost use mathlib.Core.Path.{_≡_};
 ghost use Rattle.position.specs.Position.{start};
@@ -51,7 +52,7 @@ pub fn history(
     if accepted.len() < used {
         return unplayed(sheet, refusal::BUFFER_SHORT);
     }
-    if report.len() < 14 * sheet::field::count(sheet) {
+    if report.len() < ROW_WIDTH * sheet::field::count(sheet) {
         return unplayed(sheet, refusal::BUFFER_SHORT);
     }
     write::write_accepted(sheet, setup, steps, accepted);

@@ -13,7 +13,7 @@ use Rattle.laws.specs.Little.{numberAt}
 use Rattle.laws.specs.Sum.{sumBelow, length-gathered}
 use Rattle.sheet.specs.LockHeight.{never}
 use Rattle.slots.specs.Destination.{alice, bob, contract}
-use Rattle.readings.specs.Reported.{reportedStatus, reportedPayee, reportedLine}
+use Rattle.readings.specs.Reported.{rowWidth, reportedStatus, reportedPayee, reportedLine}
 use Rattle.printed.specs.declared.Line.{Line}
 use Rattle.pages.specs.Line.{blanks, digits, column, widths, columns, lineFeed, lineWidth, ended, line}
 use Rattle.pages.specs.Page.{payeeText, heightText, header, texts, lineTexts, pageOf}
@@ -101,20 +101,20 @@ pub record Readable (n : ℕ) (report : List ℕ) : Type 0 where
   pub few : n ≤ 32
   pub status : (t : ℕ) → t < n → reportedStatus report t < 1000
   pub number : (t : ℕ) → t < n
-      → (numberAt 4 report (14 * t + 2) < 10 ^ 10) × ((numberAt 4 report (14 * t + 6) < 10 ^ 10) × (numberAt 4 report (14 * t + 10) < 10 ^ 10))
+      → (numberAt 4 report (rowWidth * t + 2) < 10 ^ 10) × ((numberAt 4 report (rowWidth * t + 6) < 10 ^ 10) × (numberAt 4 report (rowWidth * t + 10) < 10 ^ 10))
 
 -- bytes are so
 pub bytes-readable : (n : ℕ) (report : List ℕ) → n ≤ 32 → ((i : ℕ) → getD report i 0 < 256) → Readable n report
 unfolding reportedStatus
 bytes-readable n report h b =
-    record { few = h; status = λ t l. omega (arith, b (14 * t)); number = λ t l. (number-below report b (14 * t + 2), (number-below report b (14 * t + 6), number-below report b (14 * t + 10))) }
+    record { few = h; status = λ t l. omega (arith, b (rowWidth * t)); number = λ t l. (number-below report b (rowWidth * t + 2), (number-below report b (rowWidth * t + 6), number-below report b (rowWidth * t + 10))) }
 
 module _ (n : ℕ) (report : List ℕ) (r : Readable n report) where
   pub columns-short : (i : ℕ) → i ≤ n → length (columns (lineTexts report i)) ≤ 58
   unfolding lineTexts reportedLine
   columns-short zero h = header-short
   columns-short (suc t) h =
-      row-short t (reportedStatus report t) (reportedPayee report t) (numberAt 4 report (14 * t + 2)) (numberAt 4 report (14 * t + 6)) (numberAt 4 report (14 * t + 10))
+      row-short t (reportedStatus report t) (reportedPayee report t) (numberAt 4 report (rowWidth * t + 2)) (numberAt 4 report (rowWidth * t + 6)) (numberAt 4 report (rowWidth * t + 10))
       (omega (arith, r .few)) (r .status t (omega arith)) (r .number t (omega arith) .0) (r .number t (omega arith) .1 .0) (r .number t (omega arith) .1 .1)
 
   pub cells-short : (i : ℕ) → i ≤ n → length (gather 6 (cell report i)) ≤ 58

@@ -12,6 +12,8 @@ use Rattle.laws.specs.Over.{over}
 use Rattle.sheet.specs.Field.{count}
 use Rattle.sheet.specs.Checked.{Fit}
 use Rattle.sheet.specs.Refusal.{accepted, bufferShort}
+use Rattle.readings.specs.Reported.{rowWidth}
+use Rattle.position.specs.Position.{slotCount}
 use Rattle.position.specs.Play.{run}
 use Rattle.position.specs.Report.{reportBytes}
 use Rattle.position.specs.Answers.{Written, fitted, reportAnswer}
@@ -39,7 +41,7 @@ pub page-size : (s u j : List ℕ) → Fit s u → length (pageOf (count s) (rep
 page-size s u j h = page-length (count s) (reportBytes s u (run s u j .position)) (report-readable s u (run s u j .position) (h .checked .sized .few))
 
 -- where the report into a buffer that is always long enough gives this number
-module _ (s u j rows : List ℕ) (number : ℕ) (e : number ≡ reportAnswer s u j rows .refusal) (long : length rows ≡ 448) (out : List ℕ) where
+module _ (s u j rows : List ℕ) (number : ℕ) (e : number ≡ reportAnswer s u j rows .refusal) (long : length rows ≡ slotCount * rowWidth) (out : List ℕ) where
   -- the number is the run's
   number-run : number ≡ run s u j .refusal
   number-run =
@@ -65,18 +67,18 @@ module _ (s u j rows : List ℕ) (number : ℕ) (e : number ≡ reportAnswer s u
     page-fit = ran-fit s u j (run s u j) refl run-accepted
 
     -- the rows are the report's
-    pub page-rows : take (14 * count s) (reportAnswer s u j rows .buffer) ≡ reportBytes s u (run s u j .position)
+    pub page-rows : take (rowWidth * count s) (reportAnswer s u j rows .buffer) ≡ reportBytes s u (run s u j .position)
     page-rows = report-buffer s u j rows (sym e ∙ z)
 
     -- as the code lends them
-    pub lent-rows : (n : ℕ) (l : List ℕ) → n ≡ count s → l ≡ reportAnswer s u j rows .buffer → take (14 * n) l ≡ reportBytes s u (run s u j .position)
+    pub lent-rows : (n : ℕ) (l : List ℕ) → n ≡ count s → l ≡ reportAnswer s u j rows .buffer → take (rowWidth * n) l ≡ reportBytes s u (run s u j .position)
     lent-rows n l c b = rw (c, b) page-rows
 
     pub lent-page : (n : ℕ) (l : List ℕ) → n ≡ count s → l ≡ reportAnswer s u j rows .buffer
-        → pageOf n (take (14 * n) l) ≡ pageOf (count s) (reportBytes s u (run s u j .position))
+        → pageOf n (take (rowWidth * n) l) ≡ pageOf (count s) (reportBytes s u (run s u j .position))
     lent-page n l c b = rw (lent-rows n l c b, c)
 
-    pub rows-long : (n : ℕ) (l : List ℕ) → n ≡ count s → l ≡ reportAnswer s u j rows .buffer → length (take (14 * n) l) ≡ 14 * n
+    pub rows-long : (n : ℕ) (l : List ℕ) → n ≡ count s → l ≡ reportAnswer s u j rows .buffer → length (take (rowWidth * n) l) ≡ rowWidth * n
     rows-long n l c b = rw (lent-rows n l c b, c) (report-length s u (run s u j .position))
 
     pub few : (n : ℕ) → n ≡ count s → n ≤ 32

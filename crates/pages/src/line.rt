@@ -5,7 +5,7 @@ ghost use mathlib.Core.Path.{_≡_};
 ghost use mathlib.Core.List.{[], _++_};
 ghost use lib.ListN.{length, getD};
 ghost use Rattle.laws.specs.Over.{over};
-ghost use Rattle.readings.specs.Reported.{reportedLine};
+ghost use Rattle.readings.specs.Reported.{rowWidth, reportedLine};
 ghost use Rattle.pages.specs.Line.{blanks, digit, digits, column, widths, line};
 ghost use Rattle.pages.specs.Page.{payeeText, heightText, header, texts, lineTexts, pageOf};
 ghost use Rattle.pages.specs.Forms.Cell.{values, cell};
@@ -158,7 +158,7 @@ fn write_value(k: usize, t: u32, row: Line, out: &mut [u8]) -> usize
 fn write_cell(report: &[u8], i: usize, k: usize, out: &mut [u8]) -> usize
     requires { ⌜ i ≤ 32 ⌝ }
     requires { ⌜ k < 6 ⌝ }
-    requires { ⌜ 14 * i ≤ length (now report) ⌝ }
+    requires { ⌜ rowWidth * i ≤ length (now report) ⌝ }
     requires { ⌜ length (cell (now report) i k) ≤ length (now out) ⌝ }
     ensures { λ r. ⌜ r ≡ length (cell (now (report .entry)) i k) ⌝ }
     ensures { λ _. ⌜ now (out .exit) ≡ over (cell (now (report .entry)) i k) (now (out .entry)) ⌝ }
@@ -173,7 +173,7 @@ fn write_cell(report: &[u8], i: usize, k: usize, out: &mut [u8]) -> usize
 // Line i, at the front of the buffer.
 fn write_line(report: &[u8], i: usize, out: &mut [u8])
     requires { ⌜ i ≤ 32 ⌝ }
-    requires { ⌜ 14 * i ≤ length (now report) ⌝ }
+    requires { ⌜ rowWidth * i ≤ length (now report) ⌝ }
     requires { ⌜ 73 ≤ length (now out) ⌝ }
     ensures { λ _. ⌜ now (out .exit) ≡ over (line (lineTexts (now (report .entry)) i)) (now (out .entry)) ⌝ }
 {
@@ -190,7 +190,7 @@ fn write_line(report: &[u8], i: usize, out: &mut [u8])
 // The header and the lines of n transactions, at the front of the buffer.
 pub fn write_page(report: &[u8], n: usize, out: &mut [u8])
     requires { ⌜ n ≤ 32 ⌝ }
-    requires { ⌜ 14 * n ≤ length (now report) ⌝ }
+    requires { ⌜ rowWidth * n ≤ length (now report) ⌝ }
     requires { ⌜ 73 * suc n ≤ length (now out) ⌝ }
     ensures { λ _. ⌜ now (out .exit) ≡ over (pageOf n (now (report .entry))) (now (out .entry)) ⌝ }
 {

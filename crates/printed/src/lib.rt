@@ -1,11 +1,12 @@
 // The numbers that the program swapreport prints.
 use output::number::number;
+use readings::reported::ROW_WIDTH;
 use runs::journal;
 ghost use Prim.Native.Nat.{suc, _+_, _*_, _≤_};
 ghost use mathlib.Core.Path.{_≡_};
 ghost use mathlib.Core.List.{[], _∷_};
 ghost use lib.ListN.{length, getD};
-ghost use Rattle.readings.specs.Reported.{reportedLine};
+ghost use Rattle.readings.specs.Reported.{rowWidth, reportedLine};
 ghost use Rattle.position.specs.Printed.{printed};
 
 // The first line: the steps accepted, the refusal, and the blocks mined, empty ones too, 0 on a refusal. Beside them the number of lines
@@ -52,10 +53,10 @@ pub fn first_line(sheet: &[u8], setup: &[u8], journal: &[u8]) -> First
 
 // The line of transaction t, read from a report.
 pub fn transaction_line(report: &[u8], t: usize) -> Line
-    requires { ⌜ 14 * t + 14 ≤ length (now report) ⌝ }
+    requires { ⌜ rowWidth * t + rowWidth ≤ length (now report) ⌝ }
     ensures { λ r. ⌜ (t ∷ r .status ∷ r .payee ∷ r .block ∷ r .lock ∷ r .deadline ∷ []) ≡ reportedLine (now (report .entry)) t ⌝ }
 {
-    let at = 14 * t;
+    let at = ROW_WIDTH * t;
     Line {
         status: report[at],
         payee: report[at + 1],

@@ -2,6 +2,7 @@
 use output::row;
 use position::Position;
 use readings::report;
+use readings::reported;
 use slots::conflict;
 use steps::parent;
 ghost use Prim.Native.Nat.{_*_, _≤_};
@@ -10,12 +11,13 @@ ghost use lib.ListN.{length};
 ghost use Rattle.laws.specs.Over.{over};
 ghost use Rattle.sheet.specs.Field.{count};
 ghost use Rattle.sheet.specs.Checked.{Fit};
+ghost use Rattle.readings.specs.Reported.{rowWidth};
 ghost use Rattle.position.specs.Report.{reportBytes};
 
 // The rows of the report, at the front of the buffer.
 pub fn write_report(position: Position, sheet: &[u8], setup: &[u8], out: &mut [u8])
     requires { ⌜ Fit (now sheet) (now setup) ⌝ }
-    requires { ⌜ 14 * count (now sheet) ≤ length (now out) ⌝ }
+    requires { ⌜ rowWidth * count (now sheet) ≤ length (now out) ⌝ }
     ensures { λ _. ⌜ now (out .exit) ≡ over (reportBytes (now (sheet .entry)) (now (setup .entry)) position) (now (out .entry)) ⌝ }
 {
     let n = sheet::field::count(sheet);
@@ -38,7 +40,7 @@ pub fn write_report(position: Position, sheet: &[u8], setup: &[u8], out: &mut [u
             r.lock,
             r.deadline,
         );
-        at += 14;
+        at += reported::ROW_WIDTH;
         t += 1;
     }
 }

@@ -8,21 +8,26 @@ ghost use lib.ListN.{length};
 ghost use Rattle.laws.specs.Sets.{setBelow};
 ghost use Rattle.sheet.specs.Field.{count, Sized};
 ghost use Rattle.readings.specs.Holder.{isPayout, isPayoutTo};
-ghost use Rattle.readings.specs.Reported.{reportedConfirmed, reportedHolder};
+ghost use Rattle.readings.specs.Reported.{rowWidth, reportedConfirmed, reportedHolder};
+
+// The bytes of a report for each transaction.
+pub const ROW_WIDTH: usize = 14;
+// The bytes of the longest report, of 32 transactions.
+pub const REPORT_SIZE: usize = 448;
 
 // Whether t is confirmed.
 fn confirmed(report: &[u8], t: usize) -> bool
     requires { ⌜ t < 32 ⌝ }
-    requires { ⌜ 14 * t < length (now report) ⌝ }
+    requires { ⌜ rowWidth * t < length (now report) ⌝ }
     ensures { λ r. ⌜ r ≡ reportedConfirmed (now (report .entry)) t ⌝ }
 {
-    signatures::has(report[14 * t], 2)
+    signatures::has(report[ROW_WIDTH * t], 2)
 }
 
 // The confirmed transactions.
 fn confirmed_set(sheet: &[u8], report: &[u8]) -> u32
     requires { ⌜ Sized (now sheet) ⌝ }
-    requires { ⌜ 14 * count (now sheet) ≤ length (now report) ⌝ }
+    requires { ⌜ rowWidth * count (now sheet) ≤ length (now report) ⌝ }
     ensures { λ r. ⌜ r ≡ setBelow (count (now (sheet .entry))) (reportedConfirmed (now (report .entry))) ⌝ }
 {
     let n = sheet::field::count(sheet);
@@ -38,12 +43,12 @@ fn confirmed_set(sheet: &[u8], report: &[u8]) -> u32
 // The holder of a coin, 255 for nobody.
 pub fn reported_holder(sheet: &[u8], report: &[u8], coin: usize) -> u8
     requires { ⌜ Sized (now sheet) ⌝ }
-    requires { ⌜ 14 * count (now sheet) ≤ length (now report) ⌝ }
+    requires { ⌜ rowWidth * count (now sheet) ≤ length (now report) ⌝ }
     ensures { λ r. ⌜ r ≡ reportedHolder (now (sheet .entry)) (now (report .entry)) coin ⌝ }
 {
     let t = holder::coin_end(sheet, confirmed_set(sheet, report), coin);
     if t < 32 {
-        return report[14 * t + 1];
+        return report[ROW_WIDTH * t + 1];
     }
     255
 }
@@ -51,7 +56,7 @@ pub fn reported_holder(sheet: &[u8], report: &[u8], coin: usize) -> u8
 // Whether a coin is a payout.
 pub fn reported_payout(sheet: &[u8], report: &[u8], coin: usize) -> bool
     requires { ⌜ Sized (now sheet) ⌝ }
-    requires { ⌜ 14 * count (now sheet) ≤ length (now report) ⌝ }
+    requires { ⌜ rowWidth * count (now sheet) ≤ length (now report) ⌝ }
     requires { ⌜ coin < count (now sheet) ⌝ }
     ensures { λ r. ⌜ r ≡ isPayout (now (sheet .entry)) (reportedHolder (now (sheet .entry)) (now (report .entry))) coin ⌝ }
 {
@@ -61,7 +66,7 @@ pub fn reported_payout(sheet: &[u8], report: &[u8], coin: usize) -> bool
 // Whether a coin is a payout to this party.
 pub fn reported_payout_to(sheet: &[u8], report: &[u8], party: u8, coin: usize) -> bool
     requires { ⌜ Sized (now sheet) ⌝ }
-    requires { ⌜ 14 * count (now sheet) ≤ length (now report) ⌝ }
+    requires { ⌜ rowWidth * count (now sheet) ≤ length (now report) ⌝ }
     requires { ⌜ coin < count (now sheet) ⌝ }
     ensures { λ r. ⌜ r ≡ isPayoutTo (now (sheet .entry)) (reportedHolder (now (sheet .entry)) (now (report .entry))) party coin ⌝ }
 {

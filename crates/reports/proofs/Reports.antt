@@ -8,6 +8,7 @@ use borrow.Author.Tests.{eq-eqb, ne-eqb, le-leb, lt-leb}
 use Rattle.laws.specs.Over.{over}
 use Rattle.sheet.specs.Field.{count}
 use Rattle.sheet.specs.Refusal.{accepted, bufferShort}
+use Rattle.readings.specs.Reported.{rowWidth}
 use Rattle.position.specs.declared.Ran.{Ran}
 use Rattle.position.specs.Play.{run}
 use Rattle.position.specs.Report.{reportBytes}
@@ -28,13 +29,13 @@ module _ (s u j : List ℕ) (r : Ran) (e : r ≡ run s u j) (out : List ℕ) whe
   report-allowed z =
       rw e (passed-on (run s u j) (reportBytes s u (run s u j .position)) out 0 (eq-eqb (run s u j .refusal) 0 (rw e at z)))
 
-  pub report-short : r .refusal ≡ 0 → length out < 14 * count s → reportAnswer s u j out ≡ record { refusal = bufferShort; count = 0; buffer = out }
+  pub report-short : r .refusal ≡ 0 → length out < rowWidth * count s → reportAnswer s u j out ≡ record { refusal = bufferShort; count = 0; buffer = out }
   report-short z l =
       report-allowed z
       ∙ not-written (reportBytes s u (r .position)) out 0
       (lt-leb (length (reportBytes s u (r .position))) (length out) (rw (report-length s u (r .position)) l))
 
-  pub report-whole : r .refusal ≡ 0 → 14 * count s ≤ length out
+  pub report-whole : r .refusal ≡ 0 → rowWidth * count s ≤ length out
       → reportAnswer s u j out ≡ record { refusal = accepted; count = 0; buffer = over (reportBytes s u (r .position)) out }
   report-whole z l =
       report-allowed z

@@ -1,4 +1,5 @@
 // The report of the position that a journal leads to.
+use readings::reported::ROW_WIDTH;
 use runs::journal;
 use sheet::refusal;
 ghost use mathlib.Core.Path.{_≡_};
@@ -14,7 +15,7 @@ pub fn report(sheet: &[u8], setup: &[u8], journal: &[u8], out: &mut [u8]) -> u32
         return ran.refusal;
     }
     let n = sheet::field::count(sheet);
-    if out.len() < 14 * n {
+    if out.len() < ROW_WIDTH * n {
         return refusal::BUFFER_SHORT;
     }
     let position = ran.position;

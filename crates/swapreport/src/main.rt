@@ -4,8 +4,10 @@ use libc::STDERR_FILENO;
 use libc::STDOUT_FILENO;
 use printed::First;
 use printed::Line;
+use readings::reported::REPORT_SIZE;
 ghost use Prim.Native.Nat.{_*_, _≤_};
 ghost use lib.ListN.{length};
+ghost use Rattle.readings.specs.Reported.{rowWidth};
 
 mod files;
 
@@ -38,7 +40,7 @@ fn print_line(t: usize, line: Line) {
 
 // The lines of the first n transactions.
 fn print_lines(report: &[u8], n: usize)
-    requires { ⌜ 14 * n ≤ length (now report) ⌝ }
+    requires { ⌜ rowWidth * n ≤ length (now report) ⌝ }
 {
     let mut t: usize = 0;
     while t < n {
@@ -52,7 +54,7 @@ fn print_report(sheet: &[u8], setup: &[u8], journal: &[u8]) {
     let first = printed::first_line(sheet, setup, journal);
     let n = first.lines;
     print_first(first);
-    let mut report = [0u8; 448];
+    let mut report = [0u8; REPORT_SIZE];
     reports::report(sheet, setup, journal, &mut report);
     print_lines(&report, n);
 }

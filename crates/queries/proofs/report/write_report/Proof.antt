@@ -1,6 +1,7 @@
 -- The rows of the transactions before t.
 use Rattle.position.proofs.ReportLengths.{row-length, rows-room}
 use Rattle.queries.proofs.ReportRows.{row-written}
+use Rattle.readings.specs.Reported.{rowWidth}
 use Rattle.position.specs.Report.{row, reportBytes}
 use Rattle.position.specs.Position.{slot}
 use Rattle.position.specs.Forms.View.{sinceIn}
@@ -78,7 +79,7 @@ add-at : tie.Need-add-at Inv-loop μ-loop
 add-at c =
     let k = c .before .before .before .before .before .before .before .before .before .before .before .before .before .before .before .before .before .before in
     let i = c .before .before .before .before .before .before .before .before .before .before .loop in
-    omega (arith, turn-end _ _ _ _ _ _ 14 (i .inv) (c .before .before .before .before .before .before .before .before .before .loop-test .taken) (sym (row-length (k .args .sheet .now) (k .args .setup .now) (k .args .t1) (i .t))))
+    omega (arith, turn-end _ _ _ _ _ _ rowWidth (i .inv) (c .before .before .before .before .before .before .before .before .before .loop-test .taken) (sym (row-length (k .args .sheet .now) (k .args .setup .now) (k .args .t1) (i .t))))
 
 add-t : tie.Need-add-t Inv-loop μ-loop
 add-t c = search needs
@@ -97,7 +98,7 @@ loop-again c =
     let wrote =
     row-written (k .args .sheet .now) (k .args .setup .now) (k .args .t1) (i .t) _ _ _ _ _ _ (k .pre .0 .checked .sized .few) l (omega (arith, m, n .ensures .is))
     (c .before .before .before .before .before .before .before .before .before .before .before .before .before .per-day .ensures) (c .before .before .before .before .before .before .before .before .before .before .before .before .view .ensures) (c .before .before .before .before .before .before .before .before .before .before .before .conflicts-of .ensures) refl (rw (← (c .before .before .before .before .before .before .before .slot-above .ensures .0)) (c .before .before .before .before .before .block-above .ensures)) (c .before .before .before .before .row .ensures) in
-    turn-more _ _ _ _ _ _ _ 14 (i .inv) m (sym (row-length (k .args .sheet .now) (k .args .setup .now) (k .args .t1) (i .t))) (rw wrote at (c .before .before .write-row .ensures))
+    turn-more _ _ _ _ _ _ _ rowWidth (i .inv) m (sym (row-length (k .args .sheet .now) (k .args .setup .now) (k .args .t1) (i .t))) (rw wrote at (c .before .before .write-row .ensures))
 
 same-length : tie.Need-same-length Inv-loop μ-loop
 same-length c = c .before .loop .inv .wrote .long
