@@ -27,7 +27,7 @@ extern "C" {
 
 /* The version of header and library. The first number goes up where an answer or its layout changes, the second where
  * calls are added. */
-#define SWAP_VERSION "1.0.0"
+#define SWAP_VERSION "2.0.0"
 
 /* The refusals: for each its name, its number and what it says. */
 #define SWAP_REFUSALS(X) \
@@ -170,7 +170,7 @@ enum swap_conduct {
 #define SWAP_LIST_SIZE (SWAP_STEP_SIZE * (8 * SWAP_TRANSACTIONS + 8 + 1))
 
 /* The bytes of a report: a row for each transaction, and 32 rows at most. */
-#define SWAP_REPORT_ROW 14
+#define SWAP_REPORT_ROW 18
 #define SWAP_REPORT_SIZE (SWAP_REPORT_ROW * SWAP_TRANSACTIONS)
 
 /* Where the fields of a report's row begin. */
@@ -179,6 +179,7 @@ enum swap_conduct {
 #define SWAP_REPORT_BLOCK 2
 #define SWAP_REPORT_LOCK_HEIGHT 6
 #define SWAP_REPORT_DEADLINE 10
+#define SWAP_REPORT_OPENED 14
 
 /* The bits of a status. */
 enum swap_status {
@@ -230,7 +231,7 @@ uint32_t swap_list(const uint8_t *sheet, size_t sheet_length,
                    uint8_t *output, size_t output_length);
 
 /*
- * Reports the position after a journal: 14 bytes (SWAP_REPORT_ROW) for each transaction, in the sheet's order. Refusals
+ * Reports the position after a journal: 18 bytes (SWAP_REPORT_ROW) for each transaction, in the sheet's order. Refusals
  * 1 to 24 are the journal's; the count is 0.
  *
  *   byte 0          status: 1 in the pool, 2 in the block being filled, 4 confirmed, 8 dead, summed
@@ -238,8 +239,10 @@ uint32_t swap_list(const uint8_t *sheet, size_t sheet_length,
  *   bytes 2 to 5    block in which it is confirmed, or 0
  *   bytes 6 to 9    lock height
  *   bytes 10 to 13  deadline
+ *   bytes 14 to 17  since when it has been open: the blocks mined when first no rival was confirmed, its parent was, if
+ *                   it has one, its lock was reached and all signatures were at hand for a party that may send it
  *
- * A height of 2,147,483,647 is "never". The output takes up 14n bytes, 448 (SWAP_REPORT_SIZE) at most. Refusal 25 says
+ * A height or a count of 2,147,483,647 is "never". The output takes up 18n bytes, 576 (SWAP_REPORT_SIZE) at most. Refusal 25 says
  * that the buffer is shorter than that. Bytes after the output keep their values, and under a refusal all bytes do.
  */
 uint32_t swap_report(const uint8_t *sheet, size_t sheet_length,

@@ -71,6 +71,11 @@ uint32_t deadline_of(const struct position *position, uint8_t t)
     return swap_number(position->report + SWAP_REPORT_ROW * t + SWAP_REPORT_DEADLINE);
 }
 
+uint32_t open_since(const struct position *position, uint8_t t)
+{
+    return swap_number(position->report + SWAP_REPORT_ROW * t + SWAP_REPORT_OPENED);
+}
+
 uint8_t verdict_of(const struct position *position, uint8_t t)
 {
     return position->outage[SWAP_OUTAGE_ROW * t + SWAP_OUTAGE_VERDICT];

@@ -29,6 +29,7 @@ uint8_t payee_of(const struct position *position, uint8_t t);
 uint32_t block_of(const struct position *position, uint8_t t);
 uint32_t lock_height_of(const struct position *position, uint8_t t);
 uint32_t deadline_of(const struct position *position, uint8_t t);
+uint32_t open_since(const struct position *position, uint8_t t);
 
 /* The fields of the outage's answer. */
 uint8_t verdict_of(const struct position *position, uint8_t t);

@@ -152,7 +152,7 @@ static void show_kind(const struct entry *entry, uint8_t t, enum kind kind, cons
 }
 
 /* Where a transaction stands. */
-static void show_standing(const struct position *position, uint8_t t, uint8_t side)
+static void show_standing(const struct position *position, uint8_t t, uint8_t side, uint32_t base)
 {
     uint8_t status = status_of(position, t);
 
@@ -164,6 +164,9 @@ static void show_standing(const struct position *position, uint8_t t, uint8_t si
     }
     if (can_be_sent(position, side, t)) {
         printf("; can be sent now");
+        if (open_since(position, t) != SWAP_NEVER) {
+            printf(", open since block %s", height_label(base, open_since(position, t)).text);
+        }
     }
 }
 
@@ -198,7 +201,7 @@ static void show_deadlines(const struct entry *entry, uint8_t side, const struct
         if (kind != SETTLED) {
             printf("    %-22s%-8s", transaction_label(position->swap, t).text, payees_name(can_pay(position, t)));
             show_kind(entry, t, kind, question);
-            show_standing(position, t, side);
+            show_standing(position, t, side, question->base);
             if (kind != OTHERS) {
                 print_in_the_way(stdout, position, t, side);
             }

@@ -4,7 +4,7 @@
 
 #include "expect.h"
 
-_Static_assert(SWAP_LIST_SIZE == 1060 && SWAP_REPORT_SIZE == 448, "the sizes that are documented");
+_Static_assert(SWAP_LIST_SIZE == 1060 && SWAP_REPORT_SIZE == 576, "the sizes that are documented");
 
 /* What every buffer holds before a call. */
 #define FILL 170
@@ -183,7 +183,7 @@ static void largest_list(void)
         memcpy(sheet + 5 + 4 * t, opening, 4);
     }
     fits("largest list", swap_list, &in, 4 * 263, 263);
-    fits("largest report", swap_report, &in, 448, 0);
+    fits("largest report", swap_report, &in, 576, 0);
 }
 
 /* A sheet with nothing to do: an empty list needs no buffer. */
@@ -225,6 +225,39 @@ static void p10(void)
     expect("P10, lines", strcmp(text, "6 0 2\n0 4 2 1 0 2147483647\n1 4 1 2 1 2147483647\n") == 0);
 }
 
+/* Since when t has been open after a journal that is accepted whole: the last number of its row. */
+static void open_since(const char *name, const struct inputs *in, size_t t, unsigned long blocks)
+{
+    uint8_t rows[SWAP_REPORT_SIZE];
+
+    expect_answer(name, lend(swap_report, in, rows, sizeof rows), SWAP_ACCEPTED, 0);
+    expect(name, value(rows + SWAP_REPORT_ROW * t + SWAP_REPORT_OPENED) == blocks);
+}
+
+static void first_open(void)
+{
+    const struct inputs p10_whole = {P10, SLICE(1, 0, 0, 0), SLICE(LOCK_A, 3, 1, 1, 1, 5, 2, 1, 2, MINE)};
+    /* a payout without a lock, mined in its parent's own block */
+    const struct inputs together = {SLICE(2, 2, 0, 1, 2, 255, 0, 1, 0, 0, 2, 2, 0, 0, 0, 0, 0), SLICE(1, 0, 0, 0),
+                                    SLICE(SEND_LOCK_A, 3, 1, 1, 1, 5, 2, 0, 2, 5, 2, 1, 2, MINE)};
+    const struct inputs careful = {WHOLE(saswap), CAREFUL, EMPTY};
+    const struct inputs late = {WHOLE(saswap), OPEN, SLICE(LOCK_A, MINE, MINE, MINE, MINE, GIVE_SIG_ALICE)};
+    const struct inputs later = {WHOLE(saswap), OPEN, SLICE(LOCK_A, MINE, MINE, MINE, MINE, GIVE_SIG_ALICE, MINE, MINE)};
+    const struct inputs waiting = {WHOLE(saswap), OPEN, SLICE(SEND_LOCK_A, 5, 2, 0, 2)};
+
+    open_since("open before any step", &p10_whole, 0, 0);
+    open_since("open at its lock", &p10_whole, 1, 1);
+    open_since("confirmed with its parent", &together, 1, 2147483647);
+    open_since("its parent", &together, 0, 0);
+    open_since("conduct has no part", &careful, 0, 0);
+    open_since("a key opens it", &late, 2, 5);
+    open_since("its lock is not reached", &late, 4, 2147483647);
+    open_since("the first count stays", &later, 2, 5);
+    open_since("its lock is", &later, 4, 6);
+    open_since("a signature is missing", &later, 3, 2147483647);
+    open_since("a parent in the block is not enough", &waiting, 7, 2147483647);
+}
+
 int main(void)
 {
     const struct inputs p6 = {WHOLE(saswap), OPEN, SLICE(LOCK_A, GIVE_SIG_ALICE)};
@@ -239,5 +272,6 @@ int main(void)
     largest_list();
     empty_list();
     p10();
+    first_open();
     return finish();
 }

@@ -191,7 +191,7 @@ impl Tally {
         let journal = course.accepted.concat();
         let inputs = game.inputs(&journal);
         let open = open::steps(&game.sheet, &game.setup, &course.position);
-        let rows = report::bytes(&game.sheet, &game.setup, &course.position);
+        let rows = report::bytes(&game.sheet, &game.setup, course);
         assert!(open.len() <= most_open(&game.sheet), "{inputs:?}");
         let expected = |call, output: &mut [u8]| match call {
             Call::List => calls::list_answer(output, &open),

@@ -37,7 +37,7 @@ fn false_claim(game: &Game, course: &Course) -> Option<False> {
     if ledger::holders(sheet, setup.blocks_per_day, &course.entries).is_none() {
         return Some(False::LedgerAccepts);
     }
-    let report = report::bytes(sheet, setup, position);
+    let report = report::bytes(sheet, setup, course);
     let careful = setup.conduct == Conduct::Careful;
     if !claims::ledger_agrees(sheet, setup, course, &report) {
         Some(False::HoldersAgree)

@@ -6,7 +6,7 @@ use swap_tests::random::Random;
 use swap_tests::rounds;
 
 fn walks_and_cases(version: Calls) {
-    let tally = rounds::rounds(version, 41, 0..128);
+    let tally = rounds::rounds(version, 41, 0..512);
     println!("{tally}");
     assert!(tally.accepted.iter().all(|&count| count > 0));
     tally.assert_every_refusal();

@@ -83,7 +83,7 @@ impl Game {
     /// The fields of one row of the report.
     fn row(&self, t: usize) -> Row {
         let bytes = calls::report_bytes(&self.sheet, &self.setup, &self.journal).unwrap();
-        let row = &bytes[14 * t..14 * t + 14];
+        let row = &bytes[report::ROW * t..][..report::ROW];
         let value = |at: usize| u32::from_le_bytes(row[at..at + 4].try_into().unwrap());
         Row {
             status: row[0],
@@ -173,8 +173,8 @@ fn p8_empty_journal() {
     games.extend((0..200).map(|_| random::any_game(&mut random)));
     for (sheet, setup) in games {
         let bytes = calls::report_bytes(&sheet, &setup, &[]).unwrap();
-        assert_eq!(bytes.len(), 14 * usize::from(sheet[0]));
-        for row in bytes.chunks_exact(14) {
+        assert_eq!(bytes.len(), report::ROW * usize::from(sheet[0]));
+        for row in bytes.chunks_exact(report::ROW) {
             assert_eq!(row[..6], [0, 255, 0, 0, 0, 0]);
         }
     }
@@ -684,7 +684,7 @@ fn row_25() {
     let (sheet, setup, journal) = (&game.sheet, &game.setup, &game.journal);
     let steps = calls::open_steps(sheet, setup, journal).unwrap();
     assert!(steps.len() > 5);
-    for (needed, is_list) in [(14 * 15, false), (4 * steps.len(), true)] {
+    for (needed, is_list) in [(report::ROW * 15, false), (4 * steps.len(), true)] {
         let answer = |length: usize| {
             let mut output = vec![170; length];
             let number = match is_list {

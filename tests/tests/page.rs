@@ -3,7 +3,7 @@
 
 use swap_tests::engine;
 use swap_tests::model::page::{self, LINE};
-use swap_tests::model::report::ROW;
+use swap_tests::model::report::{OLDER_ROW, ROW};
 use swap_tests::random::{self, Case, Random, MINE};
 use swap_tests::samples::{LOCK_A, P10};
 
@@ -123,7 +123,7 @@ fn read_back() {
             row.extend(values.iter().flat_map(|value| value.to_le_bytes()));
             never += usize::from(column(40, 16) == "never");
             assert_eq!(column(0, 3), t.to_string());
-            assert_eq!(row, report[ROW * t..][..ROW]);
+            assert_eq!(row, report[ROW * t..][..OLDER_ROW]);
             assert_eq!(&line[56..], "                \n");
         }
     }

@@ -194,7 +194,7 @@ fn assert_refunded(game: &Game, steps: &[[u8; 4]], first: usize) {
     let holders = report::holders_from_position(&game.sheet, &course.position);
     assert_eq!(holders[&0], Some(ALICE));
     let (sheet, setup, journal) = game.case(steps);
-    let mut rows = [0; 14 * 15];
+    let mut rows = [0; report::ROW * 15];
     assert_eq!(engine::report(&sheet, &setup, &journal, &mut rows), 0);
     let holders = report::holders_from_report(&game.sheet, &rows);
     assert_eq!(holders[&0], Some(ALICE));

@@ -349,8 +349,8 @@ fn worked_example() {
         (
             "bytes report",
             decimal(
-                &written(28, 0, |out| engine::report(&sheet, &setup, &journal, out)),
-                14,
+                &written(36, 0, |out| engine::report(&sheet, &setup, &journal, out)),
+                18,
             ),
         ),
         (

@@ -14,12 +14,12 @@ use Rattle.position.specs.Play.{FourBytes}
 use Rattle.readings.specs.Holder.{isPayout, isPayoutTo}
 use Rattle.readings.specs.Reported.{reportedHolder}
 use Rattle.position.specs.Holder.{holderIn}
-use Rattle.moves.proofs.ReportHolders.{answered-holder}
 use Rattle.agreement.specs.Claim.{entriesOf, booksOf, positionOf, reportedBytes, Same, Agrees}
 use Rattle.agreement.proofs.SoundSteps.{sound-start}
 use Rattle.agreement.proofs.TakenList.{Taken, start-linked, list-taken}
 use Rattle.agreement.proofs.Order.{After, entries-after}
 use Rattle.agreement.proofs.Holders.{position-holder}
+use Rattle.agreement.proofs.ReportedHolders.{answered-holder}
 
 -- the same holders have the same payouts
 same-by : (s : List ℕ) (held : ℕ → ℕ) (kept : Kept) → ((coin : ℕ) → held coin ≡ ledgerHolder kept coin) → Same s held kept

@@ -21,7 +21,7 @@ use Rattle.position.specs.Play.{journalSteps}
 use Rattle.readings.specs.Holder.{isPayout, isPayoutTo}
 use Rattle.readings.specs.Reported.{reportedHolder}
 use Rattle.position.specs.Holder.{holderIn}
-use Rattle.position.proofs.Opened.{opened}
+use Rattle.dated.proofs.OpenedRules.{opened-dated}
 use Rattle.agreement.specs.Claim.{entriesOf, booksOf, positionOf, reportOf, reportedBytes}
 
 -- 3 blocks per day, open, stealth 0
@@ -33,7 +33,7 @@ setup = 3 ∷ 0 ∷ 0 ∷ 0 ∷ []
 
 -- room for a report
 abbrev out : List ℕ
-out = replicate 210 0
+out = replicate 270 0
 
 -- lock_A in block 1, lock_B in block 2
 abbrev locked : List ℕ
@@ -134,5 +134,5 @@ examples =
 
 -- the one fact
 pub all-hold : every holds examples ≡ true
-unfolding opened reads holds examples
+unfolding opened-dated reads holds examples
 all-hold = refl

@@ -13,6 +13,7 @@ pub mod TakenBlock
 pub mod Confirming
 pub mod TakenList
 pub mod Holders
+pub mod ReportedHolders
 pub mod Order
 pub mod KeptAt
 pub mod Once

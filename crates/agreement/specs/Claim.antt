@@ -17,7 +17,8 @@ use Rattle.position.specs.Play.{FourBytes, journalBytes, play, acceptedOf, conf
 use Rattle.readings.specs.Holder.{isPayout, isPayoutTo}
 use Rattle.readings.specs.Reported.{rowWidth, reportedHolder}
 use Rattle.position.specs.Holder.{holderIn}
-use Rattle.position.specs.Answers.{Written, reportAnswer}
+use Rattle.position.specs.Answers.{Written}
+use Rattle.dated.specs.Report.{reportAnswer}
 
 -- "entries .. in demand 3 those that the accepted kind 6 steps confirm": of a list played from the empty journal's position
 abbrev pub entriesOf : List ℕ → List ℕ → List FourBytes → List Entry
@@ -35,7 +36,7 @@ positionOf s u bs = play s u bs (start s)
 abbrev pub reportOf : List ℕ → List ℕ → List FourBytes → List ℕ → Written
 reportOf s u bs out = reportAnswer s u (journalBytes (acceptedOf s u bs (start s))) out
 
--- "Report writes 14 bytes for each transaction": those, of the buffer afterwards
+-- "Report writes .. bytes for each transaction", with Slip 9's count 18: those, of the buffer afterwards
 abbrev pub reportedBytes : List ℕ → List ℕ → List FourBytes → List ℕ → List ℕ
 reportedBytes s u bs out = take (rowWidth * count s) (reportOf s u bs out .buffer)
 

@@ -19,9 +19,8 @@ use Rattle.position.specs.declared.Position.{Position}
 use Rattle.position.specs.Holder.{holderIn}
 use Rattle.position.specs.Position.{start}
 use Rattle.position.specs.Play.{FourBytes, journalSteps, acceptedOf, run}
-use Rattle.position.specs.Report.{reportBytes}
-use Rattle.position.specs.Answers.{reportAnswer}
-use Rattle.position.proofs.ReportLengths.{report-length}
+use Rattle.dated.specs.Report.{reportAnswer}
+use Rattle.dated.proofs.ReportAnswers.{rowsAfter, rows-length, report-as}
 use Rattle.position.proofs.Passing.{passed-on, written}
 use Rattle.moves.proofs.Journals.{journal-length}
 use Rattle.agreement.specs.Claim.{booksOf, positionOf, reportOf, Same}
@@ -100,12 +99,11 @@ module _ (s u j a o : List ℕ) where
         module _ (l : rowWidth * count s ≤ length o) where
           -- the report of the accepted steps answers 0 where they are no more than a journal may have
           answers : length (acceptedBytes s u bs) ≤ 65536 → reportOf s u bs o .refusal ≡ 0
-          unfolding reportAnswer
           answers b =
               let w = run s u (acceptedBytes s u bs) in
-              let rows = reportBytes s u (w .position) in
+              let rows = rowsAfter s u (acceptedBytes s u bs) in
               rw
-              (passed-on w rows o 0 (rw (played-as-journal s u h k bs b)), written rows o 0 (le-leb (length rows) (length o) (rw (report-length s u (w .position)) l)))
+              (report-as s u (acceptedBytes s u bs) o, passed-on w rows o 0 (rw (played-as-journal s u h k bs b)), written rows o 0 (le-leb (length rows) (length o) (rw (rows-length s u (acceptedBytes s u bs)) l)))
 
           -- p is the position, a′ and o′ are the buffers that were written, g is the report's answer
           pub played-promise : (p : Position) (g : ℕ) (a′ o′ : List ℕ) → p ≡ positionOf s u bs → a′ ≡ over (acceptedBytes s u bs) a

@@ -27,7 +27,7 @@ use Rattle.history.specs.declared.Outcome.{Outcome}
 abbrev pub acceptedBytes : List ℕ → List ℕ → List FourBytes → List ℕ
 acceptedBytes s u bs = journalBytes (acceptedOf s u bs (start s))
 
--- the two buffers have room: one for the accepted steps, one for "14 bytes for each transaction"
+-- the two buffers have room: one for the accepted steps, one for the report's bytes of each transaction
 unfoldable pub roomRight : List ℕ → List ℕ → List FourBytes → List ℕ → List ℕ → Bool
 roomRight s u bs a o = leb (length (acceptedBytes s u bs)) (length a) && leb (rowWidth * count s) (length o)
 

@@ -23,6 +23,7 @@ counted : openCount sets 32769 ≡ 5
 unfolding sets openCount sumBelow bitsBelow bit
 counted = refl
 
-row : rowBytes 4 2 258 65536 4294967295 ≡ 4 ∷ 2 ∷ 2 ∷ 1 ∷ 0 ∷ 0 ∷ 0 ∷ 0 ∷ 1 ∷ 0 ∷ 255 ∷ 255 ∷ 255 ∷ 255 ∷ []
+row : rowBytes 4 2 258 65536 4294967295 7
+    ≡ 4 ∷ 2 ∷ 2 ∷ 1 ∷ 0 ∷ 0 ∷ 0 ∷ 0 ∷ 1 ∷ 0 ∷ 255 ∷ 255 ∷ 255 ∷ 255 ∷ 7 ∷ 0 ∷ 0 ∷ 0 ∷ []
 unfolding rowBytes bytesOf
 row = refl

@@ -20,14 +20,23 @@ pub fn write_number(out: &mut [u8], x: u32)
     out[3] = (x3 % 256) as u8;
 }
 
-// A row's 14 bytes, at the front of the buffer.
-pub fn write_row(out: &mut [u8], status: u8, payee: u8, block: u32, lock: u32, deadline: u32)
-    requires { ⌜ 14 ≤ length (now out) ⌝ }
-    ensures { λ _. ⌜ now (out .exit) ≡ over (rowBytes status payee block lock deadline) (now (out .entry)) ⌝ }
+// The bytes of a row, at the front of the buffer.
+pub fn write_row(
+    out: &mut [u8],
+    status: u8,
+    payee: u8,
+    block: u32,
+    lock: u32,
+    deadline: u32,
+    opened: u32,
+)
+    requires { ⌜ length (rowBytes status payee block lock deadline opened) ≤ length (now out) ⌝ }
+    ensures { λ _. ⌜ now (out .exit) ≡ over (rowBytes status payee block lock deadline opened) (now (out .entry)) ⌝ }
 {
     out[0] = status;
     out[1] = payee;
     write_number(&mut out[2..], block);
     write_number(&mut out[6..], lock);
     write_number(&mut out[10..], deadline);
+    write_number(&mut out[14..], opened);
 }

@@ -13,7 +13,7 @@ use Rattle.laws.specs.Little.{numberAt}
 use Rattle.laws.specs.Sum.{sumBelow, length-gathered}
 use Rattle.sheet.specs.LockHeight.{never}
 use Rattle.slots.specs.Destination.{alice, bob, contract}
-use Rattle.readings.specs.Reported.{rowWidth, reportedStatus, reportedPayee, reportedLine}
+use Rattle.readings.specs.Reported.{rowWidth, reportedStatus, reportedLine}
 use Rattle.printed.specs.declared.Line.{Line}
 use Rattle.pages.specs.Line.{blanks, digits, column, widths, columns, lineFeed, lineWidth, ended, line}
 use Rattle.pages.specs.Page.{payeeText, heightText, header, texts, lineTexts, pageOf}
@@ -23,20 +23,20 @@ use Rattle.pages.proofs.Digits.{digits-few}
 use Rattle.pages.proofs.Names.{is-header, is-row}
 
 -- the columns as the code writes them
-module _ (report : List ℕ) (i k : ℕ) where
-  pub cell-header : i ≡ 0 → column (getD widths k 0) (getD header k []) ≡ cell report i k
+module _ (shown : ℕ → List ℕ) (i k : ℕ) where
+  pub cell-header : i ≡ 0 → column (getD widths k 0) (getD header k []) ≡ cell shown i k
   unfolding cell
-  cell-header e = ap (λ l. column (getD widths k 0) (getD l k [])) (is-header report i e)
+  cell-header e = ap (λ l. column (getD widths k 0) (getD l k [])) (is-header shown i e)
 
-  pub cell-row : (row : Line) → (i ≡ 0 → ⊥) → values (i - 1) row ≡ reportedLine report (i - 1)
-      → column (getD widths k 0) (getD (texts (values (i - 1) row)) k []) ≡ cell report i k
+  pub cell-row : (row : Line) → (i ≡ 0 → ⊥) → values (i - 1) row ≡ shown (i - 1)
+      → column (getD widths k 0) (getD (texts (values (i - 1) row)) k []) ≡ cell shown i k
   unfolding cell
   cell-row row h e =
-      ap (λ l. column (getD widths k 0) (getD l k [])) (ap texts e ∙ is-row report i h)
+      ap (λ l. column (getD widths k 0) (getD l k [])) (ap texts e ∙ is-row shown i h)
 
-pub cells : (report : List ℕ) (i : ℕ) → gather 6 (cell report i) ≡ columns (lineTexts report i)
+pub cells : (shown : ℕ → List ℕ) (i : ℕ) → gather 6 (cell shown i) ≡ columns (lineTexts shown i)
 unfolding cell columns
-cells report i = refl
+cells shown i = refl
 
 -- how long the texts can be
 pub payee-short : (payee : ℕ) → length (payeeText payee) ≤ 8
@@ -96,44 +96,50 @@ header-short : length (columns header) ≤ 58
 unfolding columns column blanks gather
 header-short = lit≤ tt
 
--- what a report has where the numbers of its first n rows have at most ten digits
-pub record Readable (n : ℕ) (report : List ℕ) : Type 0 where
+-- values whose numbers have at most ten digits, of the first n transactions
+pub record Readable (n : ℕ) (shown : ℕ → List ℕ) : Type 0 where
   pub few : n ≤ 32
-  pub status : (t : ℕ) → t < n → reportedStatus report t < 1000
-  pub number : (t : ℕ) → t < n
-      → (numberAt 4 report (rowWidth * t + 2) < 10 ^ 10) × ((numberAt 4 report (rowWidth * t + 6) < 10 ^ 10) × (numberAt 4 report (rowWidth * t + 10) < 10 ^ 10))
+  pub first : (t : ℕ) → t < n → getD (shown t) 0 0 ≡ t
+  pub status : (t : ℕ) → t < n → getD (shown t) 1 0 < 1000
+  pub number : (t : ℕ) → t < n → (getD (shown t) 3 0 < 10 ^ 10) × ((getD (shown t) 4 0 < 10 ^ 10) × (getD (shown t) 5 0 < 10 ^ 10))
 
--- bytes are so
-pub bytes-readable : (n : ℕ) (report : List ℕ) → n ≤ 32 → ((i : ℕ) → getD report i 0 < 256) → Readable n report
-unfolding reportedStatus
+-- those of bytes are so
+pub bytes-readable : (n : ℕ) (report : List ℕ) → n ≤ 32 → ((i : ℕ) → getD report i 0 < 256) → Readable n (reportedLine report)
+unfolding reportedLine reportedStatus
 bytes-readable n report h b =
-    record { few = h; status = λ t l. omega (arith, b (rowWidth * t)); number = λ t l. (number-below report b (rowWidth * t + 2), (number-below report b (rowWidth * t + 6), number-below report b (rowWidth * t + 10))) }
+    record {
+      few = h;
+      first = λ t l. refl;
+      status = λ t l. omega (arith, b (rowWidth * t));
+      number = λ t l. (number-below report b (rowWidth * t + 2), (number-below report b (rowWidth * t + 6), number-below report b (rowWidth * t + 10)));
+    }
 
-module _ (n : ℕ) (report : List ℕ) (r : Readable n report) where
-  pub columns-short : (i : ℕ) → i ≤ n → length (columns (lineTexts report i)) ≤ 58
-  unfolding lineTexts reportedLine
+module _ (n : ℕ) (shown : ℕ → List ℕ) (r : Readable n shown) where
+  pub columns-short : (i : ℕ) → i ≤ n → length (columns (lineTexts shown i)) ≤ 58
+  unfolding lineTexts texts
   columns-short zero h = header-short
   columns-short (suc t) h =
-      row-short t (reportedStatus report t) (reportedPayee report t) (numberAt 4 report (rowWidth * t + 2)) (numberAt 4 report (rowWidth * t + 6)) (numberAt 4 report (rowWidth * t + 10))
-      (omega (arith, r .few)) (r .status t (omega arith)) (r .number t (omega arith) .0) (r .number t (omega arith) .1 .0) (r .number t (omega arith) .1 .1)
+      let v = shown t in
+      row-short (getD v 0 0) (getD v 1 0) (getD v 2 0) (getD v 3 0) (getD v 4 0) (getD v 5 0)
+      (omega (arith, r .few, r .first t (omega arith))) (r .status t (omega arith)) (r .number t (omega arith) .0) (r .number t (omega arith) .1 .0) (r .number t (omega arith) .1 .1)
 
-  pub cells-short : (i : ℕ) → i ≤ n → length (gather 6 (cell report i)) ≤ 58
-  cells-short i h = rw (cells report i) (columns-short i h)
+  pub cells-short : (i : ℕ) → i ≤ n → length (gather 6 (cell shown i)) ≤ 58
+  cells-short i h = rw (cells shown i) (columns-short i h)
 
   -- the columns have room where the line has
-  pub cells-room : (i m : ℕ) → i ≤ n → 73 ≤ m → length (gather 6 (cell report i)) ≤ m
+  pub cells-room : (i m : ℕ) → i ≤ n → 73 ≤ m → length (gather 6 (cell shown i)) ≤ m
   cells-room i m h l = omega (arith, cells-short i h)
 
-  pub line-length : (i : ℕ) → i ≤ n → length (line (lineTexts report i)) ≡ 73
+  pub line-length : (i : ℕ) → i ≤ n → length (line (lineTexts shown i)) ≡ 73
   unfolding line
-  line-length i h = ended-length (columns (lineTexts report i)) (omega (arith, columns-short i h))
+  line-length i h = ended-length (columns (lineTexts shown i)) (omega (arith, columns-short i h))
 
-  pub page-length : length (pageOf n report) ≡ 73 * suc n
+  pub page-length : length (pageOf n shown) ≡ 73 * suc n
   unfolding pageOf
-  page-length = length-below (λ i. line (lineTexts report i)) 73 (suc n) (λ i l. line-length i (omega arith))
+  page-length = length-below (λ i. line (lineTexts shown i)) 73 (suc n) (λ i l. line-length i (omega arith))
 
   -- the lines have room where the page has
-  pub page-room : (m : ℕ) → 73 * suc n ≤ m → length (gather (suc n) (λ i. line (lineTexts report i))) ≤ m
+  pub page-room : (m : ℕ) → 73 * suc n ≤ m → length (gather (suc n) (λ i. line (lineTexts shown i))) ≤ m
   unfolding pageOf
   page-room m l = rw page-length l
 
@@ -143,9 +149,9 @@ unfolding column
 end-column at shown e = ap (λ n. blanks n ++ (lineFeed ∷ [])) (omega arith)
 
 -- a line as the code writes it
-pub line-parts : (report : List ℕ) (i at : ℕ) → at ≡ length (gather 6 (cell report i))
-    → gather 6 (cell report i) ++ column (73 - at) (lineFeed ∷ []) ≡ line (lineTexts report i)
+pub line-parts : (shown : ℕ → List ℕ) (i at : ℕ) → at ≡ length (gather 6 (cell shown i))
+    → gather 6 (cell shown i) ++ column (73 - at) (lineFeed ∷ []) ≡ line (lineTexts shown i)
 unfolding line ended
-line-parts report i at e =
-    let f = rw (cells report i) at e in
-    rw (cells report i) (ap (λ r. columns (lineTexts report i) ++ r) (end-column at (columns (lineTexts report i)) f))
+line-parts shown i at e =
+    let f = rw (cells shown i) at e in
+    rw (cells shown i) (ap (λ r. columns (lineTexts shown i) ++ r) (end-column at (columns (lineTexts shown i)) f))

@@ -8,7 +8,6 @@ use lib.ListN.{getD}
 use borrow.Author.Tests.{eq-eqb, ne-eqb}
 use Rattle.sheet.specs.LockHeight.{never}
 use Rattle.slots.specs.Destination.{alice, bob, contract}
-use Rattle.readings.specs.Reported.{reportedLine}
 use Rattle.pages.specs.Line.{digits}
 use Rattle.printed.specs.declared.Line.{Line}
 use Rattle.pages.specs.Forms.Cell.{values}
@@ -41,14 +40,14 @@ module _ (height : ℕ) where
   is-height h = rw (ne-eqb height never h)
 
 -- line 0 is the header, the others are the transactions'
-module _ (report : List ℕ) (i : ℕ) where
-  pub is-header : i ≡ 0 → header ≡ lineTexts report i
+module _ (shown : ℕ → List ℕ) (i : ℕ) where
+  pub is-header : i ≡ 0 → header ≡ lineTexts shown i
   unfolding lineTexts
   is-header e = rw e
 
-  pub is-row : (i ≡ 0 → ⊥) → texts (reportedLine report (i - 1)) ≡ lineTexts report i
+  pub is-row : (i ≡ 0 → ⊥) → texts (shown (i - 1)) ≡ lineTexts shown i
   unfolding lineTexts
-  is-row h = let e : suc (i - 1) ≡ i = omega (arith, h) in ap (λ n. lineTexts report n) e
+  is-row h = let e : suc (i - 1) ≡ i = omega (arith, h) in ap (λ n. lineTexts shown n) e
 
 -- the text of column k of the header, and of a transaction's line
 pub is-title : (n k : ℕ) → k ≡ n → getD header n [] ≡ getD header k []

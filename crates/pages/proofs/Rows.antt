@@ -1,4 +1,4 @@
--- What is read from a report's rows, for every position.
+-- What stands on a line, for every position.
 -- Assumes nothing.
 use Prim.Native.Nat.{ℕ, zero, suc, _+_, _*_, _/_, _%_, _^_, _≤_, _<_}
 use native.Mathlib.Omega.{arith}
@@ -9,26 +9,19 @@ use mathlib.Core.List.{List, [], _∷_}
 use lib.Dec.{lit<, lit≤}
 use lib.ListN.{getD}
 use Rattle.laws.specs.Booleans.{pick}
-use Rattle.laws.specs.Gather.{gather, gather-at}
+use Rattle.laws.specs.Gather.{gather}
 use Rattle.laws.specs.Little.{bytesOf, numberAt}
 use Rattle.sheet.specs.Field.{count}
 use Rattle.slots.specs.Invalidated.{invalidated}
-use Rattle.readings.specs.Reported.{rowWidth, reportedStatus, reportedPayee, reportedLine}
+use Rattle.readings.specs.Reported.{reportedLine, rowLine}
 use Rattle.position.specs.declared.Position.{Position}
 use Rattle.position.specs.Position.{inPool, inBlock, isConfirmed, blockOf, lockHeightIn, deadlineIn}
 use Rattle.position.specs.Report.{status, payee, row, reportBytes}
-use Rattle.position.proofs.ReportLengths.{row-length}
+use Rattle.position.specs.Printed.{printedLine}
+use Rattle.moves.proofs.Reports.{number-same, line-read}
+use Rattle.pages.specs.Line.{line}
+use Rattle.pages.specs.Page.{lineTexts, pageOf}
 use Rattle.pages.proofs.Lines.{Readable}
-
--- numbers in the same bytes
-number-same : (k : ℕ) (l r : List ℕ) (i j : ℕ) → ((m : ℕ) → m < k → getD l (i + m) 0 ≡ getD r (j + m) 0) → numberAt k l i ≡ numberAt k r j
-unfolding numberAt
-number-same zero l r i j h = refl
-number-same (suc k) l r i j h =
-    let first : getD l i 0 ≡ getD r j 0 = rw (add-zero i, add-zero j) at (h 0 (omega arith)) in
-    let next : (m n : ℕ) → suc n + m ≡ n + suc m = λ m n. omega arith in
-    let rest = number-same k l r (suc i) (suc j) (λ m b. ap (λ x. getD l x 0) (next m i) ∙ h (suc m) (omega arith) ∙ sym (ap (λ x. getD r x 0) (next m j))) in
-    rw (first, rest)
 
 -- the number in the k lowest bytes of x
 abbrev pub low : ℕ → ℕ → ℕ
@@ -72,34 +65,38 @@ pub status-few : (s : List ℕ) (p : Position) (t : ℕ) → status s p t < 16
 unfolding status
 status-few s p t = status-below (inPool p t) (inBlock p t) (isConfirmed p t) (invalidated s (isConfirmed p) t)
 
-module _ (s u : List ℕ) (p : Position) (t : ℕ) (l : t < count s) where
-  read-at : (j : ℕ) → j < rowWidth → getD (reportBytes s u p) (rowWidth * t + j) 0 ≡ getD (row s u p t) j 0
-  unfolding reportBytes
-  read-at j h = gather-at (row s u p) rowWidth (row-length s u p) (count s) t j 0 l h
+-- the line of t
+pub read-line : (s u : List ℕ) (p : Position) (t : ℕ)
+    → printedLine s u p t ≡ t ∷ status s p t ∷ payee p t ∷ low 4 (blockOf p t) ∷ low 4 (lockHeightIn s u p t) ∷ low 4 (deadlineIn s u p t) ∷ []
+unfolding printedLine rowLine row bytesOf numberAt
+read-line s u p t = refl
 
-  read-number : (j : ℕ) → j ≤ 10 → numberAt 4 (reportBytes s u p) (rowWidth * t + j) ≡ numberAt 4 (row s u p t) j
-  read-number j h =
-      let far : (m : ℕ) → rowWidth * t + j + m ≡ rowWidth * t + (j + m) = λ m. omega arith in
-      number-same 4 (reportBytes s u p) (row s u p t) (rowWidth * t + j) j
-      (λ m n. ap (λ x. getD (reportBytes s u p) x 0) (far m) ∙ read-at (j + m) (omega (arith, n)))
-
-  -- the line of t
-  pub read-line : reportedLine (reportBytes s u p) t
-      ≡ t ∷ status s p t ∷ payee p t ∷ low 4 (blockOf p t) ∷ low 4 (lockHeightIn s u p t) ∷ low 4 (deadlineIn s u p t) ∷ []
-  unfolding reportedLine reportedStatus reportedPayee row bytesOf numberAt
-  read-line =
-      let st = ap (λ i. getD (reportBytes s u p) i 0) (sym (add-zero (rowWidth * t))) ∙ read-at 0 (lit< tt) in
-      rw (st, read-at 1 (lit< tt), read-number 2 (lit≤ tt), read-number 6 (lit≤ tt), read-number 10 (lit≤ tt))
-
--- the numbers of a report have at most ten digits
-pub report-readable : (s u : List ℕ) (p : Position) → count s ≤ 32 → Readable (count s) (reportBytes s u p)
-unfolding reportedLine
-report-readable s u p few =
+-- its numbers have at most ten digits
+pub lines-readable : (s u : List ℕ) (p : Position) → count s ≤ 32 → Readable (count s) (printedLine s u p)
+lines-readable s u p few =
     record {
       few = few;
-      status = λ t l. let e = ap (λ r. getD r 1 0) (read-line s u p t l) in
-          rw e (omega (arith, status-few s p t));
+      first = λ t l. ap (λ r. getD r 0 0) (read-line s u p t);
+      status = λ t l. rw (ap (λ r. getD r 1 0) (read-line s u p t)) (omega (arith, status-few s p t));
       number = λ t l.
-          let e = read-line s u p t l in
+          let e = read-line s u p t in
           (rw (ap (λ r. getD r 3 0) e) (low-below _), (rw (ap (λ r. getD r 4 0) e) (low-below _), rw (ap (λ r. getD r 5 0) e) (low-below _)));
     }
+
+-- lists made of the same parts
+gather-same : (n : ℕ) (f g : ℕ → List ℕ) → ((i : ℕ) → i < n → f i ≡ g i) → gather n f ≡ gather n g
+unfolding gather
+gather-same zero f g h = refl
+gather-same (suc n) f g h = rw (gather-same n f g (λ i l. h i (omega arith)), h n (omega arith))
+
+-- the lines of a report are these, whatever its counts, and so is the page
+line-same : (s u : List ℕ) (p : Position) (counts : List ℕ) (i : ℕ) → i < suc (count s)
+    → line (lineTexts (reportedLine (reportBytes s u p counts)) i) ≡ line (lineTexts (printedLine s u p) i)
+unfolding lineTexts
+line-same s u p counts zero h = refl
+line-same s u p counts (suc t) h = rw (line-read s u p counts t (omega arith))
+
+pub page-same : (s u : List ℕ) (p : Position) (counts : List ℕ) → pageOf (count s) (reportedLine (reportBytes s u p counts)) ≡ pageOf (count s) (printedLine s u p)
+unfolding pageOf
+page-same s u p counts =
+    gather-same (suc (count s)) (λ i. line (lineTexts (reportedLine (reportBytes s u p counts)) i)) (λ i. line (lineTexts (printedLine s u p) i)) (line-same s u p counts)

@@ -15,7 +15,8 @@ use Rattle.sheet.specs.Refusal.{accepted}
 use Rattle.slots.specs.Destination.{alice, bob, contract}
 use Rattle.position.specs.declared.Position.{Position}
 use Rattle.position.specs.Play.{run}
-use Rattle.position.specs.Report.{unconfirmed, row, reportBytes}
+use Rattle.position.specs.Report.{unconfirmed, row}
+use Rattle.position.specs.Printed.{printedLine}
 use Rattle.moves.specs.Wellformed.{Wellformed}
 use Rattle.pages.specs.Line.{blank}
 use Rattle.pages.specs.Page.{aliceText, bobText, contractText, neverText, pageOf}
@@ -65,17 +66,17 @@ readRow line =
 abbrev pub LinesLong : Type 0
 LinesLong =
     (s u : List ℕ) (p : Position) → count s ≤ 32 → (i : ℕ) → i ≤ count s
-    → length (lineAt (pageOf (count s) (reportBytes s u p)) i) ≡ 73
+    → length (lineAt (pageOf (count s) (printedLine s u p)) i) ≡ 73
 
--- the line of each transaction, read back, has its number and its row of the report
+-- the line of each transaction, read back, has its number and document 01's row of the report
 abbrev pub ReadsBack : Type 0
 ReadsBack =
     (s u : List ℕ) (p : Position) → count s ≤ 32 → Wellformed s p → (t : ℕ) → t < count s
-    → let line = lineAt (pageOf (count s) (reportBytes s u p)) (suc t) in (readNumber line ≡ t) × (readRow line ≡ row s u p t)
+    → let line = lineAt (pageOf (count s) (printedLine s u p)) (suc t) in (readNumber line ≡ t) × (readRow line ≡ row s u p t)
 
 -- so of every journal that is accepted
 abbrev pub RunsReadBack : Type 0
 RunsReadBack =
     (s u j : List ℕ) → run s u j .refusal ≡ accepted → (t : ℕ) → t < count s
     → let p = run s u j .position in
-    let line = lineAt (pageOf (count s) (reportBytes s u p)) (suc t) in (readNumber line ≡ t) × (readRow line ≡ row s u p t)
+    let line = lineAt (pageOf (count s) (printedLine s u p)) (suc t) in (readNumber line ≡ t) × (readRow line ≡ row s u p t)

@@ -9,9 +9,8 @@ use Rattle.laws.specs.Gather.{gather}
 use Rattle.sheet.specs.Field.{count}
 use Rattle.sheet.specs.LockHeight.{never}
 use Rattle.slots.specs.Destination.{alice, bob, contract}
-use Rattle.readings.specs.Reported.{reportedLine}
 use Rattle.position.specs.Play.{run}
-use Rattle.position.specs.Report.{reportBytes}
+use Rattle.position.specs.Printed.{printedLine}
 use Rattle.position.specs.Answers.{Written, passOn}
 use Rattle.pages.specs.Line.{digits, line}
 
@@ -66,17 +65,17 @@ texts values =
     ∷ []
 
 -- "a header, then one line for each transaction"
-unfoldable pub lineTexts : List ℕ → ℕ → List (List ℕ)
-lineTexts report zero = header
-lineTexts report (suc t) = texts (reportedLine report t)
+unfoldable pub lineTexts : (ℕ → List ℕ) → ℕ → List (List ℕ)
+lineTexts values zero = header
+lineTexts values (suc t) = texts (values t)
 
--- the page of a report of n transactions
-unfoldable pub pageOf : ℕ → List ℕ → List ℕ
-pageOf n report = gather (suc n) (λ i. line (lineTexts report i))
+-- the page of n transactions, where `values t` are those of t in the order of the columns
+unfoldable pub pageOf : ℕ → (ℕ → List ℕ) → List ℕ
+pageOf n values = gather (suc n) (λ i. line (lineTexts values i))
 
--- "A further call, with the report's arguments and answers"; "25 when the page doesn't fit the buffer, as for the report."
+-- "A further call, with the report's arguments and answers"; "25 when the page doesn't fit the buffer, as for the report." Slip 9: "the page .. keep[s its] form"
 unfoldable pub pageAnswer : List ℕ → List ℕ → List ℕ → List ℕ → Written
 pageAnswer s u j out =
     let r = run s u j in
-    let bytes = pageOf (count s) (reportBytes s u (r .position)) in
+    let bytes = pageOf (count s) (printedLine s u (r .position)) in
     passOn r bytes 0 out

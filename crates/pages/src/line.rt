@@ -159,9 +159,9 @@ fn write_cell(report: &[u8], i: usize, k: usize, out: &mut [u8]) -> usize
     requires { ⌜ i ≤ 32 ⌝ }
     requires { ⌜ k < 6 ⌝ }
     requires { ⌜ rowWidth * i ≤ length (now report) ⌝ }
-    requires { ⌜ length (cell (now report) i k) ≤ length (now out) ⌝ }
-    ensures { λ r. ⌜ r ≡ length (cell (now (report .entry)) i k) ⌝ }
-    ensures { λ _. ⌜ now (out .exit) ≡ over (cell (now (report .entry)) i k) (now (out .entry)) ⌝ }
+    requires { ⌜ length (cell (reportedLine (now report)) i k) ≤ length (now out) ⌝ }
+    ensures { λ r. ⌜ r ≡ length (cell (reportedLine (now (report .entry))) i k) ⌝ }
+    ensures { λ _. ⌜ now (out .exit) ≡ over (cell (reportedLine (now (report .entry))) i k) (now (out .entry)) ⌝ }
 {
     if i == 0 {
         return write_title(k, out);
@@ -175,7 +175,7 @@ fn write_line(report: &[u8], i: usize, out: &mut [u8])
     requires { ⌜ i ≤ 32 ⌝ }
     requires { ⌜ rowWidth * i ≤ length (now report) ⌝ }
     requires { ⌜ 73 ≤ length (now out) ⌝ }
-    ensures { λ _. ⌜ now (out .exit) ≡ over (line (lineTexts (now (report .entry)) i)) (now (out .entry)) ⌝ }
+    ensures { λ _. ⌜ now (out .exit) ≡ over (line (lineTexts (reportedLine (now (report .entry))) i)) (now (out .entry)) ⌝ }
 {
     let mut at: usize = 0;
     let mut k: usize = 0;
@@ -192,7 +192,7 @@ pub fn write_page(report: &[u8], n: usize, out: &mut [u8])
     requires { ⌜ n ≤ 32 ⌝ }
     requires { ⌜ rowWidth * n ≤ length (now report) ⌝ }
     requires { ⌜ 73 * suc n ≤ length (now out) ⌝ }
-    ensures { λ _. ⌜ now (out .exit) ≡ over (pageOf n (now (report .entry))) (now (out .entry)) ⌝ }
+    ensures { λ _. ⌜ now (out .exit) ≡ over (pageOf n (reportedLine (now (report .entry)))) (now (out .entry)) ⌝ }
 {
     let mut at: usize = 0;
     let mut i: usize = 0;

@@ -9,17 +9,17 @@ use Rattle.laws.specs.Little.{bytesOf}
 use Rattle.sheet.specs.Field.{count}
 use Rattle.readings.specs.Reported.{rowWidth}
 use Rattle.position.specs.declared.Position.{Position}
-use Rattle.position.specs.Report.{row, reportBytes}
+use Rattle.position.specs.Report.{row, fullRow, reportBytes}
 
-module _ (s u : List ℕ) (p : Position) where
-  pub row-length : (t : ℕ) → length (row s u p t) ≡ rowWidth
-  unfolding row bytesOf
+module _ (s u : List ℕ) (p : Position) (counts : List ℕ) where
+  pub row-length : (t : ℕ) → length (fullRow s u p counts t) ≡ rowWidth
+  unfolding fullRow row bytesOf
   row-length t = refl
 
-  pub report-length : length (reportBytes s u p) ≡ rowWidth * count s
+  pub report-length : length (reportBytes s u p counts) ≡ rowWidth * count s
   unfolding reportBytes
-  report-length = length-gather (row s u p) rowWidth row-length (count s)
+  report-length = length-gather (fullRow s u p counts) rowWidth row-length (count s)
 
   -- n rows have room where the report has
-  pub rows-room : (n m : ℕ) → n ≡ count s → rowWidth * count s ≤ m → length (gather n (row s u p)) ≤ m
-  rows-room n m e h = rw (length-gather (row s u p) rowWidth row-length n, e) h
+  pub rows-room : (n m : ℕ) → n ≡ count s → rowWidth * count s ≤ m → length (gather n (fullRow s u p counts)) ≤ m
+  rows-room n m e h = rw (length-gather (fullRow s u p counts) rowWidth row-length n, e) h

@@ -1,4 +1,5 @@
--- What the outward calls answer: numbers, counts, the part of the journal, the buffers afterwards. The check's number is `sheetRefusal`.
+-- What the outward calls answer: numbers, counts, the part of the journal, the buffers afterwards. The check's number is `sheetRefusal`; the
+-- report's answer stands with Slip 9's counts, in crate `dated`.
 -- Assumes nothing.
 use Prim.Native.Nat.{ℕ, _+_, _*_}
 use mathlib.Core.Bool.{true, false}
@@ -10,7 +11,6 @@ use Rattle.sheet.specs.Refusal.{accepted, bufferShort}
 use Rattle.position.specs.declared.Ran.{Ran}
 use Rattle.position.specs.Play.{run}
 use Rattle.position.specs.Open.{openSteps, listBytes}
-use Rattle.position.specs.Report.{reportBytes}
 
 -- "C gets one number, refusal × 65,536 + count"
 unfoldable pub packed : ℕ → ℕ → ℕ
@@ -47,10 +47,3 @@ listAnswer s u j out =
     let bytes = listBytes s u (r .position) in
     let n = length (openSteps s u (r .position)) in
     passOn r bytes n out
-
--- "Check and report answer the number."
-unfoldable pub reportAnswer : List ℕ → List ℕ → List ℕ → List ℕ → Written
-reportAnswer s u j out =
-    let r = run s u j in
-    let bytes = reportBytes s u (r .position) in
-    passOn r bytes 0 out

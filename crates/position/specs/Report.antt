@@ -1,11 +1,13 @@
--- The report: "14 bytes for each transaction".
+-- The report: document 01's "14 bytes for each transaction", and Slip 9's count of each at their end.
 -- Assumes nothing.
 use Prim.Native.Nat.{ℕ, _+_}
 use mathlib.Core.List.{List, _∷_, _++_}
+use lib.ListN.{getD}
 use Rattle.laws.specs.Booleans.{pick}
 use Rattle.laws.specs.Gather.{gather}
 use Rattle.laws.specs.Little.{bytesOf}
 use Rattle.sheet.specs.Field.{count}
+use Rattle.sheet.specs.LockHeight.{never}
 use Rattle.slots.specs.Invalidated.{invalidated}
 use Rattle.position.specs.declared.Position.{Position}
 use Rattle.position.specs.Position.{inPool, inBlock, isConfirmed, confirmedTo, blockOf, lockHeightIn, deadlineIn}
@@ -29,6 +31,10 @@ row s u p t =
     status s p t ∷ payee p t
     ∷ (bytesOf 4 (blockOf p t) ++ (bytesOf 4 (lockHeightIn s u p t) ++ bytesOf 4 (deadlineIn s u p t)))
 
--- "Report writes 14 bytes for each transaction"
-unfoldable pub reportBytes : List ℕ → List ℕ → Position → List ℕ
-reportBytes s u p = gather (count s) (row s u p)
+-- document 02, Slip 9: "Each transaction's bytes in the report gain this count at their end, 4 bytes, 2147483647 where never open"
+unfoldable pub fullRow : List ℕ → List ℕ → Position → List ℕ → ℕ → List ℕ
+fullRow s u p counts t = row s u p t ++ bytesOf 4 (getD counts t never)
+
+-- "Report writes .. bytes for each transaction"
+unfoldable pub reportBytes : List ℕ → List ℕ → Position → List ℕ → List ℕ
+reportBytes s u p counts = gather (count s) (fullRow s u p counts)

@@ -11,16 +11,14 @@ use borrow.Author.Tests.{eq-eqb, ne-eqb}
 use Rattle.laws.specs.Gather.{length-gather}
 use Rattle.sheet.specs.Refusal.{accepted}
 use Rattle.sheet.specs.Field.{count}
-use Rattle.readings.specs.Reported.{reportedLine}
 use Rattle.position.specs.declared.Ran.{Ran}
 use Rattle.position.specs.Play.{run}
-use Rattle.position.specs.Report.{reportBytes}
-use Rattle.position.specs.Printed.{printedLines, printed}
+use Rattle.position.specs.Printed.{printedLine, printedLines, printed}
 use Rattle.runs.proofs.Runs.{ran-fit}
 
 module _ (s u j : List ℕ) where
   pub printed-accepted : eqb (run s u j .refusal) accepted ≡ true
-      → printed s u j ≡ (run s u j .accepted ∷ accepted ∷ run s u j .position .mined ∷ []) ∷ printedLines s (reportBytes s u (run s u j .position))
+      → printed s u j ≡ (run s u j .accepted ∷ accepted ∷ run s u j .position .mined ∷ []) ∷ printedLines s u (run s u j .position)
   unfolding printed
   printed-accepted h = rw (h, printed)
 
@@ -33,7 +31,7 @@ module _ (s u j : List ℕ) where
   unfolding printedLines
   lines-accepted z =
       rw (printed-accepted (eq-eqb (run s u j .refusal) accepted z))
-      (ap suc (length-gather (λ t. reportedLine (reportBytes s u (run s u j .position)) t ∷ []) 1 (λ t. refl) (count s) ∙ omega arith))
+      (ap suc (length-gather (λ t. printedLine s u (run s u j .position) t ∷ []) 1 (λ t. refl) (count s) ∙ omega arith))
 
   -- a refused one has the first only
   lines-refused : (run s u j .refusal ≡ accepted → ⊥) → length (printed s u j) ≡ 1

@@ -1,16 +1,19 @@
 -- The rows of a report over a view and single slots are those of the position.
 -- Assumes nothing.
-use Prim.Native.Nat.{ℕ, _≤_, _<_}
+use Prim.Native.Nat.{ℕ, zero, suc, _≤_, _<_}
 use native.Mathlib.Omega.{arith}
+use native.Mathlib.Nat.{not-suc-le-zero, le-of-suc-le-suc}
 use mathlib.Core.Path.{_≡_, refl, sym, ap, _∙_}
 use mathlib.Core.Bool.{Bool, true, not, _&&_}
-use mathlib.Core.List.{List}
+use mathlib.Core.List.{List, [], _∷_}
 use lib.Dec.{eqb}
-use lib.ListN.{length}
+use lib.ListN.{length, getD}
+use Rattle.laws.specs.Little.{bytesOf}
 use Rattle.laws.specs.Mask.{bit}
 use Rattle.laws.specs.Sets.{setBelow, set-bit}
 use Rattle.output.specs.Forms.Row.{rowBytes}
 use Rattle.sheet.specs.Field.{count, parent}
+use Rattle.sheet.specs.LockHeight.{never}
 use Rattle.sheet.specs.Setup.{perDay}
 use Rattle.slots.specs.declared.Slot.{Slot}
 use Rattle.slots.specs.Forms.Conflict.{foundIn}
@@ -22,7 +25,7 @@ use Rattle.readings.specs.Forms.Report.{deadIn, statusIn, payeeIn, rowIn}
 use Rattle.position.specs.declared.Position.{Position}
 use Rattle.position.specs.Position.{slot, inPool, inBlock, blockOf, isConfirmed, confirmedTo, lockHeightIn, deadlineIn}
 use Rattle.position.specs.Forms.View.{viewBelow, sinceIn}
-use Rattle.position.specs.Report.{status, payee, row}
+use Rattle.position.specs.Report.{status, payee, row, fullRow}
 use Rattle.position.proofs.BlockSets.{set-meets-other}
 use Rattle.position.proofs.SendTests.{since-parent}
 
@@ -57,11 +60,18 @@ module _ (s u : List ℕ) (p : Position) (t struck since : ℕ) (few : count s �
   row-right =
       rw (status-right, payee-right p t, lockHeight-since s (perDay u) (blockOf p) since t (sym is-since), deadline-since s (perDay u) (blockOf p) since t (sym is-since))
 
--- what a loop over the transactions writes: the parts that it read are those of the position
-pub row-written : (s u : List ℕ) (p : Position) (t d struck since : ℕ) (v : View) (x : Slot) (r : Row) → count s ≤ 32
+-- an element of a list, whatever stands for those past its end
+getD-same : (l : List ℕ) (i a b : ℕ) → i < length l → getD l i a ≡ getD l i b
+getD-same [] i a b h = absurd (not-suc-le-zero h)
+getD-same (x ∷ l) zero a b h = refl
+getD-same (x ∷ l) (suc i) a b h = getD-same l i a b (le-of-suc-le-suc h)
+
+-- what a loop over the transactions writes: the parts that it read are those of the position, the count o is that of t
+pub row-written : (s u : List ℕ) (p : Position) (counts : List ℕ) (t d struck since : ℕ) (v : View) (x : Slot) (r : Row) (o : ℕ) → count s ≤ 32
     → length (p .slots) ≡ 32 → t < count s → d ≡ perDay u → v ≡ viewBelow (count s) p
     → struck ≡ setBelow (count s) (foundIn s (bit (v .confirmed)) true) → x ≡ slot p t → since ≡ sinceIn s p t
-    → r ≡ rowIn s d v struck x since t → rowBytes (r .status) (r .payee) (r .block) (r .lock) (r .deadline) ≡ row s u p t
-unfolding rowBytes row
-row-written s u p t d struck since v x r few n l ed ev es ex ec er =
-    rw (er, ed, ev, ex, row-right s u p t struck since few l (rw ev at es) (ec ∙ since-parent s p n t))
+    → r ≡ rowIn s d v struck x since t → o ≡ getD counts t 0 → length counts ≡ 32
+    → rowBytes (r .status) (r .payee) (r .block) (r .lock) (r .deadline) o ≡ fullRow s u p counts t
+unfolding rowBytes fullRow row bytesOf
+row-written s u p counts t d struck since v x r o few n l ed ev es ex ec er eo m =
+    rw (er, ed, ev, ex, eo ∙ getD-same counts t 0 never (omega (arith, few, l, m)), row-right s u p t struck since few l (rw ev at es) (ec ∙ since-parent s p n t))

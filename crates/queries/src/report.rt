@@ -14,11 +14,17 @@ ghost use Rattle.sheet.specs.Checked.{Fit};
 ghost use Rattle.readings.specs.Reported.{rowWidth};
 ghost use Rattle.position.specs.Report.{reportBytes};
 
-// The rows of the report, at the front of the buffer.
-pub fn write_report(position: Position, sheet: &[u8], setup: &[u8], out: &mut [u8])
+// The rows of the report of a position and its counts, at the front of the buffer.
+pub fn write_report(
+    position: Position,
+    opened: [u32; 32],
+    sheet: &[u8],
+    setup: &[u8],
+    out: &mut [u8],
+)
     requires { ⌜ Fit (now sheet) (now setup) ⌝ }
     requires { ⌜ rowWidth * count (now sheet) ≤ length (now out) ⌝ }
-    ensures { λ _. ⌜ now (out .exit) ≡ over (reportBytes (now (sheet .entry)) (now (setup .entry)) position) (now (out .entry)) ⌝ }
+    ensures { λ _. ⌜ now (out .exit) ≡ over (reportBytes (now (sheet .entry)) (now (setup .entry)) position opened) (now (out .entry)) ⌝ }
 {
     let n = sheet::field::count(sheet);
     let per_day = sheet::setup::per_day(setup);
@@ -39,6 +45,7 @@ pub fn write_report(position: Position, sheet: &[u8], setup: &[u8], out: &mut [u
             r.block,
             r.lock,
             r.deadline,
+            opened[t],
         );
         at += reported::ROW_WIDTH;
         t += 1;

@@ -1,4 +1,4 @@
--- What is read from the bytes of a report: "14 bytes for each transaction".
+-- What is read from the bytes of a report: "14 bytes for each transaction", and Slip 9's count in 4 more.
 -- Assumes nothing.
 use Prim.Native.Nat.{ℕ, _+_, _*_}
 use mathlib.Core.Bool.{Bool}
@@ -8,9 +8,9 @@ use Rattle.laws.specs.Little.{numberAt}
 use Rattle.laws.specs.Mask.{bit}
 use Rattle.readings.specs.Holder.{holder}
 
--- "14 bytes for each transaction"
+-- "14 bytes for each transaction"; document 02, Slip 9: "Each transaction's bytes in the report gain this count at their end, 4 bytes"
 abbrev pub rowWidth : ℕ
-rowWidth = 14
+rowWidth = 18
 
 -- "status"
 unfoldable pub reportedStatus : List ℕ → ℕ → ℕ
@@ -29,6 +29,14 @@ unfoldable pub reportedLine : List ℕ → ℕ → List ℕ
 reportedLine report t =
     t ∷ reportedStatus report t ∷ reportedPayee report t
     ∷ numberAt 4 report (rowWidth * t + 2) ∷ numberAt 4 report (rowWidth * t + 6) ∷ numberAt 4 report (rowWidth * t + 10) ∷ []
+
+-- the same of the bytes of t's row alone
+unfoldable pub rowLine : ℕ → List ℕ → List ℕ
+rowLine t row = t ∷ getD row 0 0 ∷ getD row 1 0 ∷ numberAt 4 row 2 ∷ numberAt 4 row 6 ∷ numberAt 4 row 10 ∷ []
+
+-- Slip 9's count
+unfoldable pub reportedCount : List ℕ → ℕ → ℕ
+reportedCount report t = numberAt 4 report (rowWidth * t + 14)
 
 -- "the engine's holders are read .. from the report"
 unfoldable pub reportedHolder : List ℕ → List ℕ → ℕ → ℕ

@@ -11,9 +11,9 @@ ghost use Rattle.readings.specs.Holder.{isPayout, isPayoutTo};
 ghost use Rattle.readings.specs.Reported.{rowWidth, reportedConfirmed, reportedHolder};
 
 // The bytes of a report for each transaction.
-pub const ROW_WIDTH: usize = 14;
+pub const ROW_WIDTH: usize = 18;
 // The bytes of the longest report, of 32 transactions.
-pub const REPORT_SIZE: usize = 448;
+pub const REPORT_SIZE: usize = 576;
 
 // Whether t is confirmed.
 fn confirmed(report: &[u8], t: usize) -> bool

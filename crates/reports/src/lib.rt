@@ -1,9 +1,10 @@
 // The report of the position that a journal leads to.
 use readings::reported::ROW_WIDTH;
-use runs::journal;
 use sheet::refusal;
 ghost use mathlib.Core.Path.{_≡_};
-ghost use Rattle.position.specs.Answers.{reportAnswer};
+ghost use Rattle.dated.specs.Report.{reportAnswer};
+
+mod journal;
 
 // Reports: the refusal; where there is none, the rows stand at the front of the buffer.
 pub fn report(sheet: &[u8], setup: &[u8], journal: &[u8], out: &mut [u8]) -> u32
@@ -18,7 +19,9 @@ pub fn report(sheet: &[u8], setup: &[u8], journal: &[u8], out: &mut [u8]) -> u32
     if out.len() < ROW_WIDTH * n {
         return refusal::BUFFER_SHORT;
     }
-    let position = ran.position;
-    queries::report::write_report(position, sheet, setup, out);
+    let dated = ran.dated;
+    let position = dated.position;
+    let opened = dated.opened;
+    queries::report::write_report(position, opened, sheet, setup, out);
     refusal::ACCEPTED
 }

@@ -7,7 +7,7 @@ use super::{Question, Totals};
 use crate::model::calls::Outcome;
 use crate::model::heights::{self, NEVER};
 use crate::model::setup::Conduct;
-use crate::model::{open, report, ALICE, BOB, MINER};
+use crate::model::{first_open, open, report, ALICE, BOB, MINER};
 
 /// A swap whose journal is accepted whole.
 pub struct View {
@@ -234,7 +234,7 @@ impl View {
             Kind::Free => format!("PASSED: block {latest} was the latest"),
             Kind::Others => "the other side's".to_string(),
         };
-        words += &self.standing(t, side);
+        words += &self.standing(question.base, t, side);
         if kind != Kind::Others {
             words += &after.in_the_way(t, side);
         }
@@ -246,15 +246,35 @@ impl View {
     }
 
     /// Where a transaction stands.
-    fn standing(&self, t: u8, side: u8) -> String {
+    fn standing(&self, base: u32, t: u8, side: u8) -> String {
         let position = &self.outcome.course.position;
+        let sendable = self.can_send(t, side);
+        let since = match sendable {
+            true => self.open_since(base, t),
+            false => String::new(),
+        };
         let standing = [
             ("; in the pool", position.in_pool(t)),
             ("; in the block being filled", position.in_block(t)),
-            ("; can be sent now", self.can_send(t, side)),
+            ("; can be sent now", sendable),
         ];
         let standing = standing.iter().filter(|(_, holds)| *holds);
-        standing.map(|(words, _)| *words).collect()
+        standing.map(|(words, _)| *words).collect::<String>() + &since
+    }
+
+    /// Since when it has been open, by Slip 9; nothing where it never was, as below a parent in the pool.
+    fn open_since(&self, base: u32, t: u8) -> String {
+        let Outcome {
+            sheet,
+            setup,
+            course,
+            ..
+        } = &self.outcome;
+        let along = first_open::positions(sheet, setup, &course.accepted);
+        match first_open::count(sheet, setup, &along, t) {
+            NEVER => String::new(),
+            blocks => format!(", open since block {}", height(base, blocks)),
+        }
     }
 
     /// The warnings of a side, and what is due before the outage.

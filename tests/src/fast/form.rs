@@ -1,6 +1,7 @@
 //! How the position goes into a step and comes back: lent, or by value.
 
 use super::contract::Contract;
+use super::opened::Opened;
 use super::position::Position;
 use super::{step, Checked};
 
@@ -9,26 +10,29 @@ pub struct Ran {
     pub position: Position,
     pub refusal: u32,
     pub accepted: usize,
+    pub opened: Opened,
 }
 
 /// A form of taking steps.
 pub trait Form {
-    /// The steps up to the first refused one.
-    fn run(contract: &Contract, steps: &[[u8; 4]]) -> Ran;
+    /// The steps up to the first refused one; with NOTE, when each transaction was first open.
+    fn run<const NOTE: bool>(contract: &Contract, steps: &[[u8; 4]]) -> Ran;
 }
 
 /// The position is lent to each step, which changes it in its place.
 pub struct Lent;
 
 impl Form for Lent {
-    fn run(contract: &Contract, steps: &[[u8; 4]]) -> Ran {
+    fn run<const NOTE: bool>(contract: &Contract, steps: &[[u8; 4]]) -> Ran {
         let mut position = Position::new(contract);
+        let mut opened = Opened::new::<NOTE>(contract, &position);
         for (accepted, &step) in steps.iter().enumerate() {
             if let Err(refusal) = step::take(contract, &mut position, step) {
-                return ran(position, refusal, accepted);
+                return ran(position, refusal, accepted, opened);
             }
+            opened.note::<NOTE>(contract, &position);
         }
-        ran(position, 0, steps.len())
+        ran(position, 0, steps.len(), opened)
     }
 }
 
@@ -37,24 +41,27 @@ impl Form for Lent {
 pub struct ByValue<const RULES: bool>;
 
 impl<const RULES: bool> Form for ByValue<RULES> {
-    fn run(contract: &Contract, steps: &[[u8; 4]]) -> Ran {
+    fn run<const NOTE: bool>(contract: &Contract, steps: &[[u8; 4]]) -> Ran {
         let mut position = Position::new(contract);
+        let mut opened = Opened::new::<NOTE>(contract, &position);
         for (accepted, &step) in steps.iter().enumerate() {
             let stepped = position.step::<RULES>(contract, step);
             position = stepped.position;
             if let Err(refusal) = stepped.checked {
-                return ran(position, refusal, accepted);
+                return ran(position, refusal, accepted, opened);
             }
+            opened.note::<NOTE>(contract, &position);
         }
-        ran(position, 0, steps.len())
+        ran(position, 0, steps.len(), opened)
     }
 }
 
-fn ran(position: Position, refusal: u32, accepted: usize) -> Ran {
+fn ran(position: Position, refusal: u32, accepted: usize, opened: Opened) -> Ran {
     Ran {
         position,
         refusal,
         accepted,
+        opened,
     }
 }
 

@@ -7,6 +7,7 @@ mod conduct;
 mod contract;
 mod form;
 mod open;
+mod opened;
 mod position;
 mod rows;
 mod step;

@@ -1,16 +1,18 @@
 //! The rows of a report.
 
 use super::contract::Contract;
+use super::opened::Opened;
 use super::position::Position;
 
 /// The bytes of a row.
-pub const ROW: usize = 14;
+pub const ROW: usize = 18;
 
 /// Writes a row for each transaction.
-pub fn write(contract: &Contract, position: &Position, output: &mut [u8]) {
+pub fn write(contract: &Contract, position: &Position, opened: &Opened, output: &mut [u8]) {
     let struck = struck(contract, position);
     for (t, row) in output.chunks_exact_mut(ROW).enumerate() {
         write_row(contract, position, struck, t, row);
+        row[14..].copy_from_slice(&opened.counts[t].to_le_bytes());
     }
 }
 

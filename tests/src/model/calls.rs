@@ -72,11 +72,7 @@ pub fn open_steps(sheet: &[u8], setup: &[u8], journal: &[u8]) -> Result<Vec<[u8;
 /// The bytes of the report after a journal, or its refusal.
 pub fn report_bytes(sheet: &[u8], setup: &[u8], journal: &[u8]) -> Result<Vec<u8>, u32> {
     let outcome = accepted(sheet, setup, journal)?;
-    Ok(rows::bytes(
-        &outcome.sheet,
-        &outcome.setup,
-        &outcome.course.position,
-    ))
+    Ok(rows::bytes(&outcome.sheet, &outcome.setup, &outcome.course))
 }
 
 /// 25: "buffer too short for list or report". "Bytes after the output keep their

@@ -2,7 +2,8 @@
 //! sheet, setup, heights, report (holders and payouts), ledger, position, step,
 //! conduct, journal, open, calls, swapreport; slips, document 02's changes of
 //! them; claims, what demand 3 says of them; faults, rules that the claims
-//! fail without; and a file for each further call.
+//! fail without; first_open, the counts of Slip 9; and a file for each further
+//! call.
 
 pub mod asks;
 pub mod block_list;
@@ -12,6 +13,7 @@ pub mod conduct;
 pub mod desk;
 pub mod ending;
 pub mod faults;
+pub mod first_open;
 pub mod heights;
 pub mod journal;
 pub mod ledger;

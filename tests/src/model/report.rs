@@ -1,13 +1,17 @@
 //! The report, and the holders and payouts read from a position or a report.
 
+use super::first_open;
 use super::heights;
+use super::journal::Course;
 use super::position::Position;
 use super::setup::Setup;
 use super::sheet::Sheet;
 use std::collections::BTreeMap;
 
 /// "Report writes 14 bytes for each transaction."
-pub const ROW: usize = 14;
+pub const OLDER_ROW: usize = 14;
+/// Slip 9: each gains "this count at their end, 4 bytes".
+pub const ROW: usize = OLDER_ROW + 4;
 /// The payee byte of an unconfirmed transaction.
 pub const UNCONFIRMED: u8 = 255;
 
@@ -29,14 +33,14 @@ pub fn status(sheet: &Sheet, position: &Position, t: u8) -> u8 {
 
 /// "status ..., payee (destination, 255 unconfirmed), then three 4-byte values:
 /// block or 0, lock height, deadline".
-pub fn row(sheet: &Sheet, setup: &Setup, position: &Position, t: u8) -> [u8; ROW] {
+pub fn older_row(sheet: &Sheet, setup: &Setup, position: &Position, t: u8) -> [u8; OLDER_ROW] {
     let (payee, block) = match position.confirmed.get(&t) {
         None => (UNCONFIRMED, 0),
         Some(confirmation) => (confirmation.destination, confirmation.block),
     };
     let lock_height = heights::lock_height(sheet, setup, position, t);
     let deadline = heights::deadline(sheet, setup, position, t);
-    let mut bytes = [0; ROW];
+    let mut bytes = [0; OLDER_ROW];
     bytes[0] = status(sheet, position, t);
     bytes[1] = payee;
     bytes[2..6].copy_from_slice(&block.to_le_bytes());
@@ -45,10 +49,17 @@ pub fn row(sheet: &Sheet, setup: &Setup, position: &Position, t: u8) -> [u8; ROW
     bytes
 }
 
-/// The rows of all transactions.
-pub fn bytes(sheet: &Sheet, setup: &Setup, position: &Position) -> Vec<u8> {
+/// The rows of all transactions, after the accepted steps of a course. Slip 9:
+/// each gains its count at its end, 4 bytes.
+pub fn bytes(sheet: &Sheet, setup: &Setup, course: &Course) -> Vec<u8> {
+    let older = |t: u8| older_row(sheet, setup, &course.position, t);
+    if !setup.slips.first_open_in_report {
+        return (0..sheet.count()).flat_map(older).collect();
+    }
+    let along = first_open::positions(sheet, setup, &course.accepted);
+    let count = |t: u8| first_open::count(sheet, setup, &along, t).to_le_bytes();
     (0..sheet.count())
-        .flat_map(|t| row(sheet, setup, position, t))
+        .flat_map(|t| older(t).into_iter().chain(count(t)))
         .collect()
 }
 

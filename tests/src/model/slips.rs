@@ -12,6 +12,9 @@ pub struct Slips {
     /// Slip 6: "In phase 2 Alice may now send any transaction under the same
     /// conduct tests as in phase 3"; before it "Phase 2: Alice waits."
     pub alice_sends_in_phase_2: bool,
+    /// Slip 9: "Each transaction's bytes in the report gain this count at their
+    /// end"; before it a row had 14 bytes.
+    pub first_open_in_report: bool,
 }
 
 impl Slips {
@@ -19,5 +22,6 @@ impl Slips {
         waiting_children_stay: true,
         lock_before_signature: true,
         alice_sends_in_phase_2: true,
+        first_open_in_report: true,
     };
 }

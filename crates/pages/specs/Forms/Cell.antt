@@ -11,6 +11,6 @@ use Rattle.pages.specs.Page.{lineTexts}
 abbrev pub values : ℕ → Line → List ℕ
 values t row = t ∷ row .status ∷ row .payee ∷ row .block ∷ row .lock ∷ row .deadline ∷ []
 
--- column k of line i
-unfoldable pub cell : List ℕ → ℕ → ℕ → List ℕ
-cell report i k = column (getD widths k 0) (getD (lineTexts report i) k [])
+-- column k of line i, where `shown t` are the values of t
+unfoldable pub cell : (ℕ → List ℕ) → ℕ → ℕ → List ℕ
+cell shown i k = column (getD widths k 0) (getD (lineTexts shown i) k [])

@@ -1,7 +1,7 @@
 -- Refused with the run, too short a buffer, or the rows.
-use Rattle.runs.proofs.Runs.{ran-fit}
-use Rattle.reports.proofs.Reports.{report-refused, report-short, report-whole, answered}
+use Rattle.reports.proofs.Reports.{run-fit, report-refused, report-short, report-whole, answered}
 use mathlib.Core.Path.{_∙_}
+use mathlib.Core.List.{[]}
 use native.Mathlib.Omega.{arith}
 use borrow.Author.Needs.{needs}
 use Rattle.reports.proofs.report.Statement.{statement}
@@ -17,7 +17,7 @@ returns c =
 
 count-requires : tie.Need-count-requires
 count-requires c κs =
-    let h = ran-fit _ _ _ _ (c .before .before .ran .ensures) (c .if1 .left) .checked .sized in
+    let h = run-fit _ _ _ _ (c .before .before .ran .ensures) [] (c .if1 .left) .checked .sized in
     omega (arith, h .head, h .size)
 
 mul-if2 : tie.Need-mul-if2
@@ -33,20 +33,20 @@ returns-2 c =
 
 write-report-requires : tie.Need-write-report-requires
 write-report-requires c κs =
-    let h = ran-fit _ _ _ _ (c .before .before .before .before .before .before .ran .ensures) (c .before .before .before .before .if1 .left) in
-    (h, omega (arith, c .before .before .if2 .left, c .before .before .before .count .ensures .is))
+    let h = run-fit _ _ _ _ (c .before .before .before .before .before .before .before .before .ran .ensures) [] (c .before .before .before .before .before .before .if1 .left) in
+    (h, omega (arith, c .before .before .before .before .if2 .left, c .before .before .before .before .before .count .ensures .is))
 
 same-length : tie.Need-same-length
 same-length c = search needs
 
 returns-3 : tie.Need-returns-3
 returns-3 c =
-    let a = c .before .before .before .before .before .before .before .before .before .before .before .before .before .before .args in
+    let a = c .before .before .before .before .before .before .before .before .before .before .before .before .before .before .before .before .args in
     let w =
     answered _ _
-    (report-whole (a .sheet .now) (a .setup .now) (a .journal .now) _ (c .before .before .before .before .before .before .before .before .before .ran .ensures) (a .out .now)
-    (c .before .before .before .before .before .before .before .if1 .left)
-    (omega (arith, c .before .before .before .before .before .if2 .left, c .before .before .before .before .before .before .count .ensures .is))) in
+    (report-whole (a .sheet .now) (a .setup .now) (a .journal .now) _ (c .before .before .before .before .before .before .before .before .before .before .before .ran .ensures) (a .out .now)
+    (c .before .before .before .before .before .before .before .before .before .if1 .left)
+    (omega (arith, c .before .before .before .before .before .before .before .if2 .left, c .before .before .before .before .before .before .before .before .count .ensures .is))) in
     (w .0, c .before .before .write-report .ensures ∙ w .1)
 
 pub report-spec : {M : Type 1} → statement M

@@ -7,6 +7,7 @@ use lib.ListN.{length}
 use borrow.Rule.Slice.PartMut.{putMid}
 use Rattle.laws.specs.Gather.{gather}
 use Rattle.laws.specs.Wrote.{Wrote, Turns, turns-start, turn-room, turn-end, turn-more, turns-done, wrote-room, wrote-more}
+use Rattle.readings.specs.Reported.{reportedLine}
 use Rattle.pages.specs.Line.{lineFeed, column, line}
 use Rattle.pages.specs.Page.{lineTexts}
 use Rattle.pages.specs.Forms.Cell.{cell}
@@ -16,37 +17,37 @@ use Rattle.pages.proofs.line.write_line.Statement.{statement}
 use Rattle.pages.proofs.line.write_line.Tie as tie
 
 abbrev Inv-loop : tie.InvT-loop
-Inv-loop report i out₀ at₀ k₀ t7 out at k = Turns (cell report i) 6 out₀ out at k
+Inv-loop report i out₀ at₀ k₀ t7 out at k = Turns (cell (reportedLine report) i) 6 out₀ out at k
 
 abbrev μ-loop : tie.MeasureT-loop
 μ-loop report i out₀ at₀ k₀ t7 out at k = 6 - k
 
 -- what the loop has written, and that the line fits
 done : (c : tie.After-loop Inv-loop μ-loop) → let l = c .before .loop in
-    let s = c .before .before .before .before in Wrote (gather 6 (cell (s .args .report .now) (s .args .i))) (s .args .out .now) (l .out) (l .at)
+    let s = c .before .before .before .before in Wrote (gather 6 (cell (reportedLine (s .args .report .now)) (s .args .i))) (s .args .out .now) (l .out) (l .at)
 done c = turns-done _ _ _ _ _ _ (c .before .loop .inv) (c .loop-test .left)
 
 parts : (c : tie.After-loop Inv-loop μ-loop) → let l = c .before .loop in
-    let s = c .before .before .before .before in gather 6 (cell (s .args .report .now) (s .args .i)) ++ column (73 - l .at) (lineFeed ∷ []) ≡ line (lineTexts (s .args .report .now) (s .args .i))
-parts c = let s = c .before .before .before .before in line-parts (s .args .report .now) (s .args .i) _ (done c .at)
+    let s = c .before .before .before .before in gather 6 (cell (reportedLine (s .args .report .now)) (s .args .i)) ++ column (73 - l .at) (lineFeed ∷ []) ≡ line (lineTexts (reportedLine (s .args .report .now)) (s .args .i))
+parts c = let s = c .before .before .before .before in line-parts (reportedLine (s .args .report .now)) (s .args .i) _ (done c .at)
 
 fits : (c : tie.After-loop Inv-loop μ-loop) → let l = c .before .loop in
-    let s = c .before .before .before .before in length (gather 6 (cell (s .args .report .now) (s .args .i)) ++ column (73 - l .at) (lineFeed ∷ [])) ≤ length (s .args .out .now)
+    let s = c .before .before .before .before in length (gather 6 (cell (reportedLine (s .args .report .now)) (s .args .i)) ++ column (73 - l .at) (lineFeed ∷ [])) ≤ length (s .args .out .now)
 fits c =
     let s = c .before .before .before .before in
     let known = c .before .before .before .shared-slice-known .given in
-    rw (parts c) (omega (arith, s .pre .1 .1, line-length (s .args .i) (s .args .report .now) (bytes-readable _ _ (s .pre .0) (λ n. omega (arith, known n))) (s .args .i) (omega arith)))
+    rw (parts c) (omega (arith, s .pre .1 .1, line-length (s .args .i) (reportedLine (s .args .report .now)) (bytes-readable _ _ (s .pre .0) (λ n. omega (arith, known n))) (s .args .i) (omega arith)))
 
 short : (c : tie.After-loop Inv-loop μ-loop) → c .before .loop .at ≤ 58
 short c =
     let s = c .before .before .before .before in
     let known = c .before .before .before .shared-slice-known .given in
-    omega (arith, done c .at, cells-short (s .args .i) (s .args .report .now) (bytes-readable _ _ (s .pre .0) (λ n. omega (arith, known n))) (s .args .i) (omega arith))
+    omega (arith, done c .at, cells-short (s .args .i) (reportedLine (s .args .report .now)) (bytes-readable _ _ (s .pre .0) (λ n. omega (arith, known n))) (s .args .i) (omega arith))
 
 loop-holds : tie.Need-loop-holds Inv-loop μ-loop
 loop-holds c =
     let s = c .before .before in
-    turns-start _ _ _ (cells-room (s .args .i) (s .args .report .now) (bytes-readable _ _ (s .pre .0) (λ n. omega (arith, c .before .shared-slice-known .given n))) (s .args .i) _ (omega arith) (s .pre .1 .1))
+    turns-start _ _ _ (cells-room (s .args .i) (reportedLine (s .args .report .now)) (bytes-readable _ _ (s .pre .0) (λ n. omega (arith, c .before .shared-slice-known .given n))) (s .args .i) _ (omega arith) (s .pre .1 .1))
 
 sub-write-cell : tie.Need-sub-write-cell Inv-loop μ-loop
 sub-write-cell c = omega (arith, c .before .loop .inv .wrote)
@@ -96,7 +97,7 @@ write-text-requires c κs = let k = c .before .before in wrote-room _ _ _ _ _ (d
 whole : (c : tie.After-slice-known3 Inv-loop μ-loop) → let k = c .before .before .before .before .before in
     let l = k .before .loop in
     let s = k .before .before .before .before in
-    Wrote (gather 6 (cell (s .args .report .now) (s .args .i)) ++ column (73 - l .at) (lineFeed ∷ [])) (s .args .out .now)
+    Wrote (gather 6 (cell (reportedLine (s .args .report .now)) (s .args .i)) ++ column (73 - l .at) (lineFeed ∷ [])) (s .args .out .now)
     (putMid (l .at) (length (l .out) - l .at) (l .out) (c .before .before .write-text .last .1 .1 .0)) (l .at + c .before .before .write-text .result)
 whole c = let k = c .before .before .before .before .before in wrote-more _ _ _ _ _ _ _ (done k) (fits k) (c .before .before .write-text .ensures .0) (c .before .before .write-text .ensures .1)
 

@@ -4,6 +4,7 @@ use native.Mathlib.Omega.{arith}
 use mathlib.Core.Path.{_≡_, sym}
 use lib.ListN.{length}
 use Rattle.laws.specs.Wrote.{Turns, turns-start, turn-room, turn-end, turn-more, turns-done}
+use Rattle.readings.specs.Reported.{reportedLine}
 use Rattle.pages.specs.Line.{line}
 use Rattle.pages.specs.Page.{lineTexts, pageOf}
 use Rattle.pages.proofs.Lines.{bytes-readable, line-length, page-room}
@@ -12,16 +13,16 @@ use Rattle.pages.proofs.line.write_page.Statement.{statement}
 use Rattle.pages.proofs.line.write_page.Tie as tie
 
 abbrev Inv-loop : tie.InvT-loop
-Inv-loop report n out₀ at₀ i₀ out at i = Turns (λ j. line (lineTexts report j)) (suc n) out₀ out at i
+Inv-loop report n out₀ at₀ i₀ out at i = Turns (λ j. line (lineTexts (reportedLine report) j)) (suc n) out₀ out at i
 
 abbrev μ-loop : tie.MeasureT-loop
 μ-loop report n out₀ at₀ i₀ out at i = suc n - i
 
 -- line i has its length
-long : (c : tie.In-loop Inv-loop μ-loop) → length (line (lineTexts (c .before .before .before .before .args .report .now) (c .before .loop .i))) ≡ 73
+long : (c : tie.In-loop Inv-loop μ-loop) → length (line (lineTexts (reportedLine (c .before .before .before .before .args .report .now)) (c .before .loop .i))) ≡ 73
 long c =
     let known = c .before .before .before .shared-slice-known .given in
-    line-length (c .before .before .before .before .args .n) (c .before .before .before .before .args .report .now) (bytes-readable _ _ (c .before .before .before .before .pre .0) (λ k. omega (arith, known k))) (c .before .loop .i) (omega (arith, c .loop-test .taken))
+    line-length (c .before .before .before .before .args .n) (reportedLine (c .before .before .before .before .args .report .now)) (bytes-readable _ _ (c .before .before .before .before .pre .0) (λ k. omega (arith, known k))) (c .before .loop .i) (omega (arith, c .loop-test .taken))
 
 again : (c : tie.In-loop Inv-loop μ-loop) → c .before .loop .i < suc (c .before .before .before .before .args .n)
 again c = omega (arith, c .loop-test .taken)
@@ -29,7 +30,7 @@ again c = omega (arith, c .loop-test .taken)
 loop-holds : tie.Need-loop-holds Inv-loop μ-loop
 loop-holds c =
     let s = c .before .before in
-    turns-start _ _ _ (page-room (s .args .n) (s .args .report .now) (bytes-readable _ _ (s .pre .0) (λ k. omega (arith, c .before .shared-slice-known .given k))) _ (s .pre .1 .1))
+    turns-start _ _ _ (page-room (s .args .n) (reportedLine (s .args .report .now)) (bytes-readable _ _ (s .pre .0) (λ k. omega (arith, c .before .shared-slice-known .given k))) _ (s .pre .1 .1))
 
 sub-write-line : tie.Need-sub-write-line Inv-loop μ-loop
 sub-write-line c = omega (arith, c .before .loop .inv .wrote)

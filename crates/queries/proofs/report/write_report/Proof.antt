@@ -2,13 +2,15 @@
 use Rattle.position.proofs.ReportLengths.{row-length, rows-room}
 use Rattle.queries.proofs.ReportRows.{row-written}
 use Rattle.readings.specs.Reported.{rowWidth}
-use Rattle.position.specs.Report.{row, reportBytes}
+use Rattle.position.specs.Report.{fullRow, reportBytes}
 use Rattle.position.specs.Position.{slot}
 use Rattle.position.specs.Forms.View.{sinceIn}
+use Rattle.output.specs.Forms.Row.{rowBytes}
+use Rattle.laws.specs.Little.{bytesOf}
 use Rattle.laws.specs.Each.{length-of-map}
 use Rattle.laws.specs.Wrote.{Turns, turns-start, turn-room, turn-end, turn-more, turns-done}
 use mathlib.Core.Path.{_≡_, refl, sym}
-use lib.ListN.{length}
+use lib.ListN.{length, getD}
 use Prim.Native.Nat.{_-_}
 use native.Mathlib.Omega.{arith}
 use borrow.Author.Needs.{needs}
@@ -16,10 +18,10 @@ use Rattle.queries.proofs.report.write_report.Statement.{statement}
 use Rattle.queries.proofs.report.write_report.Tie as tie
 
 abbrev Inv-loop : tie.InvT-loop
-Inv-loop sheet setup out₀ position n per-day view struck at₀ t₀ out at t = Turns (row sheet setup position) n out₀ out at t
+Inv-loop sheet setup out₀ position opened n per-day view struck at₀ t₀ out at t = Turns (fullRow sheet setup position opened) n out₀ out at t
 
 abbrev μ-loop : tie.MeasureT-loop
-μ-loop sheet setup out₀ position n per-day view struck at₀ t₀ out at t = n - t
+μ-loop sheet setup out₀ position opened n per-day view struck at₀ t₀ out at t = n - t
 
 count-requires : tie.Need-count-requires Inv-loop μ-loop
 count-requires c κs = search needs
@@ -37,7 +39,7 @@ loop-holds : tie.Need-loop-holds Inv-loop μ-loop
 loop-holds c =
     let k = c .before .before .before .before .before .before .before in
     let n = c .before .before .before .count in
-    turns-start _ _ _ (rows-room (k .args .sheet .now) (k .args .setup .now) (k .args .t1) (n .result) _ (n .ensures .is) (k .pre .1))
+    turns-start _ _ _ (rows-room (k .args .sheet .now) (k .args .setup .now) (k .args .t1) (k .args .t2) (n .result) _ (n .ensures .is) (k .pre .1))
 
 mul-x : tie.Need-mul-x Inv-loop μ-loop
 mul-x c = search needs
@@ -69,17 +71,25 @@ part-write-row-start c = omega (arith, c .before .before .before .before .before
 part-write-row-end : tie.Need-part-write-row-end Inv-loop μ-loop
 part-write-row-end c = search needs
 
+mul-write-row : tie.Need-mul-write-row Inv-loop μ-loop
+mul-write-row c = search needs
+
+array-read-write-row : tie.Need-array-read-write-row Inv-loop μ-loop
+array-read-write-row c =
+    omega (arith, c .before .before .before .before .before .before .loop-test .taken, c .before .before .before .before .before .before .before .before .before .before .before .count .ensures .is, c .before .before .before .before .before .before .before .before .before .before .before .before .before .before .before .pre .0 .checked .sized .few)
+
 write-row-requires : tie.Need-write-row-requires Inv-loop μ-loop
+unfolding rowBytes bytesOf
 write-row-requires c κs =
     let k = c .before .before .before .before .before .before .before .before .before .before .before .before .before .before .before in
     let i = c .before .before .before .before .before .before .before .loop in
-    omega (arith, row-length (k .args .sheet .now) (k .args .setup .now) (k .args .t1) (i .t), turn-room _ _ _ _ _ _ (i .inv) (c .before .before .before .before .before .before .loop-test .taken))
+    omega (arith, row-length (k .args .sheet .now) (k .args .setup .now) (k .args .t1) (k .args .t2) (i .t), turn-room _ _ _ _ _ _ (i .inv) (c .before .before .before .before .before .before .loop-test .taken))
 
 add-at : tie.Need-add-at Inv-loop μ-loop
 add-at c =
     let k = c .before .before .before .before .before .before .before .before .before .before .before .before .before .before .before .before .before .before in
     let i = c .before .before .before .before .before .before .before .before .before .before .loop in
-    omega (arith, turn-end _ _ _ _ _ _ rowWidth (i .inv) (c .before .before .before .before .before .before .before .before .before .loop-test .taken) (sym (row-length (k .args .sheet .now) (k .args .setup .now) (k .args .t1) (i .t))))
+    omega (arith, turn-end _ _ _ _ _ _ rowWidth (i .inv) (c .before .before .before .before .before .before .before .before .before .loop-test .taken) (sym (row-length (k .args .sheet .now) (k .args .setup .now) (k .args .t1) (k .args .t2) (i .t))))
 
 add-t : tie.Need-add-t Inv-loop μ-loop
 add-t c = search needs
@@ -95,10 +105,11 @@ loop-again c =
     let m = c .before .before .before .before .before .before .before .before .before .loop-test .taken in
     let n = c .before .before .before .before .before .before .before .before .before .before .before .before .before .before .count in
     let l : length (k .args .t1 .slots) ≡ 32 = search (length-of-map, k .good) in
+    let o : length (k .args .t2) ≡ 32 = search (k .good) in
     let wrote =
-    row-written (k .args .sheet .now) (k .args .setup .now) (k .args .t1) (i .t) _ _ _ _ _ _ (k .pre .0 .checked .sized .few) l (omega (arith, m, n .ensures .is))
-    (c .before .before .before .before .before .before .before .before .before .before .before .before .before .per-day .ensures) (c .before .before .before .before .before .before .before .before .before .before .before .before .view .ensures) (c .before .before .before .before .before .before .before .before .before .before .before .conflicts-of .ensures) refl (rw (← (c .before .before .before .before .before .before .before .slot-above .ensures .0)) (c .before .before .before .before .before .block-above .ensures)) (c .before .before .before .before .row .ensures) in
-    turn-more _ _ _ _ _ _ _ rowWidth (i .inv) m (sym (row-length (k .args .sheet .now) (k .args .setup .now) (k .args .t1) (i .t))) (rw wrote at (c .before .before .write-row .ensures))
+    row-written (k .args .sheet .now) (k .args .setup .now) (k .args .t1) (k .args .t2) (i .t) _ _ _ _ _ _ (getD (k .args .t2) (i .t) 0) (k .pre .0 .checked .sized .few) l (omega (arith, m, n .ensures .is))
+    (c .before .before .before .before .before .before .before .before .before .before .before .before .before .per-day .ensures) (c .before .before .before .before .before .before .before .before .before .before .before .before .view .ensures) (c .before .before .before .before .before .before .before .before .before .before .before .conflicts-of .ensures) refl (rw (← (c .before .before .before .before .before .before .before .slot-above .ensures .0)) (c .before .before .before .before .before .block-above .ensures)) (c .before .before .before .before .row .ensures) refl o in
+    turn-more _ _ _ _ _ _ _ rowWidth (i .inv) m (sym (row-length (k .args .sheet .now) (k .args .setup .now) (k .args .t1) (k .args .t2) (i .t))) (rw wrote at (c .before .before .write-row .ensures))
 
 same-length : tie.Need-same-length Inv-loop μ-loop
 same-length c = c .before .loop .inv .wrote .long
@@ -128,6 +139,8 @@ write-report-spec =
     sub-write-row
     part-write-row-start
     part-write-row-end
+    mul-write-row
+    array-read-write-row
     write-row-requires
     add-at
     add-t

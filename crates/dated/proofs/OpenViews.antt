@@ -1,0 +1,90 @@
+-- What is open over a view, a slot and the parent's block is what is open in the position.
+-- Assumes nothing.
+use Prim.Native.Nat.{ℕ, _<_}
+use mathlib.Core.Path.{_≡_, refl, sym, ap, _∙_}
+use mathlib.Core.Bool.{Bool, true, false, not, _&&_}
+use mathlib.Core.List.{List}
+use lib.Dec.{eqb, leb}
+use lib.ListN.{length}
+use Rattle.laws.specs.Booleans.{pick}
+use Rattle.laws.specs.Below.{anyBelow}
+use Rattle.laws.specs.Mask.{bit}
+use Rattle.laws.specs.Sets.{set-bit}
+use Rattle.sheet.specs.Field.{parties, count, parent}
+use Rattle.sheet.specs.Setup.{perDay}
+use Rattle.sheet.specs.LockHeight.{never, lockHeight}
+use Rattle.sheet.specs.Checked.{Checked}
+use Rattle.slots.specs.declared.Slot.{Slot}
+use Rattle.slots.specs.Conflict.{conflictIn, noConflict}
+use Rattle.slots.specs.Ancestry.{hasParent}
+use Rattle.slots.specs.Signatures.{sharedSecrets}
+use Rattle.steps.specs.declared.View.{View}
+use Rattle.steps.specs.Forms.View.{keysIn, senderIn}
+use Rattle.position.specs.declared.Position.{Position}
+use Rattle.position.specs.Position.{slot, blockOf, isConfirmed, keys, shared, senderHas, lockHeightIn}
+use Rattle.position.specs.Forms.View.{viewBelow, sinceIn}
+use Rattle.position.proofs.SendTests.{noConflict-set, hasParent-set, since-parent, lockHeight-parent}
+use Rattle.dated.specs.Opens.{atHand, opens}
+use Rattle.dated.specs.Dated.{firstOpen}
+use Rattle.dated.specs.Forms.Opens.{atHandIn, opensIn, firstOpenIn}
+use Rattle.dated.proofs.Conjunction.{second-fails, third-fails, fourth-fails, first-left}
+
+module _ (s u : List ℕ) (p : Position) (ok : Checked s) (t : ℕ) (l : t < count s) where
+  confirmed-bit : (k : ℕ) → k < count s → bit (viewBelow (count s) p .confirmed) k ≡ isConfirmed p k
+  unfolding viewBelow
+  confirmed-bit k m = set-bit (count s) (isConfirmed p) (ok .sized .few) k m
+
+  at-hand-view : atHandIn s (viewBelow (count s) p) (slot p t) t ≡ atHand s p t
+  unfolding atHandIn atHand senderIn viewBelow keysIn senderHas keys sharedSecrets shared
+  at-hand-view = refl
+
+  mined-view : viewBelow (count s) p .mined ≡ p .mined
+  unfolding viewBelow
+  mined-view = refl
+
+  opens-view : opensIn s (perDay u) (viewBelow (count s) p) (slot p t) (blockOf p (parent s t)) t ≡ opens s u p t
+  unfolding opensIn opens
+  opens-view =
+      rw (
+        noConflict-set s (viewBelow (count s) p .confirmed) (isConfirmed p) confirmed-bit t,
+        hasParent-set s (viewBelow (count s) p .confirmed) (isConfirmed p) confirmed-bit t ok l,
+        lockHeight-parent s u p t,
+        at-hand-view,
+        mined-view,
+      )
+
+  -- where d, v, x and since are what the code found
+  pub first-open-view : (d : ℕ) (v : View) (x : Slot) (since c : ℕ) → length (p .slots) ≡ 32 → d ≡ perDay u → v ≡ viewBelow (count s) p
+      → x ≡ slot p t → since ≡ sinceIn s p t → firstOpenIn s d v x since t c ≡ firstOpen s u p t c
+  unfolding firstOpenIn firstOpen
+  first-open-view d v x since c n ed ev ex ec = rw (ed, ev, ex, ec ∙ since-parent s p n t, opens-view, mined-view)
+
+-- the code's returns, over the tests of `opensIn`
+module _ (s : List ℕ) (d : ℕ) (v : View) (x : Slot) (since t : ℕ) where
+  abbrev rival : Bool
+  rival = noConflict s (bit (v .confirmed)) t
+
+  abbrev above : Bool
+  above = hasParent s (bit (v .confirmed)) t
+
+  abbrev reached : Bool
+  reached = leb (lockHeight s d (λ k. since) t) (v .mined)
+
+  abbrev some-signs : Bool
+  some-signs = anyBelow parties (atHandIn s v x t)
+
+  pub without-parent : above ≡ false → false ≡ opensIn s d v x since t
+  unfolding opensIn
+  without-parent = second-fails rival above reached some-signs
+
+  pub under-lock : above ≡ true → reached ≡ false → false ≡ opensIn s d v x since t
+  unfolding opensIn
+  under-lock = third-fails rival above reached some-signs
+
+  pub unsigned : above ≡ true → reached ≡ true → some-signs ≡ false → false ≡ opensIn s d v x since t
+  unfolding opensIn
+  unsigned = fourth-fails rival above reached some-signs
+
+  pub by-rival : (c : Bool) → c ≡ conflictIn s (bit (v .confirmed)) t → above ≡ true → reached ≡ true → some-signs ≡ true → not c ≡ opensIn s d v x since t
+  unfolding opensIn noConflict
+  by-rival c e p r a = ap not e ∙ first-left rival above reached some-signs p r a

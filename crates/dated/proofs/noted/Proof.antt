@@ -1,0 +1,109 @@
+-- The counts of the transactions before t are noted.
+use Rattle.dated.specs.Dated.{firstOpen, noted}
+use Rattle.dated.proofs.OpenViews.{first-open-view}
+use Rattle.position.specs.Position.{slot}
+use Rattle.position.specs.Forms.View.{sinceIn}
+use Rattle.laws.specs.Each.{rewriteFirst, rewrite-start, rewrite-again, rewrite-done, length-of-map}
+use lib.ListN.{length, getD}
+use mathlib.Core.Path.{_≡_, refl, _∙_}
+use Prim.Native.Nat.{_≤_, _-_}
+use native.Mathlib.Omega.{arith}
+use borrow.Author.Needs.{needs}
+use Rattle.dated.proofs.noted.Statement.{statement}
+use Rattle.dated.proofs.noted.Tie as tie
+
+abbrev Inv-loop : tie.InvT-loop
+Inv-loop sheet setup view position n per-day counts₀ t₀ counts t = (t ≤ n) × (counts ≡ rewriteFirst t (firstOpen sheet setup position) counts₀)
+
+abbrev μ-loop : tie.MeasureT-loop
+μ-loop sheet setup view position n per-day counts₀ t₀ counts t = n - t
+
+count-requires : tie.Need-count-requires Inv-loop μ-loop
+count-requires c κs = search needs
+
+per-day-requires : tie.Need-per-day-requires Inv-loop μ-loop
+per-day-requires c κs = search needs
+
+loop-holds : tie.Need-loop-holds Inv-loop μ-loop
+loop-holds c = (search needs, rewrite-start _ _)
+
+mul-x : tie.Need-mul-x Inv-loop μ-loop
+mul-x c = search needs
+
+element-copy-out-x : tie.Need-element-copy-out-x Inv-loop μ-loop
+element-copy-out-x c = search needs
+
+slot-above-requires : tie.Need-slot-above-requires Inv-loop μ-loop
+slot-above-requires c κs = search needs
+
+mul-above : tie.Need-mul-above Inv-loop μ-loop
+mul-above c = search needs
+
+element-copy-out-above : tie.Need-element-copy-out-above Inv-loop μ-loop
+element-copy-out-above c = search needs
+
+block-above-requires : tie.Need-block-above-requires Inv-loop μ-loop
+block-above-requires c κs = search needs
+
+mul-first-open : tie.Need-mul-first-open Inv-loop μ-loop
+mul-first-open c = search needs
+
+array-read-first-open : tie.Need-array-read-first-open Inv-loop μ-loop
+array-read-first-open c = search needs
+
+first-open-requires : tie.Need-first-open-requires Inv-loop μ-loop
+first-open-requires c κs = search needs
+
+mul-counts : tie.Need-mul-counts Inv-loop μ-loop
+mul-counts c = search needs
+
+array-write-counts : tie.Need-array-write-counts Inv-loop μ-loop
+array-write-counts c = search needs
+
+add-t : tie.Need-add-t Inv-loop μ-loop
+add-t c = search needs
+
+loop-less : tie.Need-loop-less Inv-loop μ-loop
+loop-less c = search needs
+
+loop-again : tie.Need-loop-again Inv-loop μ-loop
+unfolding sinceIn slot
+loop-again c =
+    let k = c .before .before .before .before .before .before .before .before .before .before .before in
+    let i = c .before .before .before .before .before .before .loop in
+    let m = c .before .before .before .before .before .loop-test .taken in
+    let n = c .before .before .before .before .before .before .before .before .count in
+    let l : length (k .args .t2 .slots) ≡ 32 = search (length-of-map, k .good) in
+    let e =
+    first-open-view (k .args .sheet .now) (k .args .setup .now) (k .args .t2) (k .pre .0 .checked) (i .t) (omega (arith, m, n .ensures .is)) _ _ _ (c .before .block-above .result) (getD (i .counts) (i .t) 0) l
+    (c .before .before .before .before .before .before .before .per-day .ensures) (k .pre .1) refl (rw (← (c .before .before .before .slot-above .ensures .0)) (c .before .block-above .ensures)) in
+    (search needs, rewrite-again _ _ _ _ 0 _ (i .inv .1) (c .first-open .ensures ∙ e))
+
+returns : tie.Need-returns Inv-loop μ-loop
+unfolding noted
+returns c = rw (← (c .before .before .before .count .ensures .is)) (rewrite-done _ _ _ _ _ (c .before .loop .inv .0) (c .loop-test .left) (c .before .loop .inv .1))
+
+pub noted-spec : {M : Type 1} → statement M
+noted-spec =
+    tie.close
+    (tie.spec
+    Inv-loop
+    μ-loop
+    count-requires
+    per-day-requires
+    loop-holds
+    mul-x
+    element-copy-out-x
+    slot-above-requires
+    mul-above
+    element-copy-out-above
+    block-above-requires
+    mul-first-open
+    array-read-first-open
+    first-open-requires
+    mul-counts
+    array-write-counts
+    add-t
+    loop-less
+    loop-again
+    returns)

@@ -1,0 +1,4 @@
+pub mod Opens
+pub mod Dated
+pub mod Report
+pub mod Forms

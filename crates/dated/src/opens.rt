@@ -1,0 +1,101 @@
+// Whether a transaction is open, over a view, its slot x and `since`, its parent's block.
+use slots::Slot;
+use slots::conflict;
+use slots::lock_height;
+use slots::party;
+use slots::signatures;
+use steps::View;
+use steps::parent;
+ghost use Prim.Native.Nat.{_<_};
+ghost use mathlib.Core.Path.{_≡_};
+ghost use lib.Dec.{leb};
+ghost use Rattle.laws.specs.Below.{anyBelow};
+ghost use Rattle.sheet.specs.Field.{parties, count, Sized};
+ghost use Rattle.sheet.specs.LockHeight.{lockHeight};
+ghost use Rattle.sheet.specs.Checked.{Checked};
+ghost use Rattle.dated.specs.Forms.Opens.{atHandIn, opensIn, firstOpenIn};
+
+// Never, as a height and as a count.
+pub const NEVER: u32 = 2147483647;
+
+// Whether the signatures of t are at hand for a party: for the contract, or for itself as a payee.
+fn at_hand(sheet: &[u8], view: View, x: Slot, t: usize, party: u8) -> bool
+    requires { ⌜ Checked (now sheet) ⌝ }
+    requires { ⌜ t < count (now sheet) ⌝ }
+    requires { ⌜ party < parties ⌝ }
+    ensures { λ r. ⌜ r ≡ atHandIn (now (sheet .entry)) view x t party ⌝ }
+{
+    if party::is_contract(sheet, t) {
+        return signatures::signed(sheet, view.sender(sheet, x, party, 2), t);
+    }
+    if !party::is_payee(sheet, t, party) {
+        return false;
+    }
+    signatures::signed(sheet, view.sender(sheet, x, party, party), t)
+}
+
+// For some party.
+fn at_hand_of_some(sheet: &[u8], view: View, x: Slot, t: usize) -> bool
+    requires { ⌜ Checked (now sheet) ⌝ }
+    requires { ⌜ t < count (now sheet) ⌝ }
+    ensures { λ r. ⌜ r ≡ anyBelow parties (atHandIn (now (sheet .entry)) view x t) ⌝ }
+{
+    let mut party: u8 = 0;
+    while party < 2 {
+        if at_hand(sheet, view, x, t, party) {
+            return true;
+        }
+        party += 1;
+    }
+    false
+}
+
+// Whether the lock of t is reached.
+fn lock_reached(sheet: &[u8], per_day: u16, since: u16, mined: u16, t: usize) -> bool
+    requires { ⌜ Sized (now sheet) ⌝ }
+    requires { ⌜ t < count (now sheet) ⌝ }
+    ensures { λ r. ⌜ r ≡ leb (lockHeight (now (sheet .entry)) «per_day» (λ k. since) t) mined ⌝ }
+{
+    lock_height::lock_height(sheet, per_day, since, t) <= lock_height::wide(mined)
+}
+
+// Whether t is open. The parent is tested first: the search for a rival takes longest.
+pub fn opens(sheet: &[u8], per_day: u16, view: View, x: Slot, since: u16, t: usize) -> bool
+    requires { ⌜ Checked (now sheet) ⌝ }
+    requires { ⌜ t < count (now sheet) ⌝ }
+    ensures { λ r. ⌜ r ≡ opensIn (now (sheet .entry)) «per_day» view x since t ⌝ }
+{
+    if !parent::parent_there(sheet, view.confirmed, t) {
+        return false;
+    }
+    if !lock_reached(sheet, per_day, since, view.mined, t) {
+        return false;
+    }
+    if !at_hand_of_some(sheet, view, x, t) {
+        return false;
+    }
+    !conflict::conflict_in(sheet, view.confirmed, t)
+}
+
+// The count c of t once this is seen: the blocks mined, where it is open for the first time.
+pub fn first_open(
+    sheet: &[u8],
+    per_day: u16,
+    view: View,
+    x: Slot,
+    since: u16,
+    t: usize,
+    c: u32,
+) -> u32
+    requires { ⌜ Checked (now sheet) ⌝ }
+    requires { ⌜ t < count (now sheet) ⌝ }
+    ensures { λ r. ⌜ r ≡ firstOpenIn (now (sheet .entry)) «per_day» view x since t c ⌝ }
+{
+    if c != NEVER {
+        return c;
+    }
+    if !opens(sheet, per_day, view, x, since, t) {
+        return c;
+    }
+    view.mined as u32
+}

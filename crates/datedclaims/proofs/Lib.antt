@@ -1,0 +1,4 @@
+mod Staying
+mod Along
+pub mod Theorems
+pub mod Examples

@@ -1,0 +1,53 @@
+-- A count that is set stays.
+-- Assumes nothing.
+use Prim.Native.Nat.{ℕ, _+_, _≤_, _<_}
+use native.Mathlib.Omega.{arith}
+use mathlib.Core.Path.{_≡_, refl, sym, ap, _∙_}
+use mathlib.Core.Bool.{true, false}
+use mathlib.Core.List.{List, [], _∷_}
+use lib.Dec.{eqb, ltb}
+use lib.ListN.{length, getD, List·getD-eq-default}
+use borrow.Author.Tests.{ltb-true, ltb-false, ne-eqb}
+use Rattle.laws.specs.Booleans.{pick, split}
+use Rattle.laws.specs.Each.{rewriteFirst, not-rewritten}
+use Rattle.sheet.specs.Refusal.{accepted}
+use Rattle.sheet.specs.Field.{count}
+use Rattle.sheet.specs.LockHeight.{never}
+use Rattle.position.specs.declared.Position.{Position}
+use Rattle.position.specs.Play.{FourBytes, step}
+use Rattle.dated.specs.declared.Dated.{Dated}
+use Rattle.dated.specs.declared.DatedRun.{DatedRun}
+use Rattle.dated.specs.Dated.{countOf, firstOpen, noted, AfterStep, datedStep, datedRunFrom}
+use Rattle.dated.proofs.Notes.{noted-length, noted-at}
+use Rattle.dated.proofs.Stepping.{step-taken, step-refused, run-next, run-stops}
+
+module _ (s u : List ℕ) (t : ℕ) where
+  -- a position that is seen
+  noted-stays : (p : Position) (counts : List ℕ) → (getD counts t never ≡ never → ⊥) → getD (noted s u p counts) t never ≡ getD counts t never
+  unfolding noted firstOpen
+  noted-stays p counts h =
+      split (ltb t (length counts))
+      (λ l.
+      split (ltb t (count s))
+      (λ m. noted-at s u p counts t (ltb-true t (count s) m) (ltb-true t (length counts) l) ∙ rw (ne-eqb (getD counts t never) never h))
+      (λ m. not-rewritten (count s) (firstOpen s u p) counts t never (ltb-false t (count s) m)))
+      (λ l. absurd (h (List·getD-eq-default counts never {n = t} (ltb-false t (length counts) l))))
+
+  pub step-stays : (d : Dated) (b : FourBytes) → (countOf d t ≡ never → ⊥) → countOf (datedStep s u d b .dated) t ≡ countOf d t
+  unfolding countOf
+  step-stays d b h =
+      split (eqb (step s u (d .position) b .refusal) accepted)
+      (λ y. ap (λ (r : AfterStep). getD (r .dated .opened) t never) (step-taken s u d b y) ∙ noted-stays (step s u (d .position) b .position) (d .opened) h)
+      (λ y. ap (λ (r : AfterStep). getD (r .dated .opened) t never) (step-refused s u d b y))
+
+  pub row-stays : (bs : List FourBytes) (c : ℕ) (d : Dated) → (countOf d t ≡ never → ⊥) → countOf (datedRunFrom s u bs c d .dated) t ≡ countOf d t
+  unfolding datedRunFrom
+  row-stays [] c d h = refl
+  row-stays (b ∷ bs) c d h =
+      split (eqb (datedStep s u d b .refusal) accepted)
+      (λ y.
+      let e = step-stays d b h in
+      ap (λ (r : DatedRun). countOf (r .dated) t) (run-next s u b bs c d y)
+      ∙ row-stays bs (c + 1) (datedStep s u d b .dated) (λ z. h (sym e ∙ z))
+      ∙ e)
+      (λ y. ap (λ (r : DatedRun). countOf (r .dated) t) (run-stops s u b bs c d y))

@@ -1,0 +1,1 @@
+// What the counts of a position come to: definitions and proofs alone.
