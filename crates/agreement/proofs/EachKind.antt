@@ -38,7 +38,7 @@ use Rattle.agreement.proofs.MinedBlock.{settled-mined, waits-mined}
 use Rattle.agreement.proofs.BumpedBlock.{waits-bumped}
 
 -- a destination that is right for a send is right for the transaction
-pub right-to : (s : List ℕ) (party t d : ℕ) → isParty party ≡ true → sendsTo s party t d ≡ true → sharesTo s t d ≡ true
+pub right-to : (s : List ℕ) (party t d : ℕ) → isParty s party ≡ true → sendsTo s party t d ≡ true → sharesTo s t d ≡ true
 unfolding sendsTo sharesTo
 right-to s party t d a h =
     split (isContract s t)

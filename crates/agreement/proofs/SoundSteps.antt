@@ -73,9 +73,9 @@ sound-start s u =
 
 module _ (s u : List ℕ) where
   -- the fields of kinds 3 and 4, and of kinds 5 and 7
-  send-fields : (party t d : ℕ) → (isParty party && (ltb t (count s) && sendsTo s party t d)) ≡ true → (t < count s) × (sharesTo s t d ≡ true)
+  send-fields : (party t d : ℕ) → (isParty s party && (ltb t (count s) && sendsTo s party t d)) ≡ true → (t < count s) × (sharesTo s t d ≡ true)
   send-fields party t d h =
-      let a = and-parts (isParty party) (ltb t (count s) && sendsTo s party t d) h in
+      let a = and-parts (isParty s party) (ltb t (count s) && sendsTo s party t d) h in
       let b = and-parts (ltb t (count s)) (sendsTo s party t d) (a .1) in
       (ltb-true t (count s) (b .0), right-to s party t d (a .0) (b .1))
 
@@ -88,7 +88,7 @@ module _ (s u : List ℕ) where
   unfolding effect fieldsRight stepRefusal tests poolTests minerTests sendTests includeTests mineTests lockHeightIn
   sound-effect ok su p (Share party t to) g f h =
       sound-share s u ok p g su party t (destinationNumber to)
-      (and-parts (isParty party) ((ltb t (count s) && sharesTo s t (destinationNumber to)) || firstShareFields u t (destinationNumber to)) f .1)
+      (and-parts (isParty s party) ((ltb t (count s) && sharesTo s t (destinationNumber to)) || firstShareFields u t (destinationNumber to)) f .1)
   sound-effect ok su p (Give party i to) g f h = sound-give s u ok p g i (destinationNumber to)
   sound-effect ok su p (SendToPool party t to) g f h =
       let test = passed (tests s u p (SendToPool party t to)) refl h in

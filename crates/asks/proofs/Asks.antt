@@ -1,6 +1,7 @@
 -- The answer of ask, case by case.
 -- Assumes nothing.
 use Prim.Native.Nat.{ℕ, _≤_, _<_}
+use native.Mathlib.Omega.{arith}
 use mathlib.Core.Path.{_≡_, refl, sym, _∙_}
 use mathlib.Core.Bool.{Bool}
 use mathlib.Core.List.{List, [], _∷_}
@@ -70,17 +71,17 @@ module _ (s u : List ℕ) where
           let k = opened-counts s u j right r e z in
           rw (f, k) (rw found (sym (asked-passed (rw found at z))))
 
-    -- the answer is a refusal below 25 and a count that fits beside it
-    pub ask-bounds : (askAnswer s u j b .refusal < 25) × (askAnswer s u j b .count ≤ 16384)
+    -- the answer is a refusal below 33 and a count that fits beside it
+    pub ask-bounds : (askAnswer s u j b .refusal < 33) × (askAnswer s u j b .count ≤ 16384)
     ask-bounds =
         let w = open-bounds s u j (lengthRight (length j)) in
         split (eqb (opened .refusal) 0)
         (λ e.
         let z = eqb-true (opened .refusal) 0 e in
         rw (asked-passed z)
-        (number-below (opened .position) b, rw (← (opened-counts s u j (lengthRight (length j)) opened refl z)) (w .1)))
+        (omega (arith, number-below (opened .position) b), rw (← (opened-counts s u j (lengthRight (length j)) opened refl z)) (w .1)))
         (λ e. rw (asked-refused (eqb-false (opened .refusal) 0 e)) w)
 
     -- the same of what the code found
-    pub asked-bounds : (a : Asked) → a ≡ askAnswer s u j b → (a .refusal < 25) × (a .count ≤ 16384)
+    pub asked-bounds : (a : Asked) → a ≡ askAnswer s u j b → (a .refusal < 33) × (a .count ≤ 16384)
     asked-bounds a e = rw e ask-bounds

@@ -185,7 +185,7 @@ module _ (s u b : List ℕ) (c : ℕ) (buffer : List ℕ) (n : ℕ) where
         room = first-short (three .1);
       }
 
-  ran-small : ran .refusal < 25
+  ran-small : ran .refusal < 33
   unfolding commitRun
   ran-small = open-bounds s u (take n buffer) (lengthWithin buffer n) .0
 

@@ -138,11 +138,11 @@ module _ (s u : List ℕ) where
         let f = e ∙ opened-run j right (rw e at z) in
         rw f (run-counts (rw f at z))
 
-    wrong-below : firstFailing (openTests s u false) < 25
+    wrong-below : firstFailing (openTests s u false) < 33
     unfolding openTests sheetTests arrayTests setupTests
-    wrong-below = answer-below 25 (openTests s u false) (lit< tt) refl
+    wrong-below = answer-below 33 (openTests s u false) (lit< tt) refl
 
     -- how large the answers are
-    pub open-bounds : (right : Bool) → (openRun s u right j .refusal < 25) × (openRun s u right j .accepted ≤ 16384)
+    pub open-bounds : (right : Bool) → (openRun s u right j .refusal < 33) × (openRun s u right j .accepted ≤ 16384)
     open-bounds true = let w = run-bounds s u j in rw (← (open-right j)) (w .0, w .2)
     open-bounds false = rw (← (open-wrong j)) (wrong-below, lit≤ tt)

@@ -23,9 +23,9 @@ module _ (s u list : List ℕ) where
   own-tests h k = after-sheet h ∙ passed-append (setupTests s u) (listTests s u list) refl k
 
   -- the number is one of the tests', or 0
-  pub refusal-below : blocksRefusal s u list < 32
+  pub refusal-below : blocksRefusal s u list < 33
   unfolding blocksRefusal blocksTests sheetTests arrayTests setupTests listTests
-  refusal-below = answer-below 32 (blocksTests s u list) (lit< tt) refl
+  refusal-below = answer-below 33 (blocksTests s u list) (lit< tt) refl
 
   -- the returns of the code, where a and b are what it found of the sheet and of the setup
   pub by-sheet : (a : ℕ) → a ≡ sheetRefusal s → (a ≡ 0 → ⊥) → a ≡ blocksRefusal s u list

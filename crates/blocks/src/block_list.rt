@@ -47,7 +47,7 @@ fn goes_to(sheet: &[u8], t: usize, destination: u8) -> bool
     if party::is_contract(sheet, t) {
         return destination == 2;
     }
-    if destination < 2 {
+    if sheet::field::is_party(sheet, destination) {
         return party::is_payee(sheet, t, destination);
     }
     false

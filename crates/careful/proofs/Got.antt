@@ -10,7 +10,6 @@ use Rattle.laws.specs.Booleans.{either, and-parts, or-parts}
 use Rattle.laws.specs.Below.{allBelow, all-at}
 use Rattle.laws.specs.Cases.{zero-or-one}
 use Rattle.laws.specs.Mask.{bit}
-use Rattle.sheet.specs.Field.{parties}
 use Rattle.sheet.specs.Setup.{conduct}
 use Rattle.slots.specs.Destination.{alice, bob, contract, isParty}
 use Rattle.position.specs.declared.Position.{Position}
@@ -37,15 +36,15 @@ unfolding bit allBelow
 high-bit i l h = eqb-true i secretBob (rw h at (all-at 4 (λ k. not (bit 8 k) || eqb k secretBob) refl i l))
 
 -- "the other party"
-other : (giver party : ℕ) → isOther giver party ≡ true → party ≡ giver → ⊥
+other : (s : List ℕ) (giver party : ℕ) → isOther s giver party ≡ true → party ≡ giver → ⊥
 unfolding isOther
-other giver party o = eqb-false party giver (not-true (eqb party giver) (and-parts (isParty party) (not (eqb party giver)) o .1))
+other s giver party o = eqb-false party giver (not-true (eqb party giver) (and-parts (isParty s party) (not (eqb party giver)) o .1))
 
-not-alice : (giver party : ℕ) → isOther giver party ≡ true → party < parties → giver ≡ alice → party ≡ bob
-not-alice giver party o l e = either (zero-or-one party l) (λ y. absurd (other giver party o (y ∙ sym e))) (λ y. y)
+not-alice : (s : List ℕ) (giver party : ℕ) → isOther s giver party ≡ true → party < 2 → giver ≡ alice → party ≡ bob
+not-alice s giver party o l e = either (zero-or-one party l) (λ y. absurd (other s giver party o (y ∙ sym e))) (λ y. y)
 
-not-bob : (giver party : ℕ) → isOther giver party ≡ true → party < parties → giver ≡ bob → party ≡ alice
-not-bob giver party o l e = either (zero-or-one party l) (λ y. y) (λ y. absurd (other giver party o (y ∙ sym e)))
+not-bob : (s : List ℕ) (giver party : ℕ) → isOther s giver party ≡ true → party < 2 → giver ≡ bob → party ≡ alice
+not-bob s giver party o l e = either (zero-or-one party l) (λ y. y) (λ y. absurd (other s giver party o (y ∙ sym e)))
 
 module _ (u : List ℕ) (c : conduct u ≡ 2) where
   gives-alice : (p : Position) (j : ℕ) → aliceGives (sheet u) u p j ≡ true → (j ≡ sigAlice) × (holds p alice secretBob ≡ true)
@@ -66,15 +65,15 @@ module _ (u : List ℕ) (c : conduct u ≡ 2) where
       let b = and-parts (bit m sigAlice) x (a .1) in
       (eqb-true j secretBob (a .0), b .0, not-true l (and-parts (not (bit m secretAlice)) (not l) (b .1) .1))
 
-  pub got : (p : Position) (party i : ℕ) → party < parties → i < 4 → Given (sheet u) u p party i → Got u p party i
+  pub got : (p : Position) (party i : ℕ) → party < 2 → i < 4 → Given (sheet u) u p party i → Got u p party i
   unfolding mayGive
   got p party i l n (given giver j o h b) =
       either (or-parts (eqb giver alice && aliceGives (sheet u) u p j) (eqb giver bob && bobGives (sheet u) u p j) (allowed u c (mayGive (sheet u) u p giver j) h))
       (λ y.
       let w = and-parts (eqb giver alice) (aliceGives (sheet u) u p j) y in
       let r = gives-alice p j (w .1) in
-      bob-got (not-alice giver party o l (eqb-true giver alice (w .0))) (low-bit i n (rw (r .0) at b)) (r .1))
+      bob-got (not-alice (sheet u) giver party o l (eqb-true giver alice (w .0))) (low-bit i n (rw (r .0) at b)) (r .1))
       (λ y.
       let w = and-parts (eqb giver bob) (bobGives (sheet u) u p j) y in
       let r = gives-bob p j (w .1) in
-      alice-got (not-bob giver party o l (eqb-true giver bob (w .0))) (high-bit i n (rw (r .0) at b)) (r .1) (r .2))
+      alice-got (not-bob (sheet u) giver party o l (eqb-true giver bob (w .0))) (high-bit i n (rw (r .0) at b)) (r .1) (r .2))

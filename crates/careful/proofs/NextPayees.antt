@@ -55,7 +55,7 @@ module _ (u : List ℕ) (c : conduct u ≡ 2) (p : Position) (j : Invariant u p)
   pub next-bob-keyed : (t : ℕ) → BothSign t → Touched q t bob → holds q bob sigAlice ≡ true
   next-bob-keyed t b w =
       let f = both-sign (perDay u) t b in
-      m .keys-kept bob sigAlice (omega arith)
+      m .keys-kept bob sigAlice
       (either (traced-touch t bob (omega arith) (f .later) w)
       (j .bob-keyed t b)
       (λ y. has (signs u p bob t bob sigAlice (by-payee (y .0) t bob (f .pays) (y .1)) (omega arith) (f .needs-alice))))
@@ -74,7 +74,7 @@ module _ (u : List ℕ) (c : conduct u ≡ 2) (p : Position) (j : Invariant u p)
       (λ y.
       let w = by-payee (y .0) spendB alice (spendB-pays (perDay u)) (y .1) in
       has (signs u p alice spendB alice secretBob w (omega arith) (needs (perDay u) .spendB-secretBob))))
-      (λ k. inl (m .keys-kept alice secretBob (omega arith) k))
+      (λ k. inl (m .keys-kept alice secretBob k))
       (λ k. inr (stays-shown u p q m success secretBob k))
     where
       has : Has (sheet u) p alice spendB alice secretBob → SecretBobOut p

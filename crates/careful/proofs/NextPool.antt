@@ -9,7 +9,7 @@ use mathlib.Core.List.{List}
 use borrow.Author.Tests.{ltb-true}
 use Rattle.laws.specs.Booleans.{either}
 use Rattle.laws.specs.Cases.{zero-or-one}
-use Rattle.sheet.specs.Field.{parties, count, parent}
+use Rattle.sheet.specs.Field.{count, parent}
 use Rattle.sheet.specs.Setup.{perDay, conduct}
 use Rattle.slots.specs.Destination.{alice, contract, isParty}
 use Rattle.slots.specs.Conflict.{conflict}
@@ -22,7 +22,7 @@ use Rattle.careful.proofs.Table.{BothSign, both-sign, parents, rivals-s
 use Rattle.known.specs.Heights.{refund1Height, revokeHeight, heights-rise, timeout-lock, success-deadline, refund1-deadline, refund2-deadline}
 use Rattle.careful.proofs.Places.{Anywhere, pool-anywhere, block-anywhere, rightful, lock-reached, payee-to}
 use Rattle.careful.proofs.Fate.{Fate, same, done, waits, ousted, Lasts, stays-confirmed}
-use Rattle.careful.proofs.Setting.{sheet}
+use Rattle.careful.proofs.Setting.{sheet, two-parties}
 use Rattle.careful.proofs.Came.{Came, plain, sent-now, mined-now, came}
 use Rattle.careful.proofs.Invariant.{Shows, Due, Invariant}
 use Rattle.careful.proofs.Traced.{sent-revoked}
@@ -31,11 +31,10 @@ use Rattle.careful.proofs.Apart.{low, revoke-late, refund1-stands, refu
 module _ (u : List ℕ) (p : Position) (g : Sound (sheet u) u p) (j : Invariant u p) where
   -- what pays with both signatures stands only once Alice holds secretBob
   both-held : (t : ℕ) → BothSign t → Anywhere p t → holds p alice secretBob ≡ true
-  unfolding isParty
   both-held t b w =
       let e = w .0 in
       let r = payee-to (sheet u) t e (both-sign (perDay u) t b .pays) (rightful (sheet u) u p g t e (w .1)) in
-      either (zero-or-one e (ltb-true e parties (r .0)))
+      either (zero-or-one e (two-parties u e (r .0)))
       (λ y. absurd (j .alice-unpaid t b (inl (rw y at (w .1)))))
       (λ y. j .sigAlice-given (j .bob-keyed t b (inl (rw y at (w .1)))))
 

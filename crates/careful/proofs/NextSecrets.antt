@@ -36,14 +36,14 @@ module _ (u : List ℕ) (c : conduct u ≡ 2) (one : 0 < perDay u) (top : perDay
 
   -- keys
   pub next-sigBob : holds q alice sigBob ≡ true → ⊥
-  next-sigBob h = either (m .gifts alice sigBob (omega arith) h) (j .sigBob-kept) (λ y. from (got u c p alice sigBob (omega arith) (omega arith) y))
+  next-sigBob h = either (m .gifts alice sigBob h) (j .sigBob-kept) (λ y. from (got u c p alice sigBob (omega arith) (omega arith) y))
     where
       from : Got u p alice sigBob → ⊥
       from (alice-got x y k l) = omega arith
       from (bob-got x y k) = omega arith
 
   pub next-secretAlice : holds q bob secretAlice ≡ true → ⊥
-  next-secretAlice h = either (m .gifts bob secretAlice (omega arith) h) (j .secretAlice-kept) (λ y. from (got u c p bob secretAlice (omega arith) (omega arith) y))
+  next-secretAlice h = either (m .gifts bob secretAlice h) (j .secretAlice-kept) (λ y. from (got u c p bob secretAlice (omega arith) (omega arith) y))
     where
       from : Got u p bob secretAlice → ⊥
       from (alice-got x y k l) = omega arith
@@ -57,8 +57,8 @@ module _ (u : List ℕ) (c : conduct u ≡ 2) (one : 0 < perDay u) (top : perDay
 
   pub next-sigAlice : holds q bob sigAlice ≡ true → holds q alice secretBob ≡ true
   next-sigAlice h =
-      m .keys-kept alice secretBob (omega arith)
-      (either (m .gifts bob sigAlice (omega arith) h) (j .sigAlice-given) (λ y. from (got u c p bob sigAlice (omega arith) (omega arith) y)))
+      m .keys-kept alice secretBob
+      (either (m .gifts bob sigAlice h) (j .sigAlice-given) (λ y. from (got u c p bob sigAlice (omega arith) (omega arith) y)))
     where
       from : Got u p bob sigAlice → holds p alice secretBob ≡ true
       from (alice-got x y k l) = absurd (omega arith)

@@ -10,7 +10,8 @@ use lib.Dec.{eqb, ltb}
 use borrow.Author.Tests.{eqb-true, ltb-true}
 use Rattle.laws.specs.Booleans.{split, either, and-parts, fails-by}
 use Rattle.laws.specs.Cases.{zero-or-one}
-use Rattle.sheet.specs.Field.{parties, count, opening}
+use Rattle.sheet.specs.Field.{count, opening}
+use Rattle.sheet.proofs.Parties.{party-small}
 use Rattle.sheet.specs.Setup.{perDay}
 use Rattle.slots.specs.Destination.{alice, bob, isParty, isContract}
 use Rattle.ledger.specs.Coin.{coinOf, nobody}
@@ -26,7 +27,7 @@ use Rattle.careful.specs.Claim.{PaidOnce}
 use Rattle.careful.proofs.Table.{Pays, pays-alice, pays-bob, pays-from-B, Below, below, revoke-rivals, timeout-rival}
 use Rattle.known.specs.Heights.{timeout-lock}
 use Rattle.careful.proofs.Places.{confirmed-stands, confirmed-anywhere, rightful, contract-to, payee-to}
-use Rattle.careful.proofs.Setting.{sheet}
+use Rattle.careful.proofs.Setting.{sheet, two-parties}
 use Rattle.careful.proofs.Invariant.{SecretAliceOut, Invariant}
 use Rattle.careful.proofs.Apart.{low, one-confirmed, revoke-late, refund2-revoked, refund1-stands, refund2-stands, bob-out, refund2-apart, secrets-apart}
 
@@ -44,7 +45,7 @@ payee-found (suc n) passes payees h =
 
 -- who is paid from a coin is the destination of a confirmed transaction of that coin
 record Paid (s : List ℕ) (p : Position) (party coin : ℕ) : Type 0 where
-  who : party < parties
+  who : isParty s party ≡ true
   by : ℕ
   low-by : by < count s
   of-coin : coinOf s by ≡ coin
@@ -52,18 +53,18 @@ record Paid (s : List ℕ) (p : Position) (party coin : ℕ) : Type 0 where
   to : confirmedTo p by ≡ party
 
 paid : (s : List ℕ) (p : Position) (party coin : ℕ) → isPayoutTo s (holderIn s p) party coin ≡ true → Paid s p party coin
-unfolding isPayoutTo isPayout isParty holderIn holder endsCoin payee isConfirmed
+unfolding isPayoutTo isPayout holderIn holder endsCoin payee isConfirmed
 paid s p party coin h =
     let held = holderIn s p coin in
-    let a = and-parts (opening s coin && ltb held parties) (eqb held party) h in
+    let a = and-parts (opening s coin && isParty s held) (eqb held party) h in
     let is : held ≡ party = eqb-true held party (a .1) in
-    let l : held < parties = ltb-true held parties (and-parts (opening s coin) (ltb held parties) (a .0) .1) in
-    let w = payee-found (count s) (endsCoin s (isConfirmed p) coin) (payee p) (λ e. omega (arith, e)) in
+    let l : isParty s held ≡ true = and-parts (opening s coin) (isParty s held) (a .0) .1 in
+    let w = payee-found (count s) (endsCoin s (isConfirmed p) coin) (payee p) (λ e. let q = party-small s held l in omega (arith, e, q)) in
     let t = w .0 in
     let b = and-parts (eqb (coinOf s t) coin) (isConfirmed p t && not (confirmedChild s (isConfirmed p) t)) (w .2) in
     let k = and-parts (isConfirmed p t) (not (confirmedChild s (isConfirmed p) t)) (b .1) .0 in
     record {
-      who = omega arith;
+      who = rw is at l;
       by = t;
       low-by = w .1;
       of-coin = eqb-true (coinOf s t) coin (b .0);
@@ -79,7 +80,7 @@ module _ (u : List ℕ) (one : 0 < perDay u) (p : Position) (g : Sound (sheet u)
   pays : (party coin : ℕ) (w : Paid (sheet u) p party coin) → Pays (perDay u) coin party (w .by)
   pays party coin w =
       let right = rightful (sheet u) u p g (w .by) party (stands party coin w) in
-      let n = fails-by (isContract (sheet u) (w .by)) (λ y. omega (arith, contract-to (sheet u) (w .by) party y right, w .who)) in
+      let n = fails-by (isContract (sheet u) (w .by)) (λ y. omega (arith, contract-to (sheet u) (w .by) party y right, two-parties u party (w .who))) in
       record { low = w .low-by; of-coin = w .of-coin; pays = n; payee = payee-to (sheet u) (w .by) party n right .1 }
 
   from-B : (party : ℕ) → Paid (sheet u) p party lockB → Stands p spendB party
@@ -152,6 +153,6 @@ module _ (u : List ℕ) (one : 0 < perDay u) (p : Position) (g : Sound (sheet u)
       let w = and-parts a b h in
       let x = paid (sheet u) p party lockA (w .0) in
       let y = paid (sheet u) p party lockB (w .1) in
-      either (zero-or-one party (x .who))
+      either (zero-or-one party (two-parties u party (x .who)))
       (λ e. alice-once (rw e at x) (rw e at y))
       (λ e. bob-once (rw e at x) (rw e at y)))

@@ -78,6 +78,6 @@ pub contract-to : (s : List ℕ) (t e : ℕ) → isContract s t ≡ true → sha
 unfolding sharesTo
 contract-to s t e c h = eqb-true e contract (rw c at h)
 
-pub payee-to : (s : List ℕ) (t e : ℕ) → isContract s t ≡ false → sharesTo s t e ≡ true → (isParty e ≡ true) × (isPayee s t e ≡ true)
+pub payee-to : (s : List ℕ) (t e : ℕ) → isContract s t ≡ false → sharesTo s t e ≡ true → (isParty s e ≡ true) × (isPayee s t e ≡ true)
 unfolding sharesTo
-payee-to s t e c h = and-parts (isParty e) (isPayee s t e) (rw c at h)
+payee-to s t e c h = and-parts (isParty s e) (isPayee s t e) (rw c at h)

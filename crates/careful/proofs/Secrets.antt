@@ -10,7 +10,8 @@ use Rattle.laws.specs.Booleans.{either, clash, and-parts, or-parts, fails-by}
 use Rattle.laws.specs.Below.{any-some}
 use Rattle.laws.specs.Cases.{zero-or-one}
 use Rattle.laws.specs.Mask.{bit}
-use Rattle.sheet.specs.Field.{parties, count, startKeys}
+use Rattle.sheet.specs.Field.{parties, partyAt, count, startKeys}
+use Rattle.sheet.proofs.Parties.{party-at}
 use Rattle.sheet.specs.Saswap.{saswap}
 use Rattle.sheet.specs.Setup.{perDay}
 use Rattle.slots.specs.Destination.{alice, bob}
@@ -22,24 +23,26 @@ use Rattle.position.proofs.Opened.{opened}
 use Rattle.agreement.proofs.Sound.{Sound}
 use Rattle.careful.specs.Claim.{inShared, heldByOther, known}
 use Rattle.careful.proofs.Has.{SharedSomewhere, somewhere}
-use Rattle.careful.proofs.Setting.{sheet}
+use Rattle.careful.proofs.Setting.{sheet, two-parties}
 use Rattle.careful.proofs.Invariant.{SecretBobOut, SecretAliceOut, Invariant}
 use Rattle.careful.proofs.Apart.{secretAlice-shown, secretBob-shown, secrets-apart}
 
 -- known: shared somewhere, or held by Alice or Bob, who lacked it at the start
-known-by : (s : List ℕ) (p : Position) (i : ℕ) → known s p i ≡ true
+known-by : (u : List ℕ) (p : Position) (i : ℕ) → known (sheet u) p i ≡ true
     → SharedSomewhere p i
-    ⊎ (((bit (startKeys s alice) i ≡ false) × (holds p alice i ≡ true)) ⊎ ((bit (startKeys s bob) i ≡ false) × (holds p bob i ≡ true)))
+    ⊎ (((bit (startKeys (sheet u) alice) i ≡ false) × (holds p alice i ≡ true)) ⊎ ((bit (startKeys (sheet u) bob) i ≡ false) × (holds p bob i ≡ true)))
 unfolding known inShared heldByOther
-known-by s p i h =
+known-by u p i h =
+    let s = sheet u in
     either (or-parts (inShared s p i) (heldByOther s p i) h)
     (λ y. let w = any-some (count s) (λ t. bit (sharedAny (slot p t)) i) y in inl (somewhere p (w .0) i (w .2)))
     (λ y.
-    let w = any-some parties (λ party. not (bit (startKeys s party) i) && holds p party i) y in
-    let a = and-parts (not (bit (startKeys s (w .0)) i)) (holds p (w .0) i) (w .2) in
-    let n = not-true (bit (startKeys s (w .0)) i) (a .0) in
+    let w = any-some (parties s) (λ k. not (bit (startKeys s (partyAt k)) i) && holds p (partyAt k) i) y in
+    let x = partyAt (w .0) in
+    let a = and-parts (not (bit (startKeys s x) i)) (holds p x i) (w .2) in
+    let n = not-true (bit (startKeys s x) i) (a .0) in
     inr
-    (either (zero-or-one (w .0) (w .1))
+    (either (zero-or-one x (two-parties u x (party-at s (w .0) (w .1))))
     (λ e. inl (rw e at n, rw e at (a .1)))
     (λ e. inr (rw e at n, rw e at (a .1)))))
 
@@ -51,13 +54,13 @@ owners d = (refl, refl)
 module _ (u : List ℕ) (one : 0 < perDay u) (p : Position) (g : Sound (sheet u) u p) (j : Invariant u p) where
   secretAlice-out : known (sheet u) p secretAlice ≡ true → SecretAliceOut p
   secretAlice-out h =
-      either (known-by (sheet u) p secretAlice h)
+      either (known-by u p secretAlice h)
       (secretAlice-shown u p j)
       (λ y. either y (λ w. clash (owners (perDay u) .0) (w .0)) (λ w. absurd (j .secretAlice-kept (w .1))))
 
   secretBob-out : known (sheet u) p secretBob ≡ true → SecretBobOut p
   secretBob-out h =
-      either (known-by (sheet u) p secretBob h)
+      either (known-by u p secretBob h)
       (λ w. inr (secretBob-shown u p j w))
       (λ y. either y (λ w. inl (w .1)) (λ w. clash (owners (perDay u) .1) (w .0)))
 

@@ -1,10 +1,17 @@
 -- The SASwap sheet of a setup, under careful conduct.
 -- Assumes nothing.
-use Prim.Native.Nat.{ℕ}
+use Prim.Native.Nat.{ℕ, _<_}
+use native.Mathlib.Omega.{arith}
 use mathlib.Core.Path.{_≡_}
 use mathlib.Core.Bool.{Bool, true, _||_}
 use mathlib.Core.List.{List}
+use lib.Dec.{ltb}
+use borrow.Author.Tests.{eqb-false, ltb-true, ltb-false}
+use Rattle.laws.specs.Booleans.{split}
+use Rattle.sheet.specs.Field.{parties, place, isParty}
 use Rattle.sheet.specs.Saswap.{saswap}
+use Rattle.sheet.proofs.Parties.{party-not-miner, place-below}
+use Rattle.sheet.proofs.Theorems.{parties-saswap}
 use Rattle.sheet.specs.Setup.{perDay, conduct}
 use Rattle.position.specs.Conduct.{isOpen}
 
@@ -16,3 +23,14 @@ sheet u = saswap (perDay u)
 pub allowed : (u : List ℕ) → conduct u ≡ 2 → (b : Bool) → (isOpen u || b) ≡ true → b ≡ true
 unfolding isOpen
 allowed u c b h = rw c at h
+
+-- the parties of the SASwap sheet are Alice and Bob
+pub two-parties : (u : List ℕ) (x : ℕ) → isParty (sheet u) x ≡ true → x < 2
+unfolding place
+two-parties u x h =
+    split (ltb x 2)
+    (λ e. ltb-true x 2 e)
+    (λ e.
+    let p = place-below (sheet u) x h in
+    let n = eqb-false x 2 (party-not-miner (sheet u) x h) in
+    omega (arith, rw e at p, ltb-false x 2 e, n, parties-saswap (perDay u)))

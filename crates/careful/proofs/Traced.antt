@@ -26,7 +26,7 @@ use Rattle.careful.proofs.Table.{needs, contracts, revoke-rivals, sigAl
 use Rattle.known.specs.Heights.{refund1Height, refund1-lock, refund2-waits, success-deadline}
 use Rattle.careful.proofs.Places.{block-anywhere}
 use Rattle.careful.proofs.Has.{Has, held, shown, secret, has-by}
-use Rattle.careful.proofs.Setting.{sheet}
+use Rattle.careful.proofs.Setting.{sheet, two-parties}
 use Rattle.careful.proofs.Came.{Came, plain, sent-now, mined-now, came}
 use Rattle.careful.proofs.Got.{Got, alice-got, bob-got, got}
 use Rattle.careful.proofs.MaySend.{alice-refund1, alice-refund2}
@@ -78,7 +78,7 @@ module _ (u : List ℕ) (c : conduct u ≡ 2) (one : 0 < perDay u) (top : perDay
   sent-success party e w =
       let to = sends-contract (sheet u) party success e (contracts (perDay u) .0) (w .right) in
       let v = rw to at w in
-      either (zero-or-one party (w .who))
+      either (zero-or-one party (two-parties u party (w .who)))
       (λ y. secretBob-of (signs u p alice success contract secretBob (rw y at v) (omega arith) (needs (perDay u) .success-secretBob)))
       (λ y. sigAlice-of (signs u p bob success contract sigAlice (rw y at v) (omega arith) (needs (perDay u) .success-sigAlice)))
 
@@ -91,7 +91,7 @@ module _ (u : List ℕ) (c : conduct u ≡ 2) (one : 0 < perDay u) (top : perDay
   pub sent-refund1 : (party e : ℕ) → Sent (sheet u) u p party refund1 e → SuccessShared p → ⊥
   sent-refund1 party e w x =
       let v = rw (sends-contract (sheet u) party refund1 e (contracts (perDay u) .1) (w .right)) at w in
-      either (zero-or-one party (w .who))
+      either (zero-or-one party (two-parties u party (w .who)))
       (λ y. alice-refund1 u c p contract (x .0) (rw y at v) (x .1))
       (λ y.
       either (secretAlice-of refund1 (signs u p bob refund1 contract secretAlice (rw y at v) (omega arith) (needs (perDay u) .refund1-secretAlice)))
@@ -103,7 +103,7 @@ module _ (u : List ℕ) (c : conduct u ≡ 2) (one : 0 < perDay u) (top : perDay
   pub sent-refund2 : (party e : ℕ) → Sent (sheet u) u p party refund2 e → holds p alice secretBob ≡ true → ⊥
   sent-refund2 party e w x =
       let v = rw (sends-contract (sheet u) party refund2 e (contracts (perDay u) .2) (w .right)) at w in
-      either (zero-or-one party (w .who))
+      either (zero-or-one party (two-parties u party (w .who)))
       (λ y. alice-refund2 u c p contract (rw y at v) x)
       (λ y.
       either (secretAlice-of refund2 (signs u p bob refund2 contract secretAlice (rw y at v) (omega arith) (needs (perDay u) .refund2-secretAlice)))
@@ -131,7 +131,7 @@ module _ (u : List ℕ) (c : conduct u ≡ 2) (one : 0 < perDay u) (top : perDay
     -- Alice gets secretBob only while it isn't late, and success is shared
     pub given-early : holds q alice secretBob ≡ true
         → (holds p alice secretBob ≡ true) ⊎ ((p .mined < refund1Height (perDay u)) × SuccessShared p)
-    given-early h = either (m .gifts alice secretBob (omega arith) h) inl (λ y. from (got u c p alice secretBob (omega arith) (omega arith) y))
+    given-early h = either (m .gifts alice secretBob h) inl (λ y. from (got u c p alice secretBob (omega arith) (omega arith) y))
       where
         from : Got u p alice secretBob → (holds p alice secretBob ≡ true) ⊎ ((p .mined < refund1Height (perDay u)) × SuccessShared p)
         from (alice-got x y k l) = inr (early l, sigAlice-of (has-by (sheet u) p bob success contract sigAlice k))

@@ -8,7 +8,7 @@ use mathlib.Core.List.{List}
 use Rattle.laws.specs.Below.{anyBelow}
 use Rattle.laws.specs.Mask.{bit}
 use Rattle.sheet.specs.Refusal.{accepted}
-use Rattle.sheet.specs.Field.{parties, count, startKeys}
+use Rattle.sheet.specs.Field.{parties, partyAt, count, startKeys}
 use Rattle.sheet.specs.Saswap.{saswap}
 use Rattle.sheet.specs.Setup.{perDay, conduct, setupRefusal}
 use Rattle.slots.specs.Slot.{sharedAny}
@@ -28,7 +28,7 @@ inShared s p i = anyBelow (count s) (λ t. bit (sharedAny (slot p t)) i)
 
 -- "each party's keys held": signature i is held by a party that has it not in "the masks held at the start"
 unfoldable pub heldByOther : List ℕ → Position → ℕ → Bool
-heldByOther s p i = anyBelow parties (λ party. not (bit (startKeys s party) i) && holds p party i)
+heldByOther s p i = anyBelow (parties s) (λ k. not (bit (startKeys s (partyAt k)) i) && holds p (partyAt k) i)
 
 -- a secret is known beyond its owner: through shared knowledge, or because a party that did not hold it at the start holds it
 unfoldable pub known : List ℕ → Position → ℕ → Bool

@@ -10,7 +10,7 @@ use Rattle.laws.specs.Booleans.{pick}
 use Rattle.laws.specs.Below.{anyBelow}
 use Rattle.laws.specs.Mask.{bit}
 use Rattle.laws.specs.Sets.{set-bit}
-use Rattle.sheet.specs.Field.{parties, count, parent}
+use Rattle.sheet.specs.Field.{parties, partyAt, count, parent}
 use Rattle.sheet.specs.Setup.{perDay}
 use Rattle.sheet.specs.LockHeight.{never, lockHeight}
 use Rattle.sheet.specs.Checked.{Checked}
@@ -71,7 +71,7 @@ module _ (s : List ℕ) (d : ℕ) (v : View) (x : Slot) (since t : ℕ) where
   reached = leb (lockHeight s d (λ k. since) t) (v .mined)
 
   abbrev some-signs : Bool
-  some-signs = anyBelow parties (atHandIn s v x t)
+  some-signs = anyBelow (parties s) (λ k. atHandIn s v x t (partyAt k))
 
   pub without-parent : above ≡ false → false ≡ opensIn s d v x since t
   unfolding opensIn

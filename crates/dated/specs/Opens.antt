@@ -6,7 +6,7 @@ use mathlib.Core.List.{List}
 use lib.Dec.{leb}
 use Rattle.laws.specs.Booleans.{pick}
 use Rattle.laws.specs.Below.{anyBelow}
-use Rattle.sheet.specs.Field.{parties}
+use Rattle.sheet.specs.Field.{parties, partyAt}
 use Rattle.slots.specs.Destination.{contract, isPayee, isContract}
 use Rattle.slots.specs.Conflict.{noConflict}
 use Rattle.slots.specs.Ancestry.{hasParent}
@@ -25,4 +25,4 @@ atHand s p t party =
 unfoldable pub opens : List ℕ → List ℕ → Position → ℕ → Bool
 opens s u p t =
     noConflict s (isConfirmed p) t
-    && (hasParent s (isConfirmed p) t && (leb (lockHeightIn s u p t) (p .mined) && anyBelow parties (atHand s p t)))
+    && (hasParent s (isConfirmed p) t && (leb (lockHeightIn s u p t) (p .mined) && anyBelow (parties s) (λ k. atHand s p t (partyAt k))))

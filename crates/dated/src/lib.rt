@@ -18,7 +18,7 @@ ghost use Rattle.dated.specs.Forms.Seen.{seenAfter};
 mod opens;
 
 // "Demand 2's position is the model's beside this count": for each transaction the blocks mined when it was first open, 2,147,483,647
-// where it never was. 452 bytes, without padding.
+// where it never was. 520 bytes, without padding.
 pub struct Dated {
     pub position: Position,
     pub opened: [u32; 32],
@@ -93,7 +93,7 @@ fn seen_after(view: View, position: Position, sheet: &[u8], kind: u8, t: u8) -> 
     }
     let at = seen::changed_place(kind, t);
     let x = position.slots[at];
-    view.after(at, x, position.mined, position.alice, position.bob)
+    view.after(at, x, position.mined, position.keys)
 }
 
 impl Dated {

@@ -10,7 +10,7 @@ ghost use Prim.Native.Nat.{_<_};
 ghost use mathlib.Core.Path.{_≡_};
 ghost use lib.Dec.{leb};
 ghost use Rattle.laws.specs.Below.{anyBelow};
-ghost use Rattle.sheet.specs.Field.{parties, count, Sized};
+ghost use Rattle.sheet.specs.Field.{parties, partyAt, count, Sized};
 ghost use Rattle.sheet.specs.LockHeight.{lockHeight};
 ghost use Rattle.sheet.specs.Checked.{Checked};
 ghost use Rattle.dated.specs.Forms.Opens.{atHandIn, opensIn, firstOpenIn};
@@ -22,7 +22,6 @@ pub const NEVER: u32 = 2147483647;
 fn at_hand(sheet: &[u8], view: View, x: Slot, t: usize, party: u8) -> bool
     requires { ⌜ Checked (now sheet) ⌝ }
     requires { ⌜ t < count (now sheet) ⌝ }
-    requires { ⌜ party < parties ⌝ }
     ensures { λ r. ⌜ r ≡ atHandIn (now (sheet .entry)) view x t party ⌝ }
 {
     if party::is_contract(sheet, t) {
@@ -38,14 +37,15 @@ fn at_hand(sheet: &[u8], view: View, x: Slot, t: usize, party: u8) -> bool
 fn at_hand_of_some(sheet: &[u8], view: View, x: Slot, t: usize) -> bool
     requires { ⌜ Checked (now sheet) ⌝ }
     requires { ⌜ t < count (now sheet) ⌝ }
-    ensures { λ r. ⌜ r ≡ anyBelow parties (atHandIn (now (sheet .entry)) view x t) ⌝ }
+    ensures { λ r. ⌜ r ≡ anyBelow (parties (now (sheet .entry))) (λ k. atHandIn (now (sheet .entry)) view x t (partyAt k)) ⌝ }
 {
-    let mut party: u8 = 0;
-    while party < 2 {
-        if at_hand(sheet, view, x, t, party) {
+    let n = sheet::field::parties(sheet);
+    let mut k: usize = 0;
+    while k < n {
+        if at_hand(sheet, view, x, t, sheet::field::party_at(k)) {
             return true;
         }
-        party += 1;
+        k += 1;
     }
     false
 }

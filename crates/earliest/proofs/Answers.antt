@@ -18,6 +18,7 @@ use Rattle.sheet.specs.Field.{count}
 use Rattle.sheet.specs.Check.{arrayTests, sheetTests, sheetRefusal}
 use Rattle.sheet.specs.Setup.{perDay, setupTests, setupRefusal}
 use Rattle.sheet.proofs.Theorems.{sheet-checked}
+use Rattle.sheet.proofs.Parties.{party-small}
 use Rattle.slots.specs.Destination.{isContract, isParty, isPayee}
 use Rattle.steps.specs.Decode.{sharesTo}
 use Rattle.position.specs.Tests.{blockLimit}
@@ -94,11 +95,11 @@ module _ (s u : List ℕ) (mask : ℕ) (dests : List ℕ) where
 
 -- ---- the destinations of an ending that passes 33
 destined-small : (s : List ℕ) (t d : ℕ) → (not (isContract s t) && sharesTo s t d) ≡ true → d < 256
-unfolding sharesTo isParty
+unfolding sharesTo
 destined-small s t d h =
     let w = and-parts (not (isContract s t)) (sharesTo s t d) h in
     let v = rw (not-true (isContract s t) (w .0)) at (w .1) in
-    omega (arith, ltb-true d 2 (and-parts (ltb d 2) (isPayee s t d) v .0))
+    omega (arith, party-small s d (and-parts (isParty s d) (isPayee s t d) v .0))
 
 pub destined : (s : List ℕ) (mask : ℕ) (dests : List ℕ) (n : ℕ) → n ≡ count s → count s ≤ 32 → endingRight s mask dests ≡ true → Destined n mask dests
 unfolding endingRight payingNamed

@@ -9,11 +9,12 @@ use lib.Dec.{eqb, ltb, leb}
 use lib.ListN.{length}
 use borrow.Author.Tests.{eq-eqb, ne-eqb, not-true, not-false}
 use Rattle.laws.specs.Below.{allBelow}
+use Rattle.laws.specs.Booleans.{split}
 use Rattle.laws.specs.Mask.{bit}
 use Rattle.laws.specs.Sum.{bitsBelow}
 use Rattle.sheet.specs.Field.{count}
 use Rattle.sheet.specs.Setup.{perDay}
-use Rattle.slots.specs.Destination.{isContract}
+use Rattle.slots.specs.Destination.{isParty, isPayee, isContract}
 use Rattle.ledger.specs.Coin.{coinOf}
 use Rattle.steps.specs.Decode.{sharesTo}
 use Rattle.position.specs.Tests.{blockLimit}
@@ -33,6 +34,11 @@ size-by s mask n k size e h f = rw (← e, ← h) f
 
 pub possible-by : (s u : List ℕ) (mask d : ℕ) (r : Bool) → d ≡ perDay u → r ≡ isPossible s d mask → r ≡ isPossible s (perDay u) mask
 possible-by s u mask d r e h = rw e at h
+
+-- a payee is a party
+pub payee-party : (s : List ℕ) (t to : ℕ) → (isParty s to && isPayee s t to) ≡ isPayee s t to
+unfolding isPayee
+payee-party s t to = split (isParty s to) (λ y. rw y) (λ y. rw y)
 
 module _ (s : List ℕ) (mask : ℕ) (dests : List ℕ) where
   -- one transaction, where r is whether it is in the mask and p what was found of its destination

@@ -74,7 +74,7 @@ fn pays(sheet: &[u8], t: usize, to: u32) -> bool
     if party::is_contract(sheet, t) {
         return false;
     }
-    if to < 2 {
+    if to < 4 {
         return party::is_payee(sheet, t, to as u8);
     }
     false

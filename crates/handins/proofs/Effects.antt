@@ -47,7 +47,7 @@ module _ (s : List ℕ) where
   each-emptied party (t ∷ l) p = each-emptied party l (shareOne s party t contract p) ∙ rw (one-emptied party t contract p)
 
   pub effect-emptied : (x : Step) → earlyStep x ≡ true → (p : Position) → emptied (effect s p x) ≡ effect s (emptied p) x
-  unfolding effect afterShare afterGive afterSend withKey emptied withSlots withPool withShared withBlock earlyStep earlyKind stepBytes
+  unfolding effect afterShare afterGive afterSend withKey keys emptied withSlots withPool withShared withBlock earlyStep earlyKind stepBytes
   effect-emptied (Share party t to) e p =
       split (eqb t noTransaction)
       (λ y. rw y (each-emptied party (firstShares party) p))

@@ -17,7 +17,7 @@ use Rattle.steps.specs.Decode.{noTransaction, decode, stepBytes}
 use Rattle.position.specs.declared.Position.{Position}
 use Rattle.position.specs.Position.{slotCount}
 use Rattle.position.specs.StepRefusal.{stepRefusal}
-use Rattle.position.specs.Open.{actors, kinds, ifAccepted, openAt, openOf, actorSteps, openSteps, listBytes}
+use Rattle.position.specs.Open.{actorAt, actors, kinds, ifAccepted, openAt, openOf, actorSteps, openSteps, listBytes}
 use Rattle.handins.specs.Early.{earlyKind, earlyBytes}
 use Rattle.handins.specs.Claim.{emptied, Unwatched}
 use Rattle.handins.proofs.Refusals.{earlyStep, refusal-emptied}
@@ -37,11 +37,6 @@ module _ {A B : Type 0} (f : A → List B) where
   unfolding gather
   gather-same g h e zero = refl
   gather-same g h e (suc n) = append-same (gather n g) (gather n h) (g n) (h n) (gather-same g h e n) (e n)
-
-  flat-same : (g h : ℕ → List A) → ((k : ℕ) → flatMap f (g k) ≡ flatMap f (h k)) → (l : List ℕ) → flatMap f (flatMap g l) ≡ flatMap f (flatMap h l)
-  unfolding flatMap
-  flat-same g h e [] = refl
-  flat-same g h e (x ∷ l) = append-same (g x) (h x) (flatMap g l) (flatMap h l) (e x) (flat-same g h e l)
 
 -- a step's bytes where its kind is 1, 2 or 3, else none
 unfoldable ifEarly : Step → List ℕ
@@ -108,4 +103,4 @@ module _ (s u : List ℕ) (w : Unwatched u) (p : Position) where
   pub list-emptied : earlyBytes (listBytes s u p) ≡ earlyBytes (listBytes s u (emptied p))
   unfolding listBytes openSteps
   list-emptied =
-      early-of (openSteps s u p) ∙ flat-same ifEarly (actorSteps s u p) (actorSteps s u (emptied p)) actor-bytes actors ∙ sym (early-of (openSteps s u (emptied p)))
+      early-of (openSteps s u p) ∙ gather-same ifEarly _ _ (λ k. actor-bytes (actorAt s k)) (actors s) ∙ sym (early-of (openSteps s u (emptied p)))

@@ -3,7 +3,7 @@
 use Prim.Native.Nat.{ℕ, zero, suc, _+_, _*_, _≤_, _<_}
 use native.Mathlib.Omega.{arith}
 use native.Mathlib.Numerals.{add-one}
-use native.Mathlib.Nat.{le-antisymm, mul-suc, mul-add, mul-zero}
+use native.Mathlib.Nat.{le-antisymm, add-zero, mul-suc, mul-add, mul-zero}
 use mathlib.Core.Path.{_≡_, refl, sym, ap, _∙_}
 use mathlib.Core.Bool.{Bool, true, false}
 use mathlib.Core.List.{List}
@@ -74,16 +74,17 @@ unfolding sumBelow
 sum-swap zero m f = sym (sum-zero m)
 sum-swap (suc n) m f = rw (sum-swap n m f) (sym (sum-both m (λ j. sumBelow n (λ i. f i j)) (f n)))
 
--- a sum by groups of three
-pub sum-threes : (n : ℕ) (f : ℕ → ℕ) → sumBelow n (λ k. sumBelow 3 (λ d. f (3 * k + d))) ≡ sumBelow (3 * n) f
+-- a sum whose terms from m on are w more
+sum-further : (w m : ℕ) (f : ℕ → ℕ) → sumBelow (m + w) f ≡ sumBelow m f + sumBelow w (λ d. f (m + d))
 unfolding sumBelow
-sum-threes zero f = refl
-sum-threes (suc n) f =
-    let three : 3 * suc n ≡ suc (suc (suc (3 * n))) = omega arith in
-    let none : 3 * n + 0 ≡ 3 * n = omega arith in
-    let one : 3 * n + 1 ≡ suc (3 * n) = omega arith in
-    let two : 3 * n + 2 ≡ suc (suc (3 * n)) = omega arith in
-    rw (three, sum-threes n f, none, one, two) (omega arith)
+sum-further zero m f = rw (add-zero m) (sym (add-zero (sumBelow m f)))
+sum-further (suc w) m f = let e : m + suc w ≡ suc (m + w) = omega arith in rw (e, sum-further w m f) (omega arith)
+
+-- a sum by groups of w
+pub sum-groups : (w n : ℕ) (f : ℕ → ℕ) → sumBelow n (λ k. sumBelow w (λ d. f (w * k + d))) ≡ sumBelow (w * n) f
+unfolding sumBelow
+sum-groups w zero f = rw (mul-zero w)
+sum-groups w (suc n) f = rw (mul-suc w n, sum-further w (w * n) f, sum-groups w n f)
 
 -- the length of lists made one after the other
 pub length-gathered : {A : Type 0} (n : ℕ) (f : ℕ → List A) → length (gather n f) ≡ sumBelow n (λ k. length (f k))

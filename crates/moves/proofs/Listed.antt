@@ -4,24 +4,25 @@ use Prim.Native.Nat.{ℕ, _+_, _-_, _≤_, _<_}
 use native.Mathlib.Omega.{arith}
 use mathlib.Core.Path.{_≡_, refl, sym, ap}
 use mathlib.Core.Logic.{_⊎_}
-use mathlib.Core.List.{List, flatMap, append-assoc, append-nil, List·Memᴰ, List·Memᴰ·head, List·Memᴰ·not-nil, List·Memᴰ·eq-of-singleton, List·Memᴰ·append-cases, Memᴰ·append-left, Memᴰ·append-right}
+use mathlib.Core.Bool.{true}
+use mathlib.Core.List.{List, List·Memᴰ, List·Memᴰ·head, List·Memᴰ·not-nil, List·Memᴰ·eq-of-singleton, List·Memᴰ·append-cases, Memᴰ·append-left, Memᴰ·append-right}
 use lib.Dec.{eqb}
-use lib.ListN.{length}
-use borrow.Author.Tests.{eqb-true, eq-eqb}
+use borrow.Author.Tests.{eqb-true, eq-eqb, lt-ltb, le-ltb}
 use Rattle.laws.specs.Booleans.{split, either}
 use Rattle.laws.specs.Gather.{gather}
 use Rattle.laws.specs.Members.{gather-member, member-gather}
 use Rattle.sheet.specs.Refusal.{accepted}
-use Rattle.sheet.specs.Field.{count, signatures}
+use Rattle.sheet.specs.Field.{parties, place, isParty, count, signatures}
+use Rattle.sheet.proofs.Parties.{place-below, at-place}
 use Rattle.slots.specs.declared.Step.{Step}
-use Rattle.slots.specs.Destination.{destinations}
+use Rattle.slots.specs.Destination.{miner, destinations}
 use Rattle.position.specs.declared.Position.{Position}
 use Rattle.steps.specs.declared.Decoded.{Decoded}
 use Rattle.steps.specs.declared.Decoded.the-variants.{Read, Refused}
 use Rattle.position.specs.Position.{slotCount}
 use Rattle.steps.specs.Decode.{noTransaction, decode}
 use Rattle.position.specs.StepRefusal.{stepRefusal}
-use Rattle.position.specs.Open.{actors, kinds, ifAccepted, openAt, openOf, actorSteps, openSteps}
+use Rattle.position.specs.Open.{actorAt, actors, kinds, ifAccepted, openAt, openOf, actorSteps, openSteps}
 use Rattle.position.proofs.Decoding.{decodes, ranges}
 
 module _ (s u : List ℕ) (p : Position) where
@@ -45,17 +46,17 @@ module _ (s u : List ℕ) (p : Position) where
   alone-open Refused x m = absurd (List·Memᴰ·not-nil m)
 
   -- ---- what is open stands in the list
-  at-place : (k a t d : ℕ) (x : Step) → IsOpen k a t d x → d < destinations → List·Memᴰ x (openAt s u p a k t)
+  at-destination : (k a t d : ℕ) (x : Step) → IsOpen k a t d x → d < destinations → List·Memᴰ x (openAt s u p a k t)
   unfolding openAt
-  at-place k a t d x o l =
+  at-destination k a t d x o l =
       gather-member destinations d _ l (rw (o .reads) (open-alone x (o .passes)))
 
   of-kind : (k a t d : ℕ) (x : Step) → IsOpen k a t d x → d < destinations → (t < slotCount) ⊎ (t ≡ noTransaction) → List·Memᴰ x (openOf s u p a k)
   unfolding openOf
   of-kind k a t d x o l r =
       either r
-      (λ m. Memᴰ·append-left _ (gather-member slotCount t _ m (at-place k a t d x o l)))
-      (λ e. Memᴰ·append-right (gather slotCount (openAt s u p a k)) (rw e at (at-place k a t d x o l)))
+      (λ m. Memᴰ·append-left _ (gather-member slotCount t _ m (at-destination k a t d x o l)))
+      (λ e. Memᴰ·append-right (gather slotCount (openAt s u p a k)) (rw e at (at-destination k a t d x o l)))
 
   of-actor : (k a t d : ℕ) (x : Step) → IsOpen k a t d x → d < destinations → (t < slotCount) ⊎ (t ≡ noTransaction) → 1 ≤ k → k ≤ kinds → List·Memᴰ x (actorSteps s u p a)
   unfolding actorSteps
@@ -63,18 +64,27 @@ module _ (s u : List ℕ) (p : Position) where
       let back : k - 1 + 1 ≡ k = omega arith in
       gather-member kinds (k - 1) (λ j. openOf s u p a (j + 1)) (omega arith) (rw back (of-kind k a t d x o l r))
 
-  -- the three actors, one after the other
-  pub open-gathered : openSteps s u p ≡ gather (length actors) (actorSteps s u p)
-  unfolding openSteps actors flatMap gather
-  open-gathered = rw (append-nil, append-assoc)
+  -- the actors, one after the other
+  pub open-gathered : openSteps s u p ≡ gather (actors s) (λ k. actorSteps s u p (actorAt s k))
+  unfolding openSteps
+  open-gathered = refl
+
+  -- an actor's place
+  actor-place : (a : ℕ) → (isParty s a ≡ true) ⊎ (a ≡ miner) → (k : ℕ) × (k < actors s) × (actorAt s k ≡ a)
+  unfolding actorAt
+  actor-place a r =
+      either r
+      (λ y. let l = place-below s a y in (place a, omega (arith, l), rw (lt-ltb (place a) (parties s) l) (at-place s a y)))
+      (λ y. (parties s, omega arith, rw (le-ltb (parties s) (parties s) (omega arith)) (sym y)))
 
   pub open-listed : (k a t d : ℕ) (x : Step) → count s ≤ 32 → signatures s ≤ 8 → IsOpen k a t d x → List·Memᴰ x (openSteps s u p)
   open-listed k a t d x few signed o =
       let w = decodes s u k a t d x (o .reads) in
       let r = ranges s u few signed x (w .fields) in
+      let v = actor-place a (rw (w .bytes) at (r .party)) in
       rw open-gathered
-      (gather-member (length actors) a (actorSteps s u p) (rw (w .bytes) at (r .party))
-      (of-actor k a t d x o (w .destination-few) (rw (w .bytes) at (r .transaction)) (w .kind-some) (w .kind-few)))
+      (gather-member (actors s) (v .0) (λ j. actorSteps s u p (actorAt s j)) (v .1)
+      (rw (v .2) (of-actor k a t d x o (w .destination-few) (rw (w .bytes) at (r .transaction)) (w .kind-some) (w .kind-few))))
 
   -- ---- what stands in the list is open
   pub alone-is : (k a t d : ℕ) (x : Step) → List·Memᴰ x (ifAccepted s u p (decode s u k a t d)) → IsOpen k a t d x
@@ -102,6 +112,6 @@ module _ (s u : List ℕ) (p : Position) where
 
   pub listed-open : (x : Step) → List·Memᴰ x (openSteps s u p) → (k : ℕ) × (a : ℕ) × (t : ℕ) × (d : ℕ) × IsOpen k a t d x
   listed-open x m =
-      let w = member-gather (length actors) (actorSteps s u p) (rw open-gathered at m) in
-      let o = actor-open (w .0) x (w .2) in
-      (o .0, w .0, o .1, o .2, o .3)
+      let w = member-gather (actors s) (λ j. actorSteps s u p (actorAt s j)) (rw open-gathered at m) in
+      let o = actor-open (actorAt s (w .0)) x (w .2) in
+      (o .0, actorAt s (w .0), o .1, o .2, o .3)

@@ -81,7 +81,7 @@ module _ (s u : List ℕ) (p : Position) where
       let e = destinationNumber to in
       let q = afterSend s t e p in
       let now = sent-slot s u p q party t e (sent-to-pool s u p party t to f h) (before-deadline s u p party t to h) refl in
-      keys-same s u p q (one-changed s u p t (λ x. withPool (entryFor e) (withShared e (exposedMask s t) x)) now) refl refl
+      keys-same s u p q (one-changed s u p t (λ x. withPool (entryFor e) (withShared e (exposedMask s t) x)) now) refl
 
   pub moved-hand-in : (party t : ℕ) (to : Destination) → fieldsRight s u (HandToMiner party t to) ≡ true
       → stepRefusal s u p (HandToMiner party t to) ≡ 0 → Moved s u p (afterHandIn t (destinationNumber to) p)
@@ -94,7 +94,7 @@ module _ (s u : List ℕ) (p : Position) where
       (one-changed s u p t (withBlock (entryFor d))
       (λ x. block-moved s u p q t (entryFor d) x
       (λ e y. either (after-block (entryFor d) (slot p t) e y) inl (λ z. inr (party, rw (sym (z .1) ∙ entry-names d) w)))))
-      refl refl
+      refl
 
   pub moved-include : (t : ℕ) → Moved s u p (afterInclude t p)
   unfolding afterInclude changeSlot withSlots
@@ -103,7 +103,7 @@ module _ (s u : List ℕ) (p : Position) where
       keys-same s u p q
       (one-changed s u p t (λ x. withBlock (x .pool) x)
       (λ x. block-moved s u p q t (slot p t .pool) x (λ e y. inl (included (slot p t) e y))))
-      refl refl
+      refl
 
   bumped : (q : Position) (b k : ℕ) → slot q k ≡ bumpSlot s p b k (slot p k) → SlotMoved s u p q k
   unfolding bumpSlot
@@ -119,4 +119,4 @@ module _ (s u : List ℕ) (p : Position) where
   unfolding afterBump changeSlots withSlots
   moved-bump t =
       let q = afterBump s t p in
-      keys-same s u p q (each-changed s u p q (bumpSlot s p t) refl (λ k l x. bumped q t k x)) refl refl
+      keys-same s u p q (each-changed s u p q (bumpSlot s p t) refl (λ k l x. bumped q t k x)) refl

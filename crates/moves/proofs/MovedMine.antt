@@ -109,4 +109,4 @@ pub moved-mine : (s u : List ℕ) (p : Position) → Moved s u p (afterMine s p)
 unfolding afterMine withMined changeSlots withSlots
 moved-mine s u p =
     let q = afterMine s p in
-    keys-same s u p q (each-changed s u p q (mineSlot s p) refl (λ t l x. mined-slot s u p q t x)) refl refl
+    keys-same s u p q (each-changed s u p q (mineSlot s p) refl (λ t l x. mined-slot s u p q t x)) refl

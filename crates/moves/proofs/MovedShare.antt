@@ -53,21 +53,16 @@ record Row (s : List ℕ) (party to : ℕ) (l : List ℕ) (p q : Position) : Typ
   shares : (t e i : ℕ) → e < destinations → bit (shared q t e) i ≡ true
       → (bit (shared p t e) i ≡ true) ⊎ (In l t × (e ≡ to) × (bit (shareMask s (keys p party) t) i ≡ true))
   kept : (t e i : ℕ) → e < destinations → bit (shared p t e) i ≡ true → bit (shared q t e) i ≡ true
-  alices : q .alice ≡ p .alice
-  bobs : q .bob ≡ p .bob
+  held : q .keys ≡ p .keys
 
-keys-by : (p q : Position) (party : ℕ) → q .alice ≡ p .alice → q .bob ≡ p .bob → keys q party ≡ keys p party
+keys-by : (p q : Position) (party : ℕ) → q .keys ≡ p .keys → keys q party ≡ keys p party
 unfolding keys
-keys-by p q party a b = rw (a, b)
+keys-by p q party e = rw e
 
 module _ (s : List ℕ) (party to : ℕ) where
-  one-alice : (p : Position) (t : ℕ) → shareOne s party t to p .alice ≡ p .alice
+  one-held : (p : Position) (t : ℕ) → shareOne s party t to p .keys ≡ p .keys
   unfolding shareOne changeSlot withSlots
-  one-alice p t = refl
-
-  one-bob : (p : Position) (t : ℕ) → shareOne s party t to p .bob ≡ p .bob
-  unfolding shareOne changeSlot withSlots
-  one-bob p t = refl
+  one-held p t = refl
 
   one-slot : (p : Position) (t k : ℕ)
       → (slot (shareOne s party t to p) k ≡ slot p k)
@@ -98,8 +93,7 @@ module _ (s : List ℕ) (party to : ℕ) where
             either (one-slot p t k)
             (λ y. bit-same e i (sym y) h)
             (λ y. rw (y .1, shared-mark) (shared-kept to mask (slot p k) e i l h));
-        alices = one-alice p t;
-        bobs = one-bob p t;
+        held = one-held p t;
       }
 
   row-none : (p : Position) → Row s party to [] p p
@@ -108,8 +102,7 @@ module _ (s : List ℕ) (party to : ℕ) where
         entries = λ t e h. h;
         shares = λ t e i l h. inl h;
         kept = λ t e i l h. h;
-        alices = refl;
-        bobs = refl;
+        held = refl;
       }
 
   row-more : (t : ℕ) (l : List ℕ) (p o q : Position) → Row s party to (t ∷ []) p o → Row s party to l o q → Row s party to (t ∷ l) p q
@@ -122,10 +115,9 @@ module _ (s : List ℕ) (party to : ℕ) where
             either (a .shares k e i n y)
             inl
             (λ z. inr (rw (in-one t k (z .0)) (in-first t l), z .1, z .2)))
-            (λ y. inr (in-rest t l k (y .0), y .1, rw (keys-by p o party (a .alices) (a .bobs)) at (y .2)));
+            (λ y. inr (in-rest t l k (y .0), y .1, rw (keys-by p o party (a .held)) at (y .2)));
         kept = λ k e i n h. b .kept k e i n (a .kept k e i n h);
-        alices = b .alices ∙ a .alices;
-        bobs = b .bobs ∙ a .bobs;
+        held = b .held ∙ a .held;
       }
 
 row-each : (s : List ℕ) (party : ℕ) (l : List ℕ) (p : Position) → Row s party contract l p (shareEach s party l p)
@@ -146,8 +138,7 @@ row-moved s u party to l p q r shown =
       shares = λ e i n h. either (r .shares t e i n h) inl (λ y. inr (rw (y .1) (shown t i (y .0) (y .2))));
       kept = r .kept t;
     })
-    (r .alices)
-    (r .bobs)
+    (r .held)
 
 module _ (s u : List ℕ) (p : Position) (party t : ℕ) (to : Destination) where
   share-allowed : stepRefusal s u p (Share party t to) ≡ 0 → (isOpen u || mayShare s u p party t) ≡ true
@@ -160,7 +151,7 @@ module _ (s u : List ℕ) (p : Position) (party t : ℕ) (to : Destination) wher
   share-right n f =
       let e = destinationNumber to in
       let one = ltb t (count s) && sharesTo s t e in
-      either (or-parts one (firstShareFields u t e) (and-parts (isParty party) (one || firstShareFields u t e) f .1))
+      either (or-parts one (firstShareFields u t e) (and-parts (isParty s party) (one || firstShareFields u t e) f .1))
       (λ y. and-parts (ltb t (count s)) (sharesTo s t e) y .1)
       (λ y. clash (and-parts (eqb t noTransaction) (not (eqb (conduct u) 0) && eqb e contract) y .0) n)
 

@@ -11,7 +11,7 @@ use Rattle.laws.specs.Cases.{stored, rewrote}
 use Rattle.laws.specs.Each.{rewriteFirst}
 use Rattle.laws.specs.Gather.{every}
 use Rattle.laws.specs.Mask.{bit}
-use Rattle.sheet.specs.Field.{parties, count}
+use Rattle.sheet.specs.Field.{count}
 use Rattle.slots.specs.declared.Slot.{Slot}
 use Rattle.slots.specs.Destination.{contract, destinations}
 use Rattle.slots.specs.Slot.{emptySlot, sharedFor}
@@ -54,7 +54,7 @@ pub data Shown (s u : List ℕ) (p q : Position) (t e i : ℕ) : Type 0 where
 
 -- how signature i came to be held by the receiver: given by a party, as signature j
 pub data Given (s u : List ℕ) (p : Position) (receiver i : ℕ) : Type 0 where
-  given : (party j : ℕ) → isOther party receiver ≡ true → (isOpen u || mayGive s u p party j) ≡ true → bit (2 ^ j) i ≡ true
+  given : (party j : ℕ) → isOther s party receiver ≡ true → (isOpen u || mayGive s u p party j) ≡ true → bit (2 ^ j) i ≡ true
       → Given s u p receiver i
 
 -- what became of one transaction's slot, from position p to q
@@ -65,8 +65,8 @@ pub record SlotMoved (s u : List ℕ) (p q : Position) (t : ℕ) : Type 0 where
 
 pub record Moved (s u : List ℕ) (p q : Position) : Type 0 where
   pub slots : (t : ℕ) → SlotMoved s u p q t
-  pub gifts : (party i : ℕ) → party < parties → holds q party i ≡ true → (holds p party i ≡ true) ⊎ Given s u p party i
-  pub keys-kept : (party i : ℕ) → party < parties → holds p party i ≡ true → holds q party i ≡ true
+  pub gifts : (party i : ℕ) → holds q party i ≡ true → (holds p party i ≡ true) ⊎ Given s u p party i
+  pub keys-kept : (party i : ℕ) → holds p party i ≡ true → holds q party i ≡ true
 
 -- what is known of a slot is known of one equal to it
 pub entered-same : {x y : Slot} {e : ℕ} → x ≡ y → Entered x e → Entered y e
@@ -86,9 +86,9 @@ module _ (s u : List ℕ) (p q : Position) where
       }
 
   -- no key moved
-  pub keys-same : ((t : ℕ) → SlotMoved s u p q t) → q .alice ≡ p .alice → q .bob ≡ p .bob → Moved s u p q
+  pub keys-same : ((t : ℕ) → SlotMoved s u p q t) → q .keys ≡ p .keys → Moved s u p q
   unfolding holds keys
-  keys-same m a b = record { slots = m; gifts = λ party i l h. inl (rw (a, b) at h); keys-kept = λ party i l h. rw (a, b) h }
+  keys-same m e = record { slots = m; gifts = λ party i h. inl (rw e at h); keys-kept = λ party i h. rw e h }
 
 -- the slots after one is changed, and after each is
 pub one-changed : (s u : List ℕ) (p : Position) (t : ℕ) (f : Slot → Slot)

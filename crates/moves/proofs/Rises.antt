@@ -2,18 +2,21 @@
 -- Assumes nothing.
 use Prim.Native.Nat.{ℕ, _+_, _<_}
 use native.Mathlib.Omega.{arith}
-use mathlib.Core.Path.{_≡_}
+use mathlib.Core.Path.{_≡_, refl}
 use mathlib.Core.Bool.{Bool, true}
 use mathlib.Core.List.{List, [], _∷_, List·Memᴰ, List·Memᴰ·not-nil}
-use lib.Dec.{eqb}
-use lib.ListN.{length, getD}
+use lib.Dec.{eqb, ltb}
+use lib.ListN.{getD}
+use borrow.Author.Tests.{lt-ltb}
 use Rattle.laws.specs.Booleans.{split}
 use Rattle.laws.specs.Gather.{gather}
 use Rattle.laws.specs.Members.{member-gather, Rising, rising-append, rising-gather}
 use Rattle.laws.specs.Order.{lower, lower-here, lower-later}
 use Rattle.sheet.specs.Refusal.{accepted}
+use Rattle.sheet.specs.Field.{parties, partyAt}
+use Rattle.sheet.proofs.Parties.{parties-few, place-at, at-not-miner}
 use Rattle.slots.specs.declared.Step.{Step}
-use Rattle.slots.specs.Destination.{destinations}
+use Rattle.slots.specs.Destination.{miner, destinations}
 use Rattle.position.specs.declared.Position.{Position}
 use Rattle.steps.specs.declared.Decoded.{Decoded}
 use Rattle.steps.specs.declared.Decoded.the-variants.{Read, Refused}
@@ -21,7 +24,7 @@ use Rattle.position.specs.Position.{slotCount}
 use Rattle.steps.specs.Decode.{noTransaction, decode, stepBytes}
 use Rattle.position.specs.StepRefusal.{stepRefusal}
 use Rattle.position.specs.Play.{FourBytes}
-use Rattle.position.specs.Open.{actors, kinds, ifAccepted, openAt, openOf, actorSteps, openSteps, listPlace, listedBefore}
+use Rattle.position.specs.Open.{actorAt, actors, kinds, ifAccepted, openAt, openOf, actorSteps, openSteps, rank, listPlace, listedBefore}
 use Rattle.position.proofs.Decoding.{decodes}
 use Rattle.moves.proofs.Listed.{IsOpen, alone-is, place-open, kind-open, actor-open, open-gathered}
 
@@ -39,13 +42,13 @@ unfoldable pub stepBefore : Step → Step → Bool
 stepBefore x y = listedBefore (fourOf x) (fourOf y)
 
 module _ (s u : List ℕ) (p : Position) where
-  place-is : (k a t d : ℕ) (x : Step) → IsOpen s u p k a t d x → listPlace (fourOf x) ≡ a ∷ k ∷ t ∷ d ∷ []
+  place-is : (k a t d : ℕ) (x : Step) → IsOpen s u p k a t d x → listPlace (fourOf x) ≡ rank a ∷ k ∷ t ∷ d ∷ []
   unfolding listPlace fourOf
   place-is k a t d x o = rw (decodes s u k a t d x (o .reads) .bytes)
 
   -- two open steps, by where they stand
   before : (k a t d k′ a′ t′ d′ : ℕ) (x y : Step) → IsOpen s u p k a t d x → IsOpen s u p k′ a′ t′ d′ y
-      → lower (a ∷ k ∷ t ∷ d ∷ []) (a′ ∷ k′ ∷ t′ ∷ d′ ∷ []) ≡ true → stepBefore x y ≡ true
+      → lower (rank a ∷ k ∷ t ∷ d ∷ []) (rank a′ ∷ k′ ∷ t′ ∷ d′ ∷ []) ≡ true → stepBefore x y ≡ true
   unfolding stepBefore listedBefore
   before k a t d k′ a′ t′ d′ x y o q h = rw (place-is k a t d x o, place-is k′ a′ t′ d′ y q) h
 
@@ -62,14 +65,14 @@ module _ (s u : List ℕ) (p : Position) where
       (λ d l. alone-rises (decode s u k a t d))
       (λ d e l m x y f g.
       before k a t d k a t e x y (alone-is s u p k a t d x f) (alone-is s u p k a t e y g)
-      (lower-later a _ _ (lower-later k _ _ (lower-later t _ _ (lower-here d e [] [] l)))))
+      (lower-later (rank a) _ _ (lower-later k _ _ (lower-later t _ _ (lower-here d e [] [] l)))))
 
   -- two steps of one kind, by transaction
   kind-before : (k a t t′ : ℕ) → t < t′ → (x y : Step) → List·Memᴰ x (openAt s u p a k t) → List·Memᴰ y (openAt s u p a k t′) → stepBefore x y ≡ true
   kind-before k a t t′ l x y f g =
       let o = place-open s u p k a t x f in
       let q = place-open s u p k a t′ y g in
-      before k a t (o .0) k a t′ (q .0) x y (o .1) (q .1) (lower-later a _ _ (lower-later k _ _ (lower-here t t′ _ _ l)))
+      before k a t (o .0) k a t′ (q .0) x y (o .1) (q .1) (lower-later (rank a) _ _ (lower-later k _ _ (lower-here t t′ _ _ l)))
 
   of-rises : (k a : ℕ) → Rising stepBefore (openOf s u p a k)
   unfolding openOf
@@ -87,14 +90,34 @@ module _ (s u : List ℕ) (p : Position) where
       (λ i j l m x y f g.
       let o = kind-open s u p (i + 1) a x f in
       let q = kind-open s u p (j + 1) a y g in
-      before (i + 1) a (o .0) (o .1) (j + 1) a (q .0) (q .1) x y (o .2) (q .2) (lower-later a _ _ (lower-here (i + 1) (j + 1) _ _ (omega arith))))
+      before (i + 1) a (o .0) (o .1) (j + 1) a (q .0) (q .1) x y (o .2) (q .2) (lower-later (rank a) _ _ (lower-here (i + 1) (j + 1) _ _ (omega arith))))
+
+  -- the actors rise by rank
+  rank-party : (k : ℕ) → rank (partyAt k) ≡ k
+  unfolding rank
+  rank-party k = rw (at-not-miner k) (place-at k)
+
+  rank-miner : rank miner ≡ 3
+  unfolding rank
+  rank-miner = refl
+
+  rank-rises : (i j : ℕ) → i < j → j < actors s → rank (actorAt s i) < rank (actorAt s j)
+  unfolding actorAt
+  rank-rises i j l m =
+      let few = parties-few s in
+      rw (lt-ltb i (parties s) (omega arith), rank-party i)
+      (split (ltb j (parties s))
+      (λ y. rw (y, rank-party j) l)
+      (λ y. rw (y, rank-miner) (omega arith)))
 
   pub open-rises : Rising stepBefore (openSteps s u p)
   open-rises =
       rw (open-gathered s u p)
-      (rising-gather stepBefore (length actors) (actorSteps s u p)
-      (λ a l. actor-rises a)
-      (λ a b l m x y f g.
+      (rising-gather stepBefore (actors s) (λ k. actorSteps s u p (actorAt s k))
+      (λ k l. actor-rises (actorAt s k))
+      (λ i j l m x y f g.
+      let a = actorAt s i in
+      let b = actorAt s j in
       let o = actor-open s u p a x f in
       let q = actor-open s u p b y g in
-      before (o .0) a (o .1) (o .2) (q .0) b (q .1) (q .2) x y (o .3) (q .3) (lower-here a b _ _ l)))
+      before (o .0) a (o .1) (o .2) (q .0) b (q .1) (q .2) x y (o .3) (q .3) (lower-here (rank a) (rank b) _ _ (rank-rises i j l m))))

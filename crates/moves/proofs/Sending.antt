@@ -11,7 +11,7 @@ use Rattle.laws.specs.Booleans.{and-parts, or-neither}
 use Rattle.laws.specs.Bits.{subset-bit}
 use Rattle.laws.specs.Failing.{passed}
 use Rattle.laws.specs.Mask.{bit}
-use Rattle.sheet.specs.Field.{parties, count, signatures, required}
+use Rattle.sheet.specs.Field.{count, signatures, required}
 use Rattle.slots.specs.declared.Destination.{Destination}
 use Rattle.slots.specs.declared.Step.the-variants.{SendToPool, HandToMiner}
 use Rattle.slots.specs.Destination.{destinationNumber, isParty}
@@ -27,7 +27,7 @@ use Rattle.position.specs.StepRefusal.{tests, stepRefusal}
 
 -- a send of t by a party to a destination, "kind 3 or 4", that passes
 pub record Sent (s u : List ℕ) (p : Position) (party t to : ℕ) : Type 0 where
-  pub who : party < parties
+  pub who : isParty s party ≡ true
   pub low : t < count s
   pub right : sendsTo s party t to ≡ true
   pub allowed : sendAllowed s u p party t ≡ true
@@ -41,16 +41,15 @@ unconfirmed p x k h = let w = ltb-false 0 (blockOf p k) (or-neither x (isConfirm
 
 module _ (s u : List ℕ) (p : Position) (party t : ℕ) (to : Destination) where
   record Fields : Type 0 where
-    who : party < parties
+    who : isParty s party ≡ true
     low : t < count s
     right : sendsTo s party t (destinationNumber to) ≡ true
 
-  fields : (isParty party && (ltb t (count s) && sendsTo s party t (destinationNumber to))) ≡ true → Fields
-  unfolding isParty
+  fields : (isParty s party && (ltb t (count s) && sendsTo s party t (destinationNumber to))) ≡ true → Fields
   fields h =
-      let a = and-parts (isParty party) (ltb t (count s) && sendsTo s party t (destinationNumber to)) h in
+      let a = and-parts (isParty s party) (ltb t (count s) && sendsTo s party t (destinationNumber to)) h in
       let b = and-parts (ltb t (count s)) (sendsTo s party t (destinationNumber to)) (a .1) in
-      record { who = ltb-true party parties (a .0); low = ltb-true t (count s) (b .0); right = b .1 }
+      record { who = a .0; low = ltb-true t (count s) (b .0); right = b .1 }
 
   pub sent-to-pool : fieldsRight s u (SendToPool party t to) ≡ true → stepRefusal s u p (SendToPool party t to) ≡ 0
       → Sent s u p party t (destinationNumber to)

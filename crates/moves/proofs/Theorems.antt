@@ -8,9 +8,11 @@ use lib.ListN.{length}
 use Rattle.laws.specs.Booleans.{pick}
 use Rattle.laws.specs.Members.{Rising}
 use Rattle.sheet.specs.Refusal.{accepted}
-use Rattle.sheet.specs.Field.{count, signatures}
+use Rattle.sheet.specs.Field.{isParty, count, signatures}
+use Rattle.slots.specs.Destination.{carol}
 use Rattle.sheet.specs.Check.{sheetRefusal}
 use Rattle.sheet.specs.Setup.{conduct, setupRefusal}
+use Rattle.sheet.proofs.Parties.{no-third}
 use Rattle.sheet.proofs.Theorems.{sheet-checked, setup-checked}
 use Rattle.slots.specs.declared.Step.{Step}
 use Rattle.position.specs.declared.Position.{Position}
@@ -34,14 +36,17 @@ open-exact s u p b h = (ListedBytes.accepted-listed s u p b (sheet-checked s h),
 pub list-rises : (s u : List ℕ) (p : Position) → Rising listedBefore (listSteps s u p)
 list-rises = ListedBytes.list-rises
 
--- It has at most eight steps for each transaction, one for each signature, a block, and first shares under conduct.
+-- It has at most eight steps for each transaction, one for each signature, a block, and first shares under conduct; with a third party seven more
+-- for each transaction and one more for each signature.
 pub list-few : (s u : List ℕ) (p : Position) → count s ≤ slotCount → signatures s ≤ slotCount
-    → length (openSteps s u p) ≤ 8 * count s + signatures s + 1 + 2 * pick (eqb (conduct u) 0) 0 1
+    → length (openSteps s u p)
+    ≤ 8 * count s + signatures s + 1 + 2 * pick (eqb (conduct u) 0) 0 1
+    + pick (isParty s carol) (7 * count s + signatures s + pick (eqb (conduct u) 0) 0 1) 0
 list-few = ListSize.list-few
 
 -- So it has at most 265, on every checked sheet and setup.
 pub list-size : (s u : List ℕ) (p : Position) → sheetRefusal s ≡ 0 → setupRefusal s u ≡ 0 → length (openSteps s u p) ≤ 265
-list-size s u p h k = ListSize.list-size s u p (sheet-checked s h) (setup-checked s u k)
+list-size s u p h k = rw (no-third s) at (ListSize.list-size s u p (sheet-checked s h) (setup-checked s u k))
 
 -- The empty journal's position is well formed on a checked sheet.
 pub wellformed-start : (s : List ℕ) → sheetRefusal s ≡ 0 → Wellformed s (start s)

@@ -13,7 +13,7 @@ use Rattle.laws.specs.Booleans.{pick}
 use Rattle.laws.specs.Cases.{picked-has}
 use Rattle.sheet.specs.Field.{signatures}
 use Rattle.slots.specs.declared.Slot.{Slot}
-use Rattle.slots.specs.Destination.{alice, bob, contract, destinations}
+use Rattle.slots.specs.Destination.{alice, bob, carol, contract, destinations}
 use Rattle.slots.specs.Slot.{emptySlot, standing, withPool, withBlock, withConfirmed, sharedFor, withShared, marksOf, withMark}
 use Rattle.moves.specs.Wellformed.{WellformedSlot}
 
@@ -39,8 +39,8 @@ module _ (s : List ℕ) (mined : ℕ) where
         confirmed = omega arith;
         numbered = refl;
         height = omega arith;
-        shared = λ e. picked-has (MaskOf (signatures s)) (eqb e alice) (pow-pos (signatures s)) (picked-has (MaskOf (signatures s)) (eqb e bob) (pow-pos (signatures s)) (pow-pos (signatures s)));
-        marks = λ party. picked-has (MaskOf destinations) (eqb party alice) (pow-pos destinations) (pow-pos destinations);
+        shared = λ e. picked-has (MaskOf (signatures s)) (eqb e alice) (pow-pos (signatures s)) (picked-has (MaskOf (signatures s)) (eqb e bob) (pow-pos (signatures s)) (picked-has (MaskOf (signatures s)) (eqb e contract) (pow-pos (signatures s)) (pow-pos (signatures s))));
+        marks = λ party. picked-has (MaskOf destinations) (eqb party alice) (pow-pos destinations) (picked-has (MaskOf destinations) (eqb party bob) (pow-pos destinations) (picked-has (MaskOf destinations) (eqb party carol) (pow-pos destinations) (pow-pos destinations)));
       }
 
   -- each part changed alone, within its range
@@ -98,7 +98,9 @@ module _ (s : List ℕ) (mined : ℕ) where
               (grown (signatures s) (eqb to alice) (x .alice) mask (w .shared alice) h)
               (picked-has (MaskOf (signatures s)) (eqb e bob)
               (grown (signatures s) (eqb to bob) (x .bob) mask (w .shared bob) h)
-              (grown (signatures s) (eqb to contract) (x .contract) mask (w .shared contract) h));
+              (picked-has (MaskOf (signatures s)) (eqb e contract)
+              (grown (signatures s) (eqb to contract) (x .contract) mask (w .shared contract) h)
+              (grown (signatures s) (eqb to carol) (x .carol) mask (w .shared carol) h)));
           marks = w .marks;
         }
 
@@ -115,7 +117,11 @@ module _ (s : List ℕ) (mined : ℕ) where
           marks = λ k.
               picked-has (MaskOf destinations) (eqb k alice)
               (grown destinations (eqb party alice) (x .madea) (2 ^ to) (w .marks alice) (pow-lt h))
-              (grown destinations (eqb party bob) (x .madeb) (2 ^ to) (w .marks bob) (pow-lt h));
+              (picked-has (MaskOf destinations) (eqb k bob)
+              (grown destinations (eqb party bob) (x .madeb) (2 ^ to) (w .marks bob) (pow-lt h))
+              (picked-has (MaskOf destinations) (eqb k carol)
+              (grown destinations (eqb party carol) (x .madec) (2 ^ to) (w .marks carol) (pow-lt h))
+              (pow-pos destinations)));
         }
 
 -- and stays so where more blocks are mined

@@ -1,13 +1,14 @@
 -- The empty journal's position is well formed, and every step of any four bytes keeps it so.
 -- Assumes nothing.
-use Prim.Native.Nat.{ℕ, _+_, _-_, _^_, _≤_, _<_}
+use Prim.Native.Nat.{ℕ, zero, suc, _+_, _-_, _^_, _≤_, _<_}
 use native.Mathlib.Omega.{arith}
 use native.Mathlib.Nat.{le-refl}
 use mathlib.Core.Path.{_≡_, refl, _∙_}
 use mathlib.Core.Bool.{true}
 use mathlib.Core.List.{List, [], _∷_}
-use lib.Bits.{bitAnd, and-le-l}
+use lib.Bits.{bitAnd, bitOr, and-le-l, or-lt}
 use lib.Dec.{eqb}
+use lib.ListN.{getD}
 use lib.Pow.{pow-pos, pow-lt}
 use borrow.Author.Tests.{ltb-true}
 use Rattle.laws.specs.Booleans.{split, either}
@@ -15,17 +16,17 @@ use Rattle.laws.specs.Cases.{picked-has, stored, rewrote}
 use Rattle.laws.specs.Failing.{firstFailing, passed}
 use Rattle.laws.specs.Mask.{without}
 use Rattle.sheet.specs.Refusal.{accepted}
-use Rattle.sheet.specs.Field.{count, signatures, secrets, required, veil}
+use Rattle.sheet.specs.Field.{isParty, count, signatures, secrets, startKeys, required, veil}
 use Rattle.sheet.specs.Checked.{Checked}
 use Rattle.slots.specs.declared.Slot.{Slot}
 use Rattle.slots.specs.declared.Destination.{Destination}
 use Rattle.slots.specs.declared.Step.{Step}
 use Rattle.slots.specs.declared.Step.the-variants.{Share, Give, SendToPool, HandToMiner, Include, Mine, Bump}
-use Rattle.slots.specs.Destination.{alice, bob, contract, destinations, destinationNumber}
+use Rattle.slots.specs.Destination.{alice, bob, carol, contract, destinations, destinationNumber}
 use Rattle.slots.specs.Slot.{emptySlot, standing, entryFor, entryTo, withPool, withBlock, withShared, withMark}
 use Rattle.slots.specs.Signatures.{shareMask, exposedMask}
 use Rattle.position.specs.declared.Position.{Position}
-use Rattle.position.specs.Position.{start, slot, inBlock, keys}
+use Rattle.position.specs.Position.{startHeld, start, slot, inBlock, keys}
 use Rattle.steps.specs.Decode.{noTransaction, fieldsRight}
 use Rattle.position.specs.FirstShares.{firstShares}
 use Rattle.position.specs.Owed.{enters}
@@ -36,17 +37,17 @@ use Rattle.position.specs.Effect.{withSlots, changeSlot, changeSlots, withKey, 
 use Rattle.position.specs.Play.{FourBytes, journalSteps, step, runFrom, callTests, run, play}
 use Rattle.moves.specs.Wellformed.{WellformedSlot, Wellformed}
 use Rattle.position.proofs.Changed.{one-length, all-length}
-use Rattle.position.proofs.Decoding.{within-three}
+use Rattle.position.proofs.Decoding.{destination-within}
 use Rattle.moves.proofs.MovedGive.{give-right}
 use Rattle.moves.proofs.Sending.{sent-to-pool}
 use Rattle.moves.proofs.Starts.{start-slot, start-length}
 use Rattle.position.proofs.StepCases.{StepCase, taken, turned-down, step-case}
-use Rattle.moves.proofs.WellformedSlots.{MaskOf, grown, well-empty, well-pool, well-block, well-confirmed, well-shared, well-mark, well-later}
+use Rattle.moves.proofs.WellformedSlots.{MaskOf, well-empty, well-pool, well-block, well-confirmed, well-shared, well-mark, well-later}
 
 -- an entry for a destination
 entry-within : (to : Destination) → entryFor (destinationNumber to) ≤ destinations
 unfolding entryFor
-entry-within to = omega (arith, within-three to)
+entry-within to = omega (arith, destination-within to)
 
 -- a party shares signatures that it holds
 share-within : (s : List ℕ) (held t n : ℕ) → held < n → shareMask s held t < n
@@ -58,6 +59,22 @@ exposed-within : (s : List ℕ) → Checked s → (t : ℕ) → t < count s → 
 unfolding exposedMask
 exposed-within s ok t l = picked-has (MaskOf (signatures s)) (eqb (veil s t) 1) (pow-pos (signatures s)) (ok .entries t l .required-within)
 
+-- the start masks are within
+start-within : (s : List ℕ) → Checked s → (party : ℕ) → startKeys s party < 2 ^ signatures s
+unfolding startKeys
+start-within s ok party =
+    split (isParty s party) (λ e. let h = ok .keys-within party e in rw e (rw (e, startKeys) at h)) (λ e. rw e (pow-pos (signatures s)))
+
+held-within : (s : List ℕ) → Checked s → (party : ℕ) → getD (startHeld s) party 0 < 2 ^ signatures s
+unfolding startHeld
+held-within s ok zero = start-within s ok alice
+held-within s ok (suc zero) = start-within s ok bob
+held-within s ok (suc (suc zero)) = pow-pos (signatures s)
+held-within s ok (suc (suc (suc zero))) = start-within s ok carol
+held-within s ok (suc (suc (suc (suc zero)))) = pow-pos (signatures s)
+held-within s ok (suc (suc (suc (suc (suc zero))))) = pow-pos (signatures s)
+held-within s ok (suc (suc (suc (suc (suc (suc party)))))) = pow-pos (signatures s)
+
 pub wellformed-start : (s : List ℕ) → Checked s → Wellformed s (start s)
 unfolding start keys
 wellformed-start s ok =
@@ -65,7 +82,7 @@ wellformed-start s ok =
       size = start-length s;
       slots = λ t. rw (start-slot s t) (well-empty s 0);
       mined = omega arith;
-      held = λ party. picked-has (MaskOf (signatures s)) (eqb party alice) (ok .keys-within alice (omega arith)) (ok .keys-within bob (omega arith));
+      held = held-within s ok;
     }
 
 module _ (s : List ℕ) (p : Position) (g : Wellformed s p) where
@@ -120,9 +137,9 @@ module _ (s : List ℕ) (p : Position) (g : Wellformed s p) where
         slots = g .slots;
         mined = g .mined;
         held = λ party.
-            picked-has (MaskOf (signatures s)) (eqb party alice)
-            (grown (signatures s) (eqb receiver alice) (p .alice) (2 ^ i) (g .held alice) (pow-lt l))
-            (grown (signatures s) (eqb receiver bob) (p .bob) (2 ^ i) (g .held bob) (pow-lt l));
+            either (stored (p .keys) receiver party (bitOr (keys p receiver) (2 ^ i)) 0)
+            (λ e. rw e (g .held party))
+            (λ e. rw (e .1) (or-lt (signatures s) (keys p receiver) (2 ^ i) (g .held receiver) (pow-lt l)));
       }
 
   -- 3 Send to pool
@@ -180,7 +197,7 @@ module _ (s u : List ℕ) (ok : Checked s) where
   -- a step whose fields are right and whose tests pass
   wellformed-effect : (p : Position) (x : Step) → Wellformed s p → fieldsRight s u x ≡ true → stepRefusal s u p x ≡ 0 → Wellformed s (effect s p x)
   unfolding effect stepRefusal tests mineTests
-  wellformed-effect p (Share party t to) g f h = after-share s party t (destinationNumber to) (within-three to) p g
+  wellformed-effect p (Share party t to) g f h = after-share s party t (destinationNumber to) (destination-within to) p g
   wellformed-effect p (Give party i to) g f h = after-give s p g i (destinationNumber to) (give-right s u p party i to f .0)
   wellformed-effect p (SendToPool party t to) g f h = after-send s p g ok t (sent-to-pool s u p party t to f h .low) to
   wellformed-effect p (HandToMiner party t to) g f h = after-hand-in s p g t to

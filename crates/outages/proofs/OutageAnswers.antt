@@ -43,7 +43,7 @@ module _ (s u j : List ℕ) (r : Ran) (e : r ≡ run s u j) (blocks : ℕ) (out 
       (le-leb (length (outageBytes s u (r .position) blocks)) (length out) (rw (rows-length s u (r .position) blocks) l))
 
 -- the number of an outage
-pub outage-below : (s u j : List ℕ) (blocks : ℕ) (out : List ℕ) → outageAnswer s u j blocks out .refusal < 26
+pub outage-below : (s u j : List ℕ) (blocks : ℕ) (out : List ℕ) → outageAnswer s u j blocks out .refusal < 33
 unfolding outageAnswer
 outage-below s u j blocks out = written-bounds s u j (outageBytes s u (run s u j .position) blocks) out 0 .0
 

@@ -10,8 +10,9 @@ use lib.ListN.{length, getD, length-append}
 use Rattle.laws.specs.Booleans.{pick}
 use Rattle.laws.specs.Gather.{gather}
 use Rattle.laws.specs.Mask.{bit}
-use Rattle.laws.specs.Sum.{sumBelow, bitsBelow, sum-same, sum-both, sum-times, sum-swap, sum-threes, sum-bound, length-gathered, bits-bound}
-use Rattle.output.specs.Forms.Emitted.{emitted, emittedAt, opensBelow, opensLast, belowBytes, lastBytes, kindBytes, actorBytes, openCount}
+use Rattle.laws.specs.Sum.{sumBelow, bitsBelow, sum-same, sum-both, sum-times, sum-swap, sum-groups, sum-bound, length-gathered, bits-bound}
+use Rattle.slots.specs.Destination.{destinations, placeOf}
+use Rattle.output.specs.Forms.Emitted.{emitted, emittedAt, opensBelow, opensLast, belowBytes, lastBytes, kindBytes, actorBytes, openCount, places}
 
 -- a step that is open has four
 pub four-fit : (on : Bool) (kind actor t d m : ℕ) → on ≡ true → length (emitted on kind actor t d) ≤ m → 4 ≤ m
@@ -28,20 +29,20 @@ length-emitted false kind actor t d = refl
 fours : {A : Type 0} (n : ℕ) (f : ℕ → List A) (g : ℕ → ℕ) → ((k : ℕ) → length (f k) ≡ 4 * g k) → length (gather n f) ≡ 4 * sumBelow n g
 fours n f g e = length-gathered n f ∙ sum-same n (λ k. length (f k)) (λ k. 4 * g k) (λ k h. e k) ∙ sum-times n 4 g
 
-length-at : (on : ℕ → Bool) (kind actor t : ℕ) → length (emittedAt on kind actor t) ≡ 4 * sumBelow 3 (λ d. pick (on d) 1 0)
+length-at : (on : ℕ → Bool) (kind actor t : ℕ) → length (emittedAt on kind actor t) ≡ 4 * sumBelow destinations (λ d. pick (on d) 1 0)
 unfolding emittedAt
-length-at on kind actor t = fours 3 (λ d. emitted (on d) kind actor t d) (λ d. pick (on d) 1 0) (λ d. length-emitted (on d) kind actor t d)
+length-at on kind actor t = fours destinations (λ d. emitted (on d) kind actor t d) (λ d. pick (on d) 1 0) (λ d. length-emitted (on d) kind actor t d)
 
 -- the number of steps of kind k + 1
 kindCount : List ℕ → ℕ → ℕ → ℕ
-kindCount below last k = sumBelow 32 (λ t. sumBelow 3 (λ d. pick (opensBelow below k t d) 1 0)) + sumBelow 3 (λ d. pick (opensLast last k d) 1 0)
+kindCount below last k = sumBelow 32 (λ t. sumBelow destinations (λ d. pick (opensBelow below k t d) 1 0)) + sumBelow destinations (λ d. pick (opensLast last k d) 1 0)
 
 length-kind : (below : List ℕ) (last actor k : ℕ) → length (kindBytes below last actor k) ≡ 4 * kindCount below last k
 unfolding kindBytes kindCount belowBytes lastBytes
 length-kind below last actor k =
     length-append (gather 32 (belowBytes below actor k)) (lastBytes last actor k)
     ∙ ap₂ (λ (x y : ℕ). x + y)
-    (fours 32 (belowBytes below actor k) (λ t. sumBelow 3 (λ d. pick (opensBelow below k t d) 1 0)) (λ t. length-at (opensBelow below k t) (k + 1) actor t))
+    (fours 32 (belowBytes below actor k) (λ t. sumBelow destinations (λ d. pick (opensBelow below k t d) 1 0)) (λ t. length-at (opensBelow below k t) (k + 1) actor t))
     (length-at (opensLast last k) (k + 1) actor 255)
     ∙ sym (mul-add 4 _ _)
 
@@ -49,10 +50,10 @@ length-kind below last actor k =
 counts : (below : List ℕ) (last : ℕ) → sumBelow 7 (kindCount below last) ≡ openCount below last
 unfolding kindCount openCount bitsBelow opensBelow opensLast
 counts below last =
-    sum-both 7 (λ k. sumBelow 32 (λ t. sumBelow 3 (λ d. pick (bit (getD below (3 * k + d) 0) t) 1 0))) (λ k. sumBelow 3 (λ d. pick (bit last (3 * k + d)) 1 0))
+    sum-both 7 (λ k. sumBelow 32 (λ t. sumBelow destinations (λ d. pick (bit (getD below (placeOf k d) 0) t) 1 0))) (λ k. sumBelow destinations (λ d. pick (bit last (placeOf k d)) 1 0))
     ∙ ap₂ (λ (x y : ℕ). x + y)
-    (sum-same 7 _ _ (λ k h. sum-swap 32 3 (λ t d. pick (bit (getD below (3 * k + d) 0) t) 1 0)) ∙ sum-threes 7 (λ i. sumBelow 32 (λ t. pick (bit (getD below i 0) t) 1 0)))
-    (sum-threes 7 (λ i. pick (bit last i) 1 0))
+    (sum-same 7 _ _ (λ k h. sum-swap 32 destinations (λ t d. pick (bit (getD below (placeOf k d) 0) t) 1 0)) ∙ sum-groups destinations 7 (λ i. sumBelow 32 (λ t. pick (bit (getD below i 0) t) 1 0)))
+    (sum-groups destinations 7 (λ i. pick (bit last i) 1 0))
 
 -- four bytes for each step, whoever the actor is
 pub length-actor : (below : List ℕ) (last actor : ℕ) → length (actorBytes below last actor) ≡ 4 * openCount below last
@@ -60,7 +61,7 @@ unfolding actorBytes
 length-actor below last actor =
     fours 7 (kindBytes below last actor) (kindCount below last) (length-kind below last actor) ∙ ap (λ x. 4 * x) (counts below last)
 
-pub count-bound : (below : List ℕ) (last : ℕ) → openCount below last ≤ 693
+pub count-bound : (below : List ℕ) (last : ℕ) → openCount below last ≤ 924
 unfolding openCount
 count-bound below last =
-    omega (arith, sum-bound 21 32 (λ i. bitsBelow 32 (getD below i 0)) (λ i. bits-bound 32 (getD below i 0)), bits-bound 21 last)
+    omega (arith, sum-bound places 32 (λ i. bitsBelow 32 (getD below i 0)) (λ i. bits-bound 32 (getD below i 0)), bits-bound places last)

@@ -1,4 +1,4 @@
 pub mod Lengths
-pub mod Three
+pub mod Four
 pub mod Examples
 pub mod Numbers

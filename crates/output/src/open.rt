@@ -15,16 +15,16 @@ fn ones(mask: u32) -> usize
 }
 
 // The number of steps in the sets.
-pub fn open_count(below: [u32; 21], last: u32) -> usize
+pub fn open_count(below: [u32; 28], last: u32) -> usize
     ensures { λ r. ⌜ Counted below last r ⌝ }
 {
     let mut sum: usize = 0;
     let mut i: usize = 0;
-    while i < 21 {
+    while i < 28 {
         sum += ones(below[i]);
         i += 1;
     }
-    sum + ones(last % 2097152)
+    sum + ones(last % 268435456)
 }
 
 // Whether a mask has bit i.
@@ -53,14 +53,14 @@ pub fn write_step(on: bool, kind: u8, actor: u8, t: u8, d: u8, out: &mut [u8]) -
 }
 
 // The steps of one kind and one transaction byte, for the destinations that are on.
-fn write_at(on: [bool; 3], kind: u8, actor: u8, t: u8, out: &mut [u8]) -> usize
+fn write_at(on: [bool; 4], kind: u8, actor: u8, t: u8, out: &mut [u8]) -> usize
     requires { ⌜ length (emittedAt (opens on) kind actor t) ≤ length (now out) ⌝ }
     ensures { λ r. ⌜ r ≡ length (emittedAt (opens on) kind actor t) ⌝ }
     ensures { λ _. ⌜ now (out .exit) ≡ over (emittedAt (opens on) kind actor t) (now (out .entry)) ⌝ }
 {
     let mut at: usize = 0;
     let mut d: usize = 0;
-    while d < 3 {
+    while d < 4 {
         let wrote = write_step(on[d], kind, actor, t, d as u8, &mut out[at..]);
         at += wrote;
         d += 1;
@@ -69,27 +69,32 @@ fn write_at(on: [bool; 3], kind: u8, actor: u8, t: u8, out: &mut [u8]) -> usize
 }
 
 // The steps of kind k + 1 on transaction t.
-fn write_transaction(below: [u32; 21], actor: u8, k: usize, t: usize, out: &mut [u8]) -> usize
+fn write_transaction(below: [u32; 28], actor: u8, k: usize, t: usize, out: &mut [u8]) -> usize
     requires { ⌜ k < 7 ⌝ }
     requires { ⌜ t < 32 ⌝ }
     requires { ⌜ length (belowBytes below actor k t) ≤ length (now out) ⌝ }
     ensures { λ r. ⌜ r ≡ length (belowBytes below actor k t) ⌝ }
     ensures { λ _. ⌜ now (out .exit) ≡ over (belowBytes below actor k t) (now (out .entry)) ⌝ }
 {
-    let i = 3 * k;
-    let on = [has(below[i], t), has(below[i + 1], t), has(below[i + 2], t)];
+    let i = 4 * k;
+    let on = [
+        has(below[i], t),
+        has(below[i + 1], t),
+        has(below[i + 2], t),
+        has(below[i + 3], t),
+    ];
     write_at(on, (k + 1) as u8, actor, t as u8, out)
 }
 
-// The steps of kind k + 1 on the transactions: none at once where its three sets are empty.
-fn write_below(below: [u32; 21], actor: u8, k: usize, out: &mut [u8]) -> usize
+// The steps of kind k + 1 on the transactions: none at once where its four sets are empty.
+fn write_below(below: [u32; 28], actor: u8, k: usize, out: &mut [u8]) -> usize
     requires { ⌜ k < 7 ⌝ }
     requires { ⌜ length (gather 32 (belowBytes below actor k)) ≤ length (now out) ⌝ }
     ensures { λ r. ⌜ r ≡ length (gather 32 (belowBytes below actor k)) ⌝ }
     ensures { λ _. ⌜ now (out .exit) ≡ over (gather 32 (belowBytes below actor k)) (now (out .entry)) ⌝ }
 {
-    let i = 3 * k;
-    if (below[i] | below[i + 1] | below[i + 2]) == 0 {
+    let i = 4 * k;
+    if (below[i] | below[i + 1] | below[i + 2] | below[i + 3]) == 0 {
         return 0;
     }
     let mut at: usize = 0;
@@ -109,13 +114,18 @@ fn write_last(last: u32, actor: u8, k: usize, out: &mut [u8]) -> usize
     ensures { λ r. ⌜ r ≡ length (lastBytes last actor k) ⌝ }
     ensures { λ _. ⌜ now (out .exit) ≡ over (lastBytes last actor k) (now (out .entry)) ⌝ }
 {
-    let i = 3 * k;
-    let on = [has(last, i), has(last, i + 1), has(last, i + 2)];
+    let i = 4 * k;
+    let on = [
+        has(last, i),
+        has(last, i + 1),
+        has(last, i + 2),
+        has(last, i + 3),
+    ];
     write_at(on, (k + 1) as u8, actor, 255, out)
 }
 
 // The steps of kind k + 1.
-fn write_kind(below: [u32; 21], last: u32, actor: u8, k: usize, out: &mut [u8]) -> usize
+fn write_kind(below: [u32; 28], last: u32, actor: u8, k: usize, out: &mut [u8]) -> usize
     requires { ⌜ k < 7 ⌝ }
     requires { ⌜ length (kindBytes below last actor k) ≤ length (now out) ⌝ }
     ensures { λ r. ⌜ r ≡ length (kindBytes below last actor k) ⌝ }
@@ -127,7 +137,7 @@ fn write_kind(below: [u32; 21], last: u32, actor: u8, k: usize, out: &mut [u8]) 
 }
 
 // An actor's open steps, at the front of the buffer; the answer is their length in bytes.
-pub fn write_open(below: [u32; 21], last: u32, actor: u8, out: &mut [u8]) -> usize
+pub fn write_open(below: [u32; 28], last: u32, actor: u8, out: &mut [u8]) -> usize
     requires { ⌜ length (actorBytes below last actor) ≤ length (now out) ⌝ }
     ensures { λ r. ⌜ r ≡ length (actorBytes below last actor) ⌝ }
     ensures { λ _. ⌜ now (out .exit) ≡ over (actorBytes below last actor) (now (out .entry)) ⌝ }

@@ -17,7 +17,7 @@ use Rattle.pages.proofs.Reading.{read-number, read-height, read-payee}
 use Rattle.pages.proofs.Cuts.{text0, text1, text2, text3, text4, text5}
 
 -- a number below 1,000, a status below 10,000, a payee, a block below 10 ^ 8, and heights of at most ten digits
-module _ (t st payee block lock deadline : ℕ) (ht : t < 1000) (hs : st < 10000) (hp : (payee ≤ 2) ⊎ (payee ≡ unconfirmed))
+module _ (t st payee block lock deadline : ℕ) (ht : t < 1000) (hs : st < 10000) (hp : (payee ≤ 3) ⊎ (payee ≡ unconfirmed))
     (hb : block < 10 ^ 8) (hl : lock < 10 ^ 10) (hd : deadline < 10 ^ 10) where
   f0 : length (digits t) ≤ 3
   f0 = digits-few 2 t (omega arith)

@@ -12,7 +12,7 @@ use Rattle.laws.specs.Gather.{gather}
 use Rattle.laws.specs.Little.{numberAt}
 use Rattle.laws.specs.Sum.{sumBelow, length-gathered}
 use Rattle.sheet.specs.LockHeight.{never}
-use Rattle.slots.specs.Destination.{alice, bob, contract}
+use Rattle.slots.specs.Destination.{alice, bob, carol, contract}
 use Rattle.readings.specs.Reported.{rowWidth, reportedStatus, reportedLine}
 use Rattle.printed.specs.declared.Line.{Line}
 use Rattle.pages.specs.Line.{blanks, digits, column, widths, columns, lineFeed, lineWidth, ended, line}
@@ -44,7 +44,7 @@ unfolding payeeText
 payee-short payee =
     split (eqb payee alice)
     (λ e. rw e (lit≤ tt))
-    (λ e. split (eqb payee bob) (λ f. rw (e, f) (lit≤ tt)) (λ f. split (eqb payee contract) (λ g. rw (e, f, g) (lit≤ tt)) (λ g. rw (e, f, g) (lit≤ tt))))
+    (λ e. split (eqb payee bob) (λ f. rw (e, f) (lit≤ tt)) (λ f. split (eqb payee contract) (λ g. rw (e, f, g) (lit≤ tt)) (λ g. split (eqb payee carol) (λ h. rw (e, f, g, h) (lit≤ tt)) (λ h. rw (e, f, g, h) (lit≤ tt)))))
 
 pub height-short : (height : ℕ) → height < 10 ^ 10 → length (heightText height) ≤ 10
 unfolding heightText

@@ -7,11 +7,11 @@ use mathlib.Core.List.{List, []}
 use lib.ListN.{getD}
 use borrow.Author.Tests.{eq-eqb, ne-eqb}
 use Rattle.sheet.specs.LockHeight.{never}
-use Rattle.slots.specs.Destination.{alice, bob, contract}
+use Rattle.slots.specs.Destination.{alice, bob, carol, contract}
 use Rattle.pages.specs.Line.{digits}
 use Rattle.printed.specs.declared.Line.{Line}
 use Rattle.pages.specs.Forms.Cell.{values}
-use Rattle.pages.specs.Page.{aliceText, bobText, contractText, dashText, payeeText, neverText, heightText, header, texts, lineTexts}
+use Rattle.pages.specs.Page.{aliceText, bobText, carolText, contractText, dashText, payeeText, neverText, heightText, header, texts, lineTexts}
 
 module _ (payee : ℕ) where
   pub is-alice : payee ≡ alice → aliceText ≡ payeeText payee
@@ -26,9 +26,13 @@ module _ (payee : ℕ) where
   unfolding payeeText
   is-contract e = rw e
 
-  pub is-nobody : (payee ≡ alice → ⊥) → (payee ≡ bob → ⊥) → (payee ≡ contract → ⊥) → dashText ≡ payeeText payee
+  pub is-carol : payee ≡ carol → carolText ≡ payeeText payee
   unfolding payeeText
-  is-nobody a b c = rw (ne-eqb payee alice a, ne-eqb payee bob b, ne-eqb payee contract c)
+  is-carol e = rw e
+
+  pub is-nobody : (payee ≡ alice → ⊥) → (payee ≡ bob → ⊥) → (payee ≡ contract → ⊥) → (payee ≡ carol → ⊥) → dashText ≡ payeeText payee
+  unfolding payeeText
+  is-nobody a b c d = rw (ne-eqb payee alice a, ne-eqb payee bob b, ne-eqb payee contract c, ne-eqb payee carol d)
 
 module _ (height : ℕ) where
   pub is-never : height ≡ never → neverText ≡ heightText height

@@ -31,7 +31,7 @@ pub answered : (w v : Written) → w ≡ v → (v .refusal ≡ w .refusal) × (v
 answered w v e = rw e (refl, refl)
 
 -- the number of a page
-pub page-below : (s u j out : List ℕ) → pageAnswer s u j out .refusal < 26
+pub page-below : (s u j out : List ℕ) → pageAnswer s u j out .refusal < 33
 unfolding pageAnswer
 page-below s u j out = written-bounds s u j (pageOf (count s) (printedLine s u (run s u j .position))) out 0 .0
 

@@ -17,7 +17,7 @@ use Rattle.laws.specs.Same.{same, same-equal, equal-same}
 use Rattle.sheet.specs.LockHeight.{never}
 use Rattle.pages.specs.Line.{blank, blanks, digit, digitsIn, digits, column}
 use Rattle.position.specs.Report.{unconfirmed}
-use Rattle.pages.specs.Page.{aliceText, bobText, contractText, dashText, neverText, payeeText, heightText}
+use Rattle.pages.specs.Page.{aliceText, bobText, carolText, contractText, dashText, neverText, payeeText, heightText}
 use Rattle.pages.specs.Claim.{trimmed, numberFrom, payeeOf, heightOf}
 use Rattle.pages.proofs.Digits.{one-digit, more-digits}
 
@@ -98,12 +98,13 @@ read-height w x =
     (λ y. rw (y, trimmed-blanks (w - length (digits x)) (digits x), trimmed-digits (digits x) (digits-are (suc x) x), digits-not-never x) (number-in (suc x) x (omega arith)))
 
 -- a payee that is a destination or nobody
-pub read-payee : (w x : ℕ) → (x ≤ 2) ⊎ (x ≡ unconfirmed) → payeeOf (trimmed (column w (payeeText x))) ≡ x
+pub read-payee : (w x : ℕ) → (x ≤ 3) ⊎ (x ≡ unconfirmed) → payeeOf (trimmed (column w (payeeText x))) ≡ x
 unfolding column payeeText payeeOf trimmed same allBelow
 read-payee w zero h = rw (trimmed-blanks (w - 5) aliceText)
 read-payee w (suc zero) h = rw (trimmed-blanks (w - 3) bobText)
 read-payee w (suc (suc zero)) h = rw (trimmed-blanks (w - 8) contractText)
-read-payee w (suc (suc (suc x))) h =
+read-payee w (suc (suc (suc zero))) h = rw (trimmed-blanks (w - 5) carolText)
+read-payee w (suc (suc (suc (suc x)))) h =
     either h
     (λ l. absurd (omega (arith, l)))
     (λ e. rw (e, trimmed-blanks (w - 1) dashText))

@@ -39,7 +39,7 @@ lines-long s u p few i h =
     ap length (line-at s u p few i h) ∙ line-length (count s) (printedLine s u p) (lines-readable s u p few) i h
 
 -- a payee is a destination, or nobody
-payee-known : (s : List ℕ) (p : Position) → Wellformed s p → (t : ℕ) → (payee p t ≤ 2) ⊎ (payee p t ≡ unconfirmed)
+payee-known : (s : List ℕ) (p : Position) → Wellformed s p → (t : ℕ) → (payee p t ≤ 3) ⊎ (payee p t ≡ unconfirmed)
 unfolding payee confirmedTo entryTo
 payee-known s p w t =
     split (isConfirmed p t)

@@ -12,14 +12,14 @@ use Rattle.laws.specs.Same.{same}
 use Rattle.sheet.specs.Field.{count}
 use Rattle.sheet.specs.LockHeight.{never}
 use Rattle.sheet.specs.Refusal.{accepted}
-use Rattle.slots.specs.Destination.{alice, bob, contract}
+use Rattle.slots.specs.Destination.{alice, bob, carol, contract}
 use Rattle.position.specs.declared.Position.{Position}
 use Rattle.position.specs.Play.{run}
 use Rattle.position.specs.Report.{unconfirmed, row}
 use Rattle.position.specs.Printed.{printedLine}
 use Rattle.moves.specs.Wellformed.{Wellformed}
 use Rattle.pages.specs.Line.{blank}
-use Rattle.pages.specs.Page.{aliceText, bobText, contractText, neverText, pageOf}
+use Rattle.pages.specs.Page.{aliceText, bobText, carolText, contractText, neverText, pageOf}
 
 -- "lines of exactly 72 characters and a line feed": line i of a page
 unfoldable pub lineAt : List ℕ → ℕ → List ℕ
@@ -44,7 +44,8 @@ unfoldable pub payeeOf : List ℕ → ℕ
 payeeOf text =
     pick (same text aliceText) alice
     (pick (same text bobText) bob
-    (pick (same text contractText) contract unconfirmed))
+    (pick (same text contractText) contract
+    (pick (same text carolText) carol unconfirmed)))
 
 -- never to 2147483647, digits to number
 unfoldable pub heightOf : List ℕ → ℕ

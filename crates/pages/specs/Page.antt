@@ -8,7 +8,7 @@ use Rattle.laws.specs.Booleans.{pick}
 use Rattle.laws.specs.Gather.{gather}
 use Rattle.sheet.specs.Field.{count}
 use Rattle.sheet.specs.LockHeight.{never}
-use Rattle.slots.specs.Destination.{alice, bob, contract}
+use Rattle.slots.specs.Destination.{alice, bob, carol, contract}
 use Rattle.position.specs.Play.{run}
 use Rattle.position.specs.Printed.{printedLine}
 use Rattle.position.specs.Answers.{Written, passOn}
@@ -21,6 +21,10 @@ aliceText = 65 ∷ 108 ∷ 105 ∷ 99 ∷ 101 ∷ []
 abbrev pub bobText : List ℕ
 bobText = 66 ∷ 111 ∷ 98 ∷ []
 
+-- a third party's name
+abbrev pub carolText : List ℕ
+carolText = 67 ∷ 97 ∷ 114 ∷ 111 ∷ 108 ∷ []
+
 abbrev pub contractText : List ℕ
 contractText = 99 ∷ 111 ∷ 110 ∷ 116 ∷ 114 ∷ 97 ∷ 99 ∷ 116 ∷ []
 
@@ -32,7 +36,8 @@ unfoldable pub payeeText : ℕ → List ℕ
 payeeText payee =
     pick (eqb payee alice) aliceText
     (pick (eqb payee bob) bobText
-    (pick (eqb payee contract) contractText dashText))
+    (pick (eqb payee contract) contractText
+    (pick (eqb payee carol) carolText dashText)))
 
 -- "printed as never"
 abbrev pub neverText : List ℕ

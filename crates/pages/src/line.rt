@@ -99,6 +99,7 @@ fn write_payee(width: usize, payee: u8, out: &mut [u8]) -> usize
         0 => write_text(width, b"Alice", out),
         1 => write_text(width, b"Bob", out),
         2 => write_text(width, b"contract", out),
+        3 => write_text(width, b"Carol", out),
         _ => write_text(width, b"-", out),
     }
 }

@@ -7,12 +7,12 @@ use mathlib.Core.Bool.{Bool, true, _&&_}
 use mathlib.Core.Logic.{_⊎_, inl, inr}
 use mathlib.Core.List.{List, [], _∷_}
 use lib.Dec.{eqb, ltb, lit≤, lit<}
-use lib.ListN.{length, getD}
+use lib.ListN.{getD}
 use borrow.Author.Tests.{eqb-true, ltb-true}
 use Rattle.laws.specs.Booleans.{pick, split, either, and-parts, or-parts}
 use Rattle.sheet.specs.Field.{count, signatures}
 use Rattle.slots.specs.declared.Destination.{Destination}
-use Rattle.slots.specs.declared.Destination.the-variants.{Alice, Bob, Contract}
+use Rattle.slots.specs.declared.Destination.the-variants.{Alice, Bob, Contract, Carol}
 use Rattle.slots.specs.declared.Step.{Step}
 use Rattle.slots.specs.declared.Step.the-variants.{Share, Give, SendToPool, HandToMiner, Include, Mine, Bump}
 use Rattle.slots.specs.Destination.{miner, destinations, destinationNumber, isParty}
@@ -20,18 +20,19 @@ use Rattle.steps.specs.declared.Decoded.{Decoded}
 use Rattle.steps.specs.declared.Decoded.the-variants.{Read, Refused}
 use Rattle.position.specs.Position.{slotCount}
 use Rattle.steps.specs.Decode.{noTransaction, sharesTo, firstShareFields, fieldsRight, ofKind, spelled, rangeChecked, decode, stepBytes}
-use Rattle.position.specs.Open.{kinds, actors}
+use Rattle.position.specs.Open.{kinds}
 
 -- what is read from the bytes k a t d, whatever the sheet
 data Spelled (k a t d : ℕ) : Decoded → Type 0 where
   is : (x : Step) → stepBytes x ≡ k ∷ a ∷ t ∷ d ∷ [] → 1 ≤ k → k ≤ kinds → d < destinations → Spelled k a t d (Read x)
   not : Spelled k a t d Refused
 
-pub within-three : (to : Destination) → destinationNumber to < destinations
+pub destination-within : (to : Destination) → destinationNumber to < destinations
 unfolding destinationNumber
-within-three Alice = lit< tt
-within-three Bob = lit< tt
-within-three Contract = lit< tt
+destination-within Alice = lit< tt
+destination-within Bob = lit< tt
+destination-within Contract = lit< tt
+destination-within Carol = lit< tt
 
 module _ (a t : ℕ) (to : Destination) where
   -- kind j, whose step is x
@@ -39,7 +40,7 @@ module _ (a t : ℕ) (to : Destination) where
       → Spelled k a t (destinationNumber to) rest → Spelled k a t (destinationNumber to) (pick (eqb k j) (Read x) rest)
   kind-is k j x rest b l m r =
       split (eqb k j)
-      (λ e. rw (e, eqb-true k j e) (is x b l m (within-three to)))
+      (λ e. rw (e, eqb-true k j e) (is x b l m (destination-within to)))
       (λ e. rw e r)
 
   spelled-kind : (k : ℕ) → Spelled k a t (destinationNumber to) (ofKind k a t to)
@@ -62,7 +63,7 @@ module _ (k a t d : ℕ) where
 
   spelled-right : Spelled k a t d (spelled k a t d)
   unfolding spelled destinationNumber
-  spelled-right = destination-is Alice _ (destination-is Bob _ (destination-is Contract _ not))
+  spelled-right = destination-is Alice _ (destination-is Bob _ (destination-is Contract _ (destination-is Carol _ not)))
 
 -- the bytes of a decoded step, which are in range
 pub record Decodes (s u : List ℕ) (k a t d : ℕ) (x : Step) : Type 0 where
@@ -90,34 +91,28 @@ unfolding decode
 decodes s u k a t d x e = checked-is s u k a t d x (spelled-right k a t d) e
 
 -- the party and the transaction byte of a step with right fields
-pub record Ranges (x : Step) : Type 0 where
-  pub party : getD (stepBytes x) 1 0 < length actors
+pub record Ranges (s : List ℕ) (x : Step) : Type 0 where
+  pub party : (isParty s (getD (stepBytes x) 1 0) ≡ true) ⊎ (getD (stepBytes x) 1 0 ≡ miner)
   pub transaction : (getD (stepBytes x) 2 0 < slotCount) ⊎ (getD (stepBytes x) 2 0 ≡ noTransaction)
-
-party-low : (a : ℕ) → isParty a ≡ true → a < 3
-unfolding isParty
-party-low a h = omega (arith, ltb-true a 2 h)
 
 module _ (s u : List ℕ) (few : count s ≤ 32) (signed : signatures s ≤ 8) where
   listed : (t : ℕ) (b : Bool) → (ltb t (count s) && b) ≡ true → t < slotCount
   listed t b h = omega (arith, ltb-true t (count s) (and-parts (ltb t (count s)) b h .0))
 
   -- a step of a party, of the miner: a test of the party byte, then one of the others
-  by-party : (x : Step) (b : Bool) → (isParty (getD (stepBytes x) 1 0) && b) ≡ true
-      → (b ≡ true → (getD (stepBytes x) 2 0 < slotCount) ⊎ (getD (stepBytes x) 2 0 ≡ noTransaction)) → Ranges x
-  unfolding actors
+  by-party : (x : Step) (b : Bool) → (isParty s (getD (stepBytes x) 1 0) && b) ≡ true
+      → (b ≡ true → (getD (stepBytes x) 2 0 < slotCount) ⊎ (getD (stepBytes x) 2 0 ≡ noTransaction)) → Ranges s x
   by-party x b h f =
-      let w = and-parts (isParty (getD (stepBytes x) 1 0)) b h in
-      record { party = party-low (getD (stepBytes x) 1 0) (w .0); transaction = f (w .1) }
+      let w = and-parts (isParty s (getD (stepBytes x) 1 0)) b h in
+      record { party = inl (w .0); transaction = f (w .1) }
 
   by-miner : (x : Step) (b : Bool) → (eqb (getD (stepBytes x) 1 0) miner && b) ≡ true
-      → (b ≡ true → (getD (stepBytes x) 2 0 < slotCount) ⊎ (getD (stepBytes x) 2 0 ≡ noTransaction)) → Ranges x
-  unfolding actors
+      → (b ≡ true → (getD (stepBytes x) 2 0 < slotCount) ⊎ (getD (stepBytes x) 2 0 ≡ noTransaction)) → Ranges s x
   by-miner x b h f =
       let w = and-parts (eqb (getD (stepBytes x) 1 0) miner) b h in
-      record { party = omega (arith, eqb-true (getD (stepBytes x) 1 0) miner (w .0)); transaction = f (w .1) }
+      record { party = inr (eqb-true (getD (stepBytes x) 1 0) miner (w .0)); transaction = f (w .1) }
 
-  pub ranges : (x : Step) → fieldsRight s u x ≡ true → Ranges x
+  pub ranges : (x : Step) → fieldsRight s u x ≡ true → Ranges s x
   unfolding fieldsRight stepBytes firstShareFields
   ranges (Share a t to) h =
       by-party (Share a t to) _ h

@@ -8,52 +8,30 @@ use mathlib.Core.List.{List}
 use lib.Dec.{eqb, ltb}
 use borrow.Author.Tests.{eqb-true, ltb-true, not-true}
 use Rattle.laws.specs.Booleans.{either, and-parts, or-parts, or-right}
-use Rattle.sheet.specs.Field.{count, signatures}
+use Rattle.sheet.specs.Field.{count}
 use Rattle.sheet.specs.Setup.{conduct}
 use Rattle.sheet.specs.Checked.{Fit}
 use Rattle.slots.specs.declared.Destination.{Destination}
 use Rattle.slots.specs.declared.Step.{Step}
-use Rattle.slots.specs.declared.Step.the-variants.{Share, Give, SendToPool, HandToMiner}
+use Rattle.slots.specs.declared.Step.the-variants.{Share}
 use Rattle.slots.specs.Destination.{destinationNumber, isParty}
 use Rattle.steps.specs.Names.{timeout}
-use Rattle.steps.specs.Decode.{noTransaction, sharesTo, isOther, firstShareFields, fieldsRight}
-use Rattle.steps.proofs.RightFields.{give-listed, pool-listed, miner-listed}
+use Rattle.steps.specs.Decode.{noTransaction, sharesTo, firstShareFields, fieldsRight}
 use Rattle.position.proofs.Fits.{named}
 use Rattle.position.specs.Forms.FirstShares.{shareable}
 use Rattle.position.specs.Conduct.{isOpen}
 
-party-below : (party : ℕ) → isParty party ≡ true → party < 2
-unfolding isParty
-party-below party h = ltb-true party 2 h
-
 module _ (s u : List ℕ) (party t : ℕ) (to : Destination) (x : Step) where
-  pub share-fields : x ≡ Share party t to → Fit s u → fieldsRight s u x ≡ true → (party < 2) × (shareable s t ≡ true)
+  pub share-fields : x ≡ Share party t to → Fit s u → fieldsRight s u x ≡ true → shareable s t ≡ true
   unfolding fieldsRight shareable firstShareFields isOpen
   share-fields e fit h =
-      let w = and-parts (isParty party) _ (rw e at h) in (
-        party-below party (w .0),
-        either (or-parts (ltb t (count s) && sharesTo s t (destinationNumber to)) _ (w .1))
-            (λ y. rw (and-parts (ltb t (count s)) _ y .0))
-            (λ y.
-            let z = and-parts (eqb t noTransaction) _ y in
-            let n : count s ≡ 15 = named (fit .setup) (not-true (eqb (conduct u) 0) (and-parts (not (eqb (conduct u) 0)) _ (z .1) .0)) in
-            or-right (ltb t (count s)) (eqb t noTransaction && ltb timeout (count s)) (rw (z .0, n))),
-      )
-
-  pub give-fields : x ≡ Give party t to → signatures s ≤ 8 → fieldsRight s u x ≡ true → (t < 8) × (destinationNumber to < 2)
-  unfolding fieldsRight isOther
-  give-fields e few h =
-      let w = and-parts (isParty party) _ (rw e at h) in
-      let z = and-parts (ltb t (signatures s)) _ (w .1) in
-      (give-listed s u party t to x e few h, party-below (destinationNumber to) (and-parts (isParty (destinationNumber to)) _ (z .1) .0))
-
-  pub pool-fields : x ≡ SendToPool party t to → fieldsRight s u x ≡ true → (party < 2) × (t < count s)
-  unfolding fieldsRight
-  pool-fields e h = (party-below party (and-parts (isParty party) _ (rw e at h) .0), pool-listed s u party t to x e h)
-
-  pub miner-fields : x ≡ HandToMiner party t to → fieldsRight s u x ≡ true → (party < 2) × (t < count s)
-  unfolding fieldsRight
-  miner-fields e h = (party-below party (and-parts (isParty party) _ (rw e at h) .0), miner-listed s u party t to x e h)
+      let w = and-parts (isParty s party) _ (rw e at h) in
+      either (or-parts (ltb t (count s) && sharesTo s t (destinationNumber to)) _ (w .1))
+      (λ y. rw (and-parts (ltb t (count s)) _ y .0))
+      (λ y.
+      let z = and-parts (eqb t noTransaction) _ y in
+      let n : count s ≡ 15 = named (fit .setup) (not-true (eqb (conduct u) 0) (and-parts (not (eqb (conduct u) 0)) _ (z .1) .0)) in
+      or-right (ltb t (count s)) (eqb t noTransaction && ltb timeout (count s)) (rw (z .0, n)))
 
 -- a share of one transaction, and of the first shares
 module _ (s : List ℕ) (t : ℕ) (few : count s ≤ 32) (h : shareable s t ≡ true) where

@@ -15,7 +15,7 @@ use Rattle.sheet.specs.Field.{count}
 use Rattle.sheet.specs.Setup.{conduct}
 use Rattle.sheet.specs.Checked.{Checked}
 use Rattle.slots.specs.Slot.{standing, sharedFor}
-use Rattle.slots.specs.Destination.{bob, contract, isPayee, isContract}
+use Rattle.slots.specs.Destination.{alice, bob, contract, isPayee, isContract}
 use Rattle.steps.specs.declared.View.{View}
 use Rattle.steps.specs.declared.Outlook.{Outlook}
 use Rattle.steps.specs.Names.{secretBob, success, refund1}
@@ -94,7 +94,7 @@ module _ (s u : List ℕ) (p : Position) where
 
   -- the outlook from its parts, where conduct is followed
   pub outlook-made : (v : View) (way ph has : ℕ) (l sends knows : Bool) → way ≡ conduct u → (way ≡ 0 → ⊥) → ph ≡ phase p → l ≡ late s u p
-      → sends ≡ (standing (slot p refund1 .pool) || ltb 0 (slot p refund1 .height)) → knows ≡ bit (p .alice) secretBob
+      → sends ≡ (standing (slot p refund1 .pool) || ltb 0 (slot p refund1 .height)) → knows ≡ bit (keys p alice) secretBob
       → v ≡ viewBelow (count s) p → has ≡ senderIn s v (slot p success) bob contract
       → record { free = false; careful = eqb way 2; phase = ph; late = l; refund = sends; unshared = eqb (slot p success .contract) 0; knows = knows; bobhas = has }
       ≡ outlook s u p

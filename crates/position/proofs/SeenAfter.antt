@@ -21,7 +21,7 @@ use Rattle.slots.specs.declared.Slot.{Slot}
 use Rattle.slots.specs.declared.Destination.{Destination}
 use Rattle.slots.specs.declared.Step.{Step}
 use Rattle.slots.specs.declared.Step.the-variants.{Share, Give, SendToPool, HandToMiner, Include, Mine, Bump}
-use Rattle.slots.specs.Destination.{alice, bob, contract, destinations, destinationNumber, miner}
+use Rattle.slots.specs.Destination.{alice, bob, carol, contract, destinations, destinationNumber, miner}
 use Rattle.slots.specs.Signatures.{shareMask}
 use Rattle.slots.specs.Slot.{standing, entryFor, withPool, withBlock, withMark, sharedFor, withShared, sharedAny}
 use Rattle.steps.specs.declared.View.{View}
@@ -54,7 +54,7 @@ same-grows x = record { pool = λ h. h; block = λ h. h; confirmed = λ h. h; sh
 
 -- one slot grows, and the others stay as they are
 grown-view : (n t : ℕ) (p q : Position) (v : View) → v ≡ viewBelow n p → t < n → ((k : ℕ) → eqb k t ≡ false → slot q k ≡ slot p k) → Grows (slot p t) (slot q t)
-    → viewAfter v t (slot q t) (q .mined) (q .alice) (q .bob) ≡ viewBelow n q
+    → viewAfter v t (slot q t) (q .mined) (q .keys) ≡ viewBelow n q
 unfolding viewAfter viewBelow inPool inBlock isConfirmed blockOf
 grown-view n t p q v e l same g =
     let a = set-grown t n (inPool p) (inPool q) l (λ k o. ap (λ (x : Slot). standing (x .pool)) (same k o)) (g .pool) in
@@ -75,12 +75,12 @@ one-grows t f p g =
     (λ l. rw (out-of-range t f p l) (same-grows (slot p t)))
 
 changed-view : (n t : ℕ) (f : Slot → Slot) (p : Position) (v : View) → v ≡ viewBelow n p → t < n → Grows (slot p t) (f (slot p t))
-    → viewAfter v t (slot (changeSlot t f p) t) (changeSlot t f p .mined) (changeSlot t f p .alice) (changeSlot t f p .bob) ≡ viewBelow n (changeSlot t f p)
+    → viewAfter v t (slot (changeSlot t f p) t) (changeSlot t f p .mined) (changeSlot t f p .keys) ≡ viewBelow n (changeSlot t f p)
 changed-view n t f p v e l g = grown-view n t p (changeSlot t f p) v e l (one-other t f p) (one-grows t f p g)
 
 -- the slots stay as they are
 kept-view : (n : ℕ) (p q : Position) (v : View) → v ≡ viewBelow n p → 0 < n → ((k : ℕ) → slot q k ≡ slot p k)
-    → viewAfter v 0 (slot q 0) (q .mined) (q .alice) (q .bob) ≡ viewBelow n q
+    → viewAfter v 0 (slot q 0) (q .mined) (q .keys) ≡ viewBelow n q
 kept-view n p q v e l same = grown-view n 0 p q v e l (λ k o. same k) (rw (same 0) (same-grows (slot p 0)))
 
 -- a share adds signatures
@@ -93,7 +93,8 @@ unfolding sharedFor withShared
 shared-more to m x k =
     split (eqb k alice)
     (λ a. rw a (picked (eqb to alice) (x .alice) m))
-    (λ a. split (eqb k bob) (λ b. rw (a, b) (picked (eqb to bob) (x .bob) m)) (λ b. rw (a, b) (picked (eqb to contract) (x .contract) m)))
+    (λ a. split (eqb k bob) (λ b. rw (a, b) (picked (eqb to bob) (x .bob) m)) (λ b.
+    split (eqb k contract) (λ c. rw (a, b, c) (picked (eqb to contract) (x .contract) m)) (λ c. rw (a, b, c) (picked (eqb to carol) (x .carol) m))))
 
 share-grows : (to m : ℕ) (x : Slot) → Grows x (withShared to m x)
 unfolding withShared sharedAny
@@ -121,7 +122,7 @@ block-grows entry x there = record { pool = λ h. h; block = λ h. there; confir
 module _ (s u : List ℕ) (p : Position) (v : View) (fit : Fit s u) (e : v ≡ viewBelow (count s) p) where
   -- v carried over a step to the position q, which may have changed the slot at this place
   abbrev Carried : Position → ℕ → Type 0
-  Carried q at = viewAfter v at (slot q at) (q .mined) (q .alice) (q .bob) ≡ viewBelow (count s) q
+  Carried q at = viewAfter v at (slot q at) (q .mined) (q .keys) ≡ viewBelow (count s) q
 
   place-is : (kind t : ℕ) → eqb kind 2 ≡ false → t < count s → changedPlace kind t ≡ t
   unfolding changedPlace
@@ -171,12 +172,12 @@ module _ (s u : List ℕ) (p : Position) (v : View) (fit : Fit s u) (e : v ≡ v
 
   -- a step of four bytes, where r is what the code got from it
   pub seen-after : (b : FourBytes) (r : Stepped) → r ≡ step s u p b → r .refusal ≡ 0 → changesMany v (b .kind) (b .transaction) ≡ false
-      → viewAfter v (changedPlace (b .kind) (b .transaction)) (slot (r .position) (changedPlace (b .kind) (b .transaction))) (r .position .mined) (r .position .alice) (r .position .bob)
+      → viewAfter v (changedPlace (b .kind) (b .transaction)) (slot (r .position) (changedPlace (b .kind) (b .transaction))) (r .position .mined) (r .position .keys)
       ≡ viewBelow (count s) (r .position)
   unfolding decodeBytes
   seen-after b r f z o = by (step-case s u p b)
     where
-      by : StepCase s u p b → viewAfter v (changedPlace (b .kind) (b .transaction)) (slot (r .position) (changedPlace (b .kind) (b .transaction))) (r .position .mined) (r .position .alice) (r .position .bob) ≡ viewBelow (count s) (r .position)
+      by : StepCase s u p b → viewAfter v (changedPlace (b .kind) (b .transaction)) (slot (r .position) (changedPlace (b .kind) (b .transaction))) (r .position .mined) (r .position .keys) ≡ viewBelow (count s) (r .position)
       by (taken x d h a g) =
           let w = decodes s u (b .kind) (b .party) (b .transaction) (b .destination) x d .bytes in
           let k : getD (stepBytes x) 0 0 ≡ b .kind = ap (λ (l : List ℕ). getD l 0 0) w in

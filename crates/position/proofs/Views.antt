@@ -13,7 +13,7 @@ use Rattle.position.specs.Position.{slot, inPool, inBlock, blockOf, isCo
 use Rattle.steps.specs.Forms.View.{viewWith}
 use Rattle.position.specs.Forms.View.{viewBelow}
 
-pub view-start : (p : Position) → record { pool = 0; block = 0; confirmed = 0; mined = p .mined; shared = 0; alice = p .alice; bob = p .bob } ≡ viewBelow 0 p
+pub view-start : (p : Position) → record { pool = 0; block = 0; confirmed = 0; mined = p .mined; shared = 0; keys = p .keys } ≡ viewBelow 0 p
 unfolding viewBelow setBelow unionBelow
 view-start p = refl
 

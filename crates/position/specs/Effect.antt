@@ -12,7 +12,7 @@ use Rattle.sheet.specs.Field.{count}
 use Rattle.slots.specs.declared.Slot.{Slot}
 use Rattle.slots.specs.declared.Step.{Step}
 use Rattle.slots.specs.declared.Step.the-variants.{Share, Give, SendToPool, HandToMiner, Include, Mine, Bump}
-use Rattle.slots.specs.Destination.{alice, bob, contract, destinationNumber}
+use Rattle.slots.specs.Destination.{contract, destinationNumber}
 use Rattle.slots.specs.Slot.{entryFor, withPool, withBlock, withShared, withMark}
 use Rattle.slots.specs.Ancestry.{meetsConflict, meetsOther}
 use Rattle.slots.specs.Signatures.{shareMask, exposedMask}
@@ -25,7 +25,7 @@ use Rattle.position.specs.Owed.{enters}
 
 -- the position with other slots
 unfoldable pub withSlots : List Slot → Position → Position
-withSlots l p = record { slots = l; mined = p .mined; alice = p .alice; bob = p .bob }
+withSlots l p = record { slots = l; mined = p .mined; keys = p .keys }
 
 -- the slot of transaction t changed by f
 unfoldable pub changeSlot : ℕ → (Slot → Slot) → Position → Position
@@ -37,13 +37,7 @@ changeSlots s f p = withSlots (rewriteFirst (count s) f (p .slots)) p
 
 -- "each party's keys held": signature i too, by party number
 unfoldable pub withKey : ℕ → ℕ → Position → Position
-withKey party i p =
-    record {
-      slots = p .slots;
-      mined = p .mined;
-      alice = pick (eqb party alice) (bitOr (p .alice) (2 ^ i)) (p .alice);
-      bob = pick (eqb party bob) (bitOr (p .bob) (2 ^ i)) (p .bob);
-    }
+withKey party i p = record { slots = p .slots; mined = p .mined; keys = set (p .keys) party (bitOr (keys p party) (2 ^ i)) }
 
 -- "the party's held, required, non-secret signatures on that transaction become shared", and the share is marked as made
 unfoldable pub shareOne : List ℕ → ℕ → ℕ → ℕ → Position → Position
@@ -89,7 +83,7 @@ mineSlot s p t x =
 
 -- "the blocks mined": another number
 unfoldable pub withMined : ℕ → Position → Position
-withMined m p = record { slots = p .slots; mined = m; alice = p .alice; bob = p .bob }
+withMined m p = record { slots = p .slots; mined = m; keys = p .keys }
 
 -- 6 "Mine (transaction 255): the block is confirmed": one block more
 unfoldable pub afterMine : List ℕ → Position → Position

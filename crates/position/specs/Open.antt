@@ -3,13 +3,14 @@
 use Prim.Native.Nat.{ℕ, _+_}
 use mathlib.Core.Bool.{Bool}
 use mathlib.Core.List.{List, [], _∷_, _++_, flatMap}
-use lib.Dec.{eqb}
+use lib.Dec.{eqb, ltb}
 use Rattle.laws.specs.Booleans.{pick}
 use Rattle.laws.specs.Gather.{gather}
 use Rattle.laws.specs.Order.{lower}
 use Rattle.sheet.specs.Refusal.{accepted}
+use Rattle.sheet.specs.Field.{parties, place, partyAt}
 use Rattle.slots.specs.declared.Step.{Step}
-use Rattle.slots.specs.Destination.{alice, bob, miner, destinations}
+use Rattle.slots.specs.Destination.{miner, destinations}
 use Rattle.position.specs.declared.Position.{Position}
 use Rattle.steps.specs.declared.Decoded.{Decoded}
 use Rattle.steps.specs.declared.Decoded.the-variants.{Read, Refused}
@@ -18,9 +19,14 @@ use Rattle.steps.specs.Decode.{decode, stepBytes, noTransaction}
 use Rattle.position.specs.StepRefusal.{stepRefusal}
 use Rattle.position.specs.Play.{FourBytes, journalSteps}
 
--- "List writes Alice's steps first, then Bob's in the part that follows, then the miner's"
-unfoldable pub actors : List ℕ
-actors = alice ∷ bob ∷ miner ∷ []
+-- "List writes Alice's steps first, then Bob's in the part that follows, then the miner's": the sheet's parties by place,
+-- then the miner
+unfoldable pub actorAt : List ℕ → ℕ → ℕ
+actorAt s k = pick (ltb k (parties s)) (partyAt k) miner
+
+-- their number
+abbrev pub actors : List ℕ → ℕ
+actors s = parties s + 1
 
 -- "one of seven kinds": 1 to 7
 abbrev pub kinds : ℕ
@@ -45,7 +51,7 @@ actorSteps s u p actor = gather kinds (λ k. openOf s u p actor (k + 1))
 
 -- "list open steps"
 unfoldable pub openSteps : List ℕ → List ℕ → Position → List Step
-openSteps s u p = flatMap (actorSteps s u p) actors
+openSteps s u p = gather (actors s) (λ k. actorSteps s u p (actorAt s k))
 
 -- "4 bytes a step"
 unfoldable pub listBytes : List ℕ → List ℕ → Position → List ℕ
@@ -55,9 +61,13 @@ listBytes s u p = flatMap stepBytes (openSteps s u p)
 unfoldable pub listSteps : List ℕ → List ℕ → Position → List FourBytes
 listSteps s u p = journalSteps (listBytes s u p)
 
+-- where an actor stands in the list: a party by its place, the miner last
+unfoldable pub rank : ℕ → ℕ
+rank actor = pick (eqb actor miner) 3 (place actor)
+
 -- where a step stands in the list: by actor, then "by kind, transaction, destination"
 unfoldable pub listPlace : FourBytes → List ℕ
-listPlace b = b .party ∷ b .kind ∷ b .transaction ∷ b .destination ∷ []
+listPlace b = rank (b .party) ∷ b .kind ∷ b .transaction ∷ b .destination ∷ []
 
 -- the first stands before the second
 unfoldable pub listedBefore : FourBytes → FourBytes → Bool

@@ -2,16 +2,15 @@
 -- Assumes nothing.
 use Prim.Native.Nat.{ℕ}
 use mathlib.Core.Bool.{Bool, _||_}
-use mathlib.Core.List.{List}
-use lib.Dec.{eqb, ltb}
+use mathlib.Core.List.{List, [], _∷_}
+use lib.Dec.{ltb}
 use lib.ListN.{getD, replicate}
-use Rattle.laws.specs.Booleans.{pick}
 use Rattle.laws.specs.Mask.{bit}
 use Rattle.sheet.specs.Field.{startKeys}
 use Rattle.sheet.specs.Setup.{perDay}
 use Rattle.sheet.specs.LockHeight.{lockHeight}
 use Rattle.slots.specs.declared.Slot.{Slot}
-use Rattle.slots.specs.Destination.{alice, bob}
+use Rattle.slots.specs.Destination.{alice, bob, carol}
 use Rattle.slots.specs.Slot.{emptySlot, standing, entryTo, sharedFor, sharedAny, markedFor}
 use Rattle.slots.specs.Deadline.{deadline}
 use Rattle.slots.specs.Signatures.{sharedSecrets, senderMask}
@@ -21,9 +20,13 @@ use Rattle.position.specs.declared.Position.{Position}
 abbrev pub slotCount : ℕ
 slotCount = 32
 
--- the empty journal's position: "the masks held at the start by Alice and Bob", and nothing else
+-- "the masks held at the start by Alice and Bob", by party number; nothing at other numbers
+unfoldable pub startHeld : List ℕ → List ℕ
+startHeld s = startKeys s alice ∷ startKeys s bob ∷ 0 ∷ startKeys s carol ∷ 0 ∷ 0 ∷ []
+
+-- the empty journal's position: these masks, and nothing else
 unfoldable pub start : List ℕ → Position
-start s = record { slots = replicate slotCount emptySlot; mined = 0; alice = startKeys s alice; bob = startKeys s bob }
+start s = record { slots = replicate slotCount emptySlot; mined = 0; keys = startHeld s }
 
 -- "A position holds, for each of 32 transactions, ..": what it holds for t
 unfoldable pub slot : Position → ℕ → Slot
@@ -71,7 +74,7 @@ shared p t destination = sharedFor (slot p t) destination
 
 -- "each party's keys held": by party number
 unfoldable pub keys : Position → ℕ → ℕ
-keys p party = pick (eqb party alice) (p .alice) (p .bob)
+keys p party = getD (p .keys) party 0
 
 -- the party holds signature i
 unfoldable pub holds : Position → ℕ → ℕ → Bool

@@ -115,7 +115,7 @@ impl Position {
             late: self.late(sheet, setup),
             refund: is_sent(refund),
             unshared: success.contract == 0,
-            knows: signatures::has(self.alice, 3),
+            knows: signatures::has(self.keys(0), 3),
             bobhas: view.sender(sheet, success, 1, 2),
         }
     }
@@ -125,7 +125,6 @@ impl Position {
         requires { ⌜ Fit (now sheet) (now setup) ⌝ }
         requires { ⌜ view ≡ viewBelow (count (now sheet)) self ⌝ }
         requires { ⌜ o ≡ outlook (now sheet) (now setup) self ⌝ }
-        requires { ⌜ party < 2 ⌝ }
         ensures { λ r. ⌜ r ≡ canPay (now (sheet .entry)) (now (setup .entry)) self party ⌝ }
     {
         let n = sheet::field::count(sheet);
@@ -157,7 +156,6 @@ impl Position {
         requires { ⌜ Fit (now sheet) (now setup) ⌝ }
         requires { ⌜ view ≡ viewBelow (count (now sheet)) self ⌝ }
         requires { ⌜ o ≡ outlook (now sheet) (now setup) self ⌝ }
-        requires { ⌜ party < 2 ⌝ }
         requires { ⌜ t < count (now sheet) ⌝ }
         ensures { λ r. ⌜ r ≡ not (payingFirst (now (sheet .entry)) (now (setup .entry)) self party t) ⌝ }
     {
@@ -174,7 +172,6 @@ impl Position {
     pub fn may_send(self, sheet: &[u8], setup: &[u8], view: View, party: u8, t: usize) -> bool
         requires { ⌜ Fit (now sheet) (now setup) ⌝ }
         requires { ⌜ view ≡ viewBelow (count (now sheet)) self ⌝ }
-        requires { ⌜ party < 2 ⌝ }
         requires { ⌜ t < count (now sheet) ⌝ }
         ensures { λ r. ⌜ r ≡ (sendAllowed (now (sheet .entry)) (now (setup .entry)) self party t && payingFirst (now (sheet .entry)) (now (setup .entry)) self party t) ⌝ }
     {

@@ -23,8 +23,7 @@ const NOTHING: u8 = 0;
 fn shared_slot(sheet: &[u8], held: u8, party: u8, t: usize, destination: u8, x: Slot) -> Slot
     requires { ⌜ Sized (now sheet) ⌝ }
     requires { ⌜ t < count (now sheet) ⌝ }
-    requires { ⌜ party < 2 ⌝ }
-    requires { ⌜ destination < 3 ⌝ }
+    requires { ⌜ destination < 4 ⌝ }
     ensures { λ r. ⌜ r ≡ withMark party destination (withShared destination (shareMask (now (sheet .entry)) held t) x) ⌝ }
 {
     let mask = signatures::share_mask(sheet, held, t);
@@ -37,18 +36,18 @@ impl Position {
     pub fn keys(self, party: u8) -> u8
         ensures { λ r. ⌜ r ≡ keys self party ⌝ }
     {
-        if party == 0 {
-            return self.alice;
+        let k = sheet::field::wide(party);
+        if k < 6 {
+            return self.keys[k];
         }
-        self.bob
+        0
     }
 
     // A share of one transaction for a destination.
     pub fn share_one(mut self, sheet: &[u8], party: u8, t: usize, destination: u8) -> Position
         requires { ⌜ Sized (now sheet) ⌝ }
         requires { ⌜ t < count (now sheet) ⌝ }
-        requires { ⌜ party < 2 ⌝ }
-        requires { ⌜ destination < 3 ⌝ }
+        requires { ⌜ destination < 4 ⌝ }
         ensures { λ r. ⌜ r ≡ shareOne (now (sheet .entry)) party t destination self ⌝ }
     {
         let x = self.slots[t];
@@ -61,7 +60,6 @@ impl Position {
     fn share_first(mut self, sheet: &[u8], party: u8) -> Position
         requires { ⌜ Sized (now sheet) ⌝ }
         requires { ⌜ 6 < count (now sheet) ⌝ }
-        requires { ⌜ party < 2 ⌝ }
         ensures { λ r. ⌜ r ≡ shareEach (now (sheet .entry)) party (firstShares party) self ⌝ }
     {
         let set = conduct::first_shares(party);
@@ -79,8 +77,7 @@ impl Position {
     // A share: of one transaction, or with 255 of the party's first shares.
     pub fn after_share(self, sheet: &[u8], party: u8, t: u8, destination: u8) -> Position
         requires { ⌜ Sized (now sheet) ⌝ }
-        requires { ⌜ party < 2 ⌝ }
-        requires { ⌜ destination < 3 ⌝ }
+        requires { ⌜ destination < 4 ⌝ }
         requires { ⌜ shareable (now sheet) t ≡ true ⌝ }
         ensures { λ r. ⌜ r ≡ afterShare (now (sheet .entry)) party t destination self ⌝ }
     {
@@ -92,15 +89,13 @@ impl Position {
 
     // A gift of signature i to a receiver.
     pub fn with_key(mut self, party: u8, i: u8) -> Position
-        requires { ⌜ party < 2 ⌝ }
+        requires { ⌜ party < 4 ⌝ }
         requires { ⌜ i < 8 ⌝ }
         ensures { λ r. ⌜ r ≡ withKey party i self ⌝ }
     {
-        if party == 0 {
-            self.alice = self.alice | (1u8 << i);
-            return self;
-        }
-        self.bob = self.bob | (1u8 << i);
+        let k = sheet::field::wide(party);
+        let held = self.keys(party) | (1u8 << i);
+        self.keys[k] = held;
         self
     }
 
@@ -108,7 +103,7 @@ impl Position {
     pub fn after_send(mut self, sheet: &[u8], t: usize, destination: u8) -> Position
         requires { ⌜ Sized (now sheet) ⌝ }
         requires { ⌜ t < count (now sheet) ⌝ }
-        requires { ⌜ destination < 3 ⌝ }
+        requires { ⌜ destination < 4 ⌝ }
         ensures { λ r. ⌜ r ≡ afterSend (now (sheet .entry)) t destination self ⌝ }
     {
         let x = self.slots[t];
@@ -120,7 +115,7 @@ impl Position {
     // A hand-in: it enters the block, and nothing is shared.
     pub fn after_hand_in(mut self, t: usize, destination: u8) -> Position
         requires { ⌜ t < 32 ⌝ }
-        requires { ⌜ destination < 3 ⌝ }
+        requires { ⌜ destination < 4 ⌝ }
         ensures { λ r. ⌜ r ≡ afterHandIn t destination self ⌝ }
     {
         let x = self.slots[t];

@@ -6,22 +6,12 @@ use steps::View;
 ghost use Prim.Native.Nat.{_+_, _≤_};
 ghost use mathlib.Core.Path.{_≡_};
 ghost use lib.ListN.{length};
-ghost use Rattle.sheet.specs.Field.{byte, count};
+ghost use Rattle.sheet.specs.Field.{count};
 ghost use Rattle.sheet.specs.Checked.{Fit};
 ghost use Rattle.position.specs.Forms.View.{viewBelow};
 ghost use Rattle.position.specs.Forms.Journal.{stepAt};
 ghost use Rattle.position.specs.Play.{step};
 ghost use Rattle.position.specs.Position.{start};
-
-// The byte at place i, 0 past the end.
-fn byte_or_zero(bytes: &[u8], i: usize) -> u8
-    ensures { λ r. ⌜ r ≡ byte (now (bytes .entry)) i ⌝ }
-{
-    if i < bytes.len() {
-        return bytes[i];
-    }
-    0
-}
 
 // The empty journal's position: the masks held at the start, and nothing else.
 pub fn start(sheet: &[u8]) -> Position
@@ -33,16 +23,20 @@ pub fn start(sheet: &[u8]) -> Position
         confirmed: 0,
         madea: 0,
         madeb: 0,
+        madec: 0,
         alice: 0,
         bob: 0,
+        carol: 0,
         contract: 0,
         height: 0,
     };
+    let alice = sheet::field::start_keys(sheet, 0);
+    let bob = sheet::field::start_keys(sheet, 1);
+    let carol = sheet::field::start_keys(sheet, 3);
     Position {
         slots: [empty; 32],
         mined: 0,
-        alice: byte_or_zero(sheet, 3),
-        bob: byte_or_zero(sheet, 4),
+        keys: [alice, bob, 0, carol, 0, 0],
     }
 }
 

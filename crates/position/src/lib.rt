@@ -19,13 +19,12 @@ use slots::Slot;
 use steps::View;
 
 // "A position holds, for each of 32 transactions, its pool entry, block entry, confirmation and shared knowledge; beside these the
-// blocks mined, each party's keys held and the shares it has made." 324 bytes, without padding.
+// blocks mined, each party's keys held and the shares it has made." 392 bytes, without padding.
 pub struct Position {
     pub slots: [Slot; 32],
     pub mined: u16,
-    // keys held
-    pub alice: u8,
-    pub bob: u8,
+    // keys held, by party number; six bytes, so that no record that holds a position is padded
+    pub keys: [u8; 6],
 }
 
 // A step's refusal number and the position after it, whole, accepted or not.
@@ -48,14 +47,14 @@ impl Position {
         ensures { λ r. ⌜ r ≡ viewBelow (count (now (sheet .entry))) self ⌝ }
     {
         let n = sheet::field::count(sheet);
+        let keys = self.keys;
         let mut v = View {
             pool: 0,
             block: 0,
             confirmed: 0,
             mined: self.mined,
             shared: 0,
-            alice: self.alice,
-            bob: self.bob,
+            keys,
         };
         let mut k: usize = 0;
         while k < n {

@@ -21,7 +21,7 @@ impl Position {
     fn share_met(self, sheet: &[u8], party: u8, t: u8, destination: u8) -> bool
         requires { ⌜ Sized (now sheet) ⌝ }
         requires { ⌜ shareable (now sheet) t ≡ true ⌝ }
-        requires { ⌜ destination < 3 ⌝ }
+        requires { ⌜ destination < 4 ⌝ }
         ensures { λ r. ⌜ r ≡ shareMet (now (sheet .entry)) self party t destination ⌝ }
     {
         if t == 255 {
@@ -45,7 +45,7 @@ impl Position {
         requires { ⌜ Fit (now sheet) (now setup) ⌝ }
         requires { ⌜ view ≡ viewBelow (count (now sheet)) self ⌝ }
         requires { ⌜ shareable (now sheet) t ≡ true ⌝ }
-        requires { ⌜ destination < 3 ⌝ }
+        requires { ⌜ destination < 4 ⌝ }
         ensures { λ r. ⌜ r ≡ firstFailing (shareTests (isOpen (now (setup .entry)) || mayShare (now (sheet .entry)) (now (setup .entry)) self party t) (now (sheet .entry)) self party t destination) ⌝ }
     {
         let o = self.outlook(sheet, setup, view);
@@ -87,7 +87,6 @@ impl Position {
     ) -> u32
         requires { ⌜ Fit (now sheet) (now setup) ⌝ }
         requires { ⌜ view ≡ viewBelow (count (now sheet)) self ⌝ }
-        requires { ⌜ party < 2 ⌝ }
         requires { ⌜ t < count (now sheet) ⌝ }
         ensures { λ r. ⌜ r ≡ firstFailing (poolTests (sendAllowed (now (sheet .entry)) (now (setup .entry)) self party t && payingFirst (now (sheet .entry)) (now (setup .entry)) self party t) (now (sheet .entry)) (now (setup .entry)) self party t destination) ⌝ }
     {
@@ -109,7 +108,6 @@ impl Position {
     ) -> u32
         requires { ⌜ Fit (now sheet) (now setup) ⌝ }
         requires { ⌜ view ≡ viewBelow (count (now sheet)) self ⌝ }
-        requires { ⌜ party < 2 ⌝ }
         requires { ⌜ t < count (now sheet) ⌝ }
         ensures { λ r. ⌜ r ≡ firstFailing (minerTests (sendAllowed (now (sheet .entry)) (now (setup .entry)) self party t && payingFirst (now (sheet .entry)) (now (setup .entry)) self party t) (now (sheet .entry)) (now (setup .entry)) self party t destination) ⌝ }
     {

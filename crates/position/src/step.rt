@@ -14,7 +14,6 @@ ghost use mathlib.Core.Bool.{true};
 ghost use Rattle.sheet.specs.Field.{count};
 ghost use Rattle.sheet.specs.Checked.{Fit};
 ghost use Rattle.slots.specs.declared.Step.the-variants.{Share, Give, SendToPool, HandToMiner, Include, Mine, Bump};
-ghost use Rattle.slots.specs.Destination.{destinationNumber};
 ghost use Rattle.steps.specs.Decode.{fieldsRight};
 ghost use Rattle.position.specs.Forms.FirstShares.{shareable};
 ghost use Rattle.position.specs.Play.{takeStep, step};
@@ -33,7 +32,6 @@ impl Position {
     ) -> Stepped
         requires { ⌜ Fit (now sheet) (now setup) ⌝ }
         requires { ⌜ view ≡ viewBelow (count (now sheet)) self ⌝ }
-        requires { ⌜ party < 2 ⌝ }
         requires { ⌜ shareable (now sheet) t ≡ true ⌝ }
         ensures { λ r. ⌜ r ≡ takeStep (now (sheet .entry)) (now (setup .entry)) self (Share party t to) ⌝ }
     {
@@ -65,7 +63,6 @@ impl Position {
         requires { ⌜ Fit (now sheet) (now setup) ⌝ }
         requires { ⌜ view ≡ viewBelow (count (now sheet)) self ⌝ }
         requires { ⌜ i < 8 ⌝ }
-        requires { ⌜ destinationNumber to < 2 ⌝ }
         ensures { λ r. ⌜ r ≡ takeStep (now (sheet .entry)) (now (setup .entry)) self (Give party i to) ⌝ }
     {
         let receiver = party::destination_number(to);
@@ -95,7 +92,6 @@ impl Position {
     ) -> Stepped
         requires { ⌜ Fit (now sheet) (now setup) ⌝ }
         requires { ⌜ view ≡ viewBelow (count (now sheet)) self ⌝ }
-        requires { ⌜ party < 2 ⌝ }
         requires { ⌜ t < count (now sheet) ⌝ }
         ensures { λ r. ⌜ r ≡ takeStep (now (sheet .entry)) (now (setup .entry)) self (SendToPool party t to) ⌝ }
     {
@@ -127,7 +123,6 @@ impl Position {
     ) -> Stepped
         requires { ⌜ Fit (now sheet) (now setup) ⌝ }
         requires { ⌜ view ≡ viewBelow (count (now sheet)) self ⌝ }
-        requires { ⌜ party < 2 ⌝ }
         requires { ⌜ t < count (now sheet) ⌝ }
         ensures { λ r. ⌜ r ≡ takeStep (now (sheet .entry)) (now (setup .entry)) self (HandToMiner party t to) ⌝ }
     {

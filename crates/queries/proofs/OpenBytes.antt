@@ -7,24 +7,26 @@ use mathlib.Core.Bool.{Bool, true, false}
 use mathlib.Core.List.{List, [], _∷_, _++_, flatMap, append-assoc, append-nil}
 use lib.Dec.{eqb}
 use lib.ListN.{length, getD, replicate, length-append}
-use Rattle.laws.specs.Booleans.{split}
+use Rattle.laws.specs.Booleans.{split, clash, and-parts}
 use Rattle.laws.specs.Each.{rewritten}
-use Rattle.laws.specs.Gather.{gather}
+use Rattle.laws.specs.Gather.{gather, gather-empty}
 use Rattle.laws.specs.Mask.{bit}
 use Rattle.laws.specs.Sets.{setBelow, set-bit}
 use Rattle.sheet.specs.Refusal.{accepted}
 use Rattle.slots.specs.declared.Step.{Step}
 use Rattle.slots.specs.declared.Step.the-variants.{Share, Give, SendToPool, HandToMiner, Include, Mine, Bump}
-use Rattle.slots.specs.Destination.{alice, bob, miner, destinations}
+use Rattle.slots.specs.Destination.{alice, bob, carol, miner, destinations}
+use Rattle.sheet.specs.Field.{parties, partyAt, isParty}
+use Rattle.sheet.proofs.Parties.{parties-two, no-third}
 use Rattle.steps.specs.declared.Decoded.{Decoded}
 use Rattle.steps.specs.declared.Decoded.the-variants.{Read, Refused}
-use Rattle.steps.specs.Decode.{noTransaction, decode, stepBytes}
-use Rattle.output.specs.Forms.Emitted.{emitted, emittedAt, opensBelow, opensLast, belowBytes, lastBytes, kindBytes, actorBytes}
+use Rattle.steps.specs.Decode.{noTransaction, fieldsRight, decode, stepBytes}
+use Rattle.output.specs.Forms.Emitted.{emitted, emittedAt, opensBelow, opensLast, belowBytes, lastBytes, kindBytes, actorBytes, places}
 use Rattle.position.specs.declared.Position.{Position}
 use Rattle.position.specs.Position.{slotCount}
 use Rattle.position.specs.StepRefusal.{stepRefusal}
-use Rattle.position.specs.Open.{actors, kinds, ifAccepted, openAt, openOf, actorSteps, openSteps, listBytes}
-use Rattle.queries.specs.Forms.OpenSets.{isOpenRead, isOpenStep, Opens, openSet, places, belowSets, lastSet}
+use Rattle.position.specs.Open.{actorAt, kinds, ifAccepted, openAt, openOf, actorSteps, openSteps, listBytes}
+use Rattle.queries.specs.Forms.OpenSets.{isOpenRead, isOpenStep, Opens, openSet, belowSets, lastSet}
 use Rattle.position.proofs.Decoding.{decodes}
 
 -- ---- lists of lists
@@ -118,31 +120,68 @@ module _ (s u : List ℕ) (p : Position) where
         flat-gather stepBytes kinds (λ k. openOf s u p actor (k + 1))
         ∙ gather-same kinds (λ k. flatMap stepBytes (openOf s u p actor (k + 1))) (kindBytes below last actor) kind-bytes
 
-  -- ---- the whole list: Alice's, Bob's, the miner's
-  pub list-bytes : (b₀ b₁ b₂ : List ℕ) (l₀ l₁ l₂ : ℕ) → Opens s u p alice b₀ l₀ → Opens s u p bob b₁ l₁ → Opens s u p miner b₂ l₂
-      → listBytes s u p ≡ actorBytes b₀ l₀ alice ++ (actorBytes b₁ l₁ bob ++ actorBytes b₂ l₂ miner)
-  unfolding listBytes openSteps actors flatMap
-  list-bytes b₀ b₁ b₂ l₀ l₁ l₂ o₀ o₁ o₂ =
-      flat-append stepBytes (actorSteps s u p alice) (actorSteps s u p bob ++ (actorSteps s u p miner ++ []))
+  -- ---- the whole list: the parties', by place, then the miner's. A number that is no party's has no open step, so Carol's part is there on every sheet
+  module _ (a : ℕ) (h : isParty s a ≡ false) (m : eqb a miner ≡ false) where
+    never : (y : Step) (k t d : ℕ) → stepBytes y ≡ k ∷ a ∷ t ∷ d ∷ [] → fieldsRight s u y ≡ true → ⊥
+    unfolding stepBytes fieldsRight
+    never (Share b i to) k t d e f = let q : b ≡ a = ap (λ l. getD l 1 0) e in clash (and-parts (isParty s b) _ f .0) (rw q h)
+    never (Give b i to) k t d e f = let q : b ≡ a = ap (λ l. getD l 1 0) e in clash (and-parts (isParty s b) _ f .0) (rw q h)
+    never (SendToPool b i to) k t d e f = let q : b ≡ a = ap (λ l. getD l 1 0) e in clash (and-parts (isParty s b) _ f .0) (rw q h)
+    never (HandToMiner b i to) k t d e f = let q : b ≡ a = ap (λ l. getD l 1 0) e in clash (and-parts (isParty s b) _ f .0) (rw q h)
+    never (Include b i to) k t d e f = let q : b ≡ a = ap (λ l. getD l 1 0) e in clash (and-parts (eqb b miner) _ f .0) (rw q m)
+    never (Mine b i to) k t d e f = let q : b ≡ a = ap (λ l. getD l 1 0) e in clash (and-parts (eqb b miner) _ f .0) (rw q m)
+    never (Bump b i to) k t d e f = let q : b ≡ a = ap (λ l. getD l 1 0) e in clash (and-parts (eqb b miner) _ f .0) (rw q m)
+
+    none-read : (k t d : ℕ) (y : Decoded) → decode s u k a t d ≡ y → ifAccepted s u p y ≡ []
+    unfolding ifAccepted
+    none-read k t d (Read x) e = let w = decodes s u k a t d x e in absurd (never x k t d (w .bytes) (w .fields))
+    none-read k t d Refused e = refl
+
+    none-at : (k t : ℕ) → openAt s u p a k t ≡ []
+    unfolding openAt
+    none-at k t = gather-empty (λ d. ifAccepted s u p (decode s u k a t d)) destinations (λ d. none-read k t d (decode s u k a t d) refl)
+
+    none-of : (k : ℕ) → openOf s u p a k ≡ []
+    unfolding openOf
+    none-of k = rw (gather-empty (openAt s u p a k) slotCount (none-at k), none-at k noTransaction)
+
+    no-steps : actorSteps s u p a ≡ []
+    unfolding actorSteps
+    no-steps = gather-empty (λ k. openOf s u p a (k + 1)) kinds (λ k. none-of (k + 1))
+
+  two-actors : parties s ≡ 2 → actorSteps s u p carol ≡ [] → openSteps s u p ≡ actorSteps s u p alice ++ (actorSteps s u p bob ++ (actorSteps s u p carol ++ actorSteps s u p miner))
+  unfolding openSteps actorAt partyAt gather
+  two-actors e n = rw (e, n) (append-assoc (actorSteps s u p alice) (actorSteps s u p bob) (actorSteps s u p miner))
+
+  pub by-actors : openSteps s u p ≡ actorSteps s u p alice ++ (actorSteps s u p bob ++ (actorSteps s u p carol ++ actorSteps s u p miner))
+  by-actors = two-actors (parties-two s) (no-steps carol (no-third s) refl)
+
+  pub list-bytes : (b₀ b₁ b₂ b₃ : List ℕ) (l₀ l₁ l₂ l₃ : ℕ) → Opens s u p alice b₀ l₀ → Opens s u p bob b₁ l₁ → Opens s u p carol b₂ l₂ → Opens s u p miner b₃ l₃
+      → listBytes s u p ≡ actorBytes b₀ l₀ alice ++ (actorBytes b₁ l₁ bob ++ (actorBytes b₂ l₂ carol ++ actorBytes b₃ l₃ miner))
+  unfolding listBytes
+  list-bytes b₀ b₁ b₂ b₃ l₀ l₁ l₂ l₃ o₀ o₁ o₂ o₃ =
+      ap (flatMap stepBytes) by-actors
+      ∙ flat-append stepBytes (actorSteps s u p alice) (actorSteps s u p bob ++ (actorSteps s u p carol ++ actorSteps s u p miner))
       ∙ ap₂ _++_ (actor-bytes alice b₀ l₀ o₀)
-      (flat-append stepBytes (actorSteps s u p bob) (actorSteps s u p miner ++ [])
+      (flat-append stepBytes (actorSteps s u p bob) (actorSteps s u p carol ++ actorSteps s u p miner)
       ∙ ap₂ _++_ (actor-bytes bob b₁ l₁ o₁)
-      (ap (flatMap stepBytes) (append-nil (actorSteps s u p miner)) ∙ actor-bytes miner b₂ l₂ o₂))
+      (flat-append stepBytes (actorSteps s u p carol) (actorSteps s u p miner)
+      ∙ ap₂ _++_ (actor-bytes carol b₂ l₂ o₂) (actor-bytes miner b₃ l₃ o₃)))
 
 -- ---- the sets by place
 module _ (s u : List ℕ) (p : Position) (actor : ℕ) where
-  -- kind k + 1 and destination d at place 3 * k + d
+  -- kind k + 1 and destination d at place `placeOf k d`
   pub sets-open : Opens s u p actor (belowSets s u p actor) (lastSet s u p actor)
   unfolding belowSets openSet lastSet
   sets-open =
       record {
         lower = λ k d t l h m.
-            let q : (3 * k + d) / 3 ≡ k = omega arith in
-            let r : (3 * k + d) % 3 ≡ d = omega arith in
-            rw (rewritten places (λ i x. openSet s u p actor (i / 3 + 1) (i % 3)) (replicate places 0) (3 * k + d) 0 (omega arith) (omega arith), q, r)
+            let q : (4 * k + d) / 4 ≡ k = omega arith in
+            let r : (4 * k + d) % 4 ≡ d = omega arith in
+            rw (rewritten places (λ i x. openSet s u p actor (i / 4 + 1) (i % 4)) (replicate places 0) (4 * k + d) 0 (omega arith) (omega arith), q, r)
             (set-bit slotCount (λ i. isOpenStep s u p (k + 1) actor i d) (omega arith) t m);
         top = λ k d l h.
-            let q : (3 * k + d) / 3 ≡ k = omega arith in
-            let r : (3 * k + d) % 3 ≡ d = omega arith in
-            set-bit places (λ i. isOpenStep s u p (i / 3 + 1) actor noTransaction (i % 3)) (omega arith) (3 * k + d) (omega arith) ∙ rw (q, r);
+            let q : (4 * k + d) / 4 ≡ k = omega arith in
+            let r : (4 * k + d) % 4 ≡ d = omega arith in
+            set-bit places (λ i. isOpenStep s u p (i / 4 + 1) actor noTransaction (i % 4)) (omega arith) (4 * k + d) (omega arith) ∙ rw (q, r);
       }

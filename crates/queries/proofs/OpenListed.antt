@@ -1,22 +1,23 @@
 -- An open step by its numbers: what its fields ask for and the tests of its kind.
 -- Assumes nothing.
-use Prim.Native.Nat.{ℕ, _-_, _<_}
+use Prim.Native.Nat.{ℕ, _<_}
 use native.Mathlib.Omega.{arith}
 use mathlib.Core.Path.{_≡_, refl, sym, _∙_}
 use mathlib.Core.Bool.{true, false, _&&_, _||_, or-false, and-false}
 use mathlib.Core.List.{List}
 use lib.Dec.{eqb, ltb, leb}
-use borrow.Author.Tests.{eqb-true, eqb-false, ne-eqb, ltb-true, lt-ltb, le-ltb}
+use borrow.Author.Tests.{eqb-true, eqb-false, ne-eqb, lt-ltb}
 use Rattle.laws.specs.Booleans.{split, clash, and-parts}
 use Rattle.laws.specs.Bits.{no-bit}
-use Rattle.sheet.specs.Field.{count, signatures, parent, payees}
+use Rattle.sheet.specs.Field.{count, signatures, place, parent, payees}
+use Rattle.sheet.proofs.Parties.{party-not-miner, party-miner}
 use Rattle.sheet.specs.Refusal.{accepted}
 use Rattle.slots.specs.declared.Slot.{Slot}
 use Rattle.slots.specs.declared.Destination.{Destination}
-use Rattle.slots.specs.declared.Destination.the-variants.{Alice, Bob, Contract}
+use Rattle.slots.specs.declared.Destination.the-variants.{Alice, Bob, Contract, Carol}
 use Rattle.slots.specs.declared.Step.{Step}
 use Rattle.slots.specs.declared.Step.the-variants.{Share, Give, SendToPool, HandToMiner, Include, Bump}
-use Rattle.slots.specs.Destination.{miner, contract, destinationNumber, isParty, isPayee, isContract}
+use Rattle.slots.specs.Destination.{miner, contract, destinations, destinationNumber, isParty, isPayee, isContract}
 use Rattle.steps.specs.declared.Decoded.the-variants.{Read}
 use Rattle.steps.specs.Decode.{noTransaction, sendsTo, sharesTo, isOther, firstShareFields, fieldsRight, ofKind, spelled, rangeChecked, decode}
 use Rattle.readings.specs.declared.Sight.{Sight}
@@ -27,37 +28,33 @@ use Rattle.sheet.specs.Checked.{Fit}
 use Rattle.queries.specs.Forms.OpenSets.{isOpenStep, sightOf}
 use Rattle.queries.proofs.OpenSteps.{open-seen}
 
--- ---- parties by number
-party-few : (a : ℕ) → isParty a ≡ true → a < 2
-unfolding isParty
-party-few a h = ltb-true a 2 h
-
-few-party : (a : ℕ) → a < 2 → isParty a ≡ true
-unfolding isParty
-few-party a l = lt-ltb a 2 l
-
 -- ---- where a transaction may go
 module _ (s : List ℕ) (t d : ℕ) where
   -- a contract transaction has no payee
   no-payee : (party : ℕ) → isContract s t ≡ true → isPayee s t party ≡ false
   unfolding isContract isPayee
-  no-payee party h = rw (eqb-true (payees s t) 0 h) (no-bit party)
+  no-payee party h = rw (eqb-true (payees s t) 0 h, no-bit (place party)) (and-false (isParty s party))
 
-  pub shares-goes : d < 3 → sharesTo s t d ≡ goesTo s t d
-  unfolding sharesTo goesTo isParty
-  shares-goes l =
+  -- a payee is a party
+  payee-party : (party : ℕ) → (isParty s party && isPayee s t party) ≡ isPayee s t party
+  unfolding isPayee
+  payee-party party = split (isParty s party) (λ y. rw y) (λ y. rw y)
+
+  pub shares-goes : sharesTo s t d ≡ goesTo s t d
+  unfolding sharesTo goesTo
+  shares-goes =
       split (eqb d contract)
-      (λ e. let z : ltb d 2 ≡ false = le-ltb d 2 (omega (arith, eqb-true d contract e)) in split (isContract s t) (λ c. rw (e, c)) (λ c. rw (e, c, z)))
       (λ e.
-      let z : ltb d 2 ≡ true = lt-ltb d 2 (omega (arith, eqb-false d contract e, l)) in
-      split (isContract s t) (λ c. rw (e, c, no-payee d c)) (λ c. rw (e, c, z)))
+      let z : isParty s d ≡ false = rw (eqb-true d contract e) (party-miner s) in
+      split (isContract s t) (λ c. rw (e, c)) (λ c. rw (e, c, z)))
+      (λ e. split (isContract s t) (λ c. rw (e, c, no-payee d c)) (λ c. rw (e, c, payee-party d)))
 
-  pub sends-goes : (party : ℕ) → isParty party ≡ true → (eqb d contract || eqb d party) ≡ true → sendsTo s party t d ≡ goesTo s t d
-  unfolding sendsTo goesTo isParty
+  pub sends-goes : (party : ℕ) → isParty s party ≡ true → (eqb d contract || eqb d party) ≡ true → sendsTo s party t d ≡ goesTo s t d
+  unfolding sendsTo goesTo
   sends-goes party h o =
       split (eqb d contract)
       (λ e.
-      let z : eqb d party ≡ false = ne-eqb d party (λ q. omega (arith, q, eqb-true d contract e, ltb-true party 2 h)) in
+      let z : eqb d party ≡ false = ne-eqb d party (λ q. eqb-false party miner (party-not-miner s party h) (sym q ∙ eqb-true d contract e)) in
       split (isContract s t) (λ c. rw (e, c)) (λ c. rw (e, c, z)))
       (λ e.
       let y : eqb d party ≡ true = rw e at o in
@@ -65,12 +62,18 @@ module _ (s : List ℕ) (t d : ℕ) where
       split (isContract s t) (λ c. rw (e, c, no-payee d c)) (λ c. rw (e, c, y, q)))
 
 -- the destination with a number
-pub destination-at : (d : ℕ) → d < 3 → (to : Destination) × (destinationNumber to ≡ d)
+pub destination-at : (d : ℕ) → d < destinations → (to : Destination) × (destinationNumber to ≡ d)
 unfolding destinationNumber
 destination-at d l =
     split (eqb d 0)
     (λ e. (Alice, sym (eqb-true d 0 e)))
-    (λ e. split (eqb d 1) (λ f. (Bob, sym (eqb-true d 1 f))) (λ f. (Contract, omega (arith, l, eqb-false d 0 e, eqb-false d 1 f))))
+    (λ e.
+    split (eqb d 1)
+    (λ f. (Bob, sym (eqb-true d 1 f)))
+    (λ f.
+    split (eqb d 2)
+    (λ g. (Contract, sym (eqb-true d 2 g)))
+    (λ g. (Carol, omega (arith, l, eqb-false d 0 e, eqb-false d 1 f, eqb-false d 2 g)))))
 
 -- ---- a step of a kind: right fields, and no test fails
 module _ (s u : List ℕ) (p : Position) (fit : Fit s u) (a t : ℕ) (x : Slot) (since : ℕ) where
@@ -79,6 +82,7 @@ module _ (s u : List ℕ) (p : Position) (fit : Fit s u) (a t : ℕ) (x : Slot) 
   spelled-to k Alice = refl
   spelled-to k Bob = refl
   spelled-to k Contract = refl
+  spelled-to k Carol = refl
 
   checked-open : (g : Sight) (y : Step) → isOpenIn s u g x since (rangeChecked s u (Read y)) ≡ (fieldsRight s u y && eqb (refusalIn s u g x since y) accepted)
   unfolding rangeChecked isOpenIn
@@ -93,31 +97,27 @@ module _ (s u : List ℕ) (p : Position) (fit : Fit s u) (a t : ℕ) (x : Slot) 
       ∙ rw (spelled-to k to, e) (checked-open (sightOf s u p a) y)
 
   -- kind 2
-  pub give-open : (d : ℕ) → d < 3 → isParty a ≡ true → eqb d (1 - a) ≡ true → t < signatures s → isOpenStep s u p 2 a t d ≡ givesIn (sightOf s u p a) a t d
-  unfolding givesIn refusalIn fieldsRight isOther ofKind
+  pub give-open : (d : ℕ) → d < destinations → isParty s a ≡ true → isOther s a d ≡ true → t < signatures s → isOpenStep s u p 2 a t d ≡ givesIn (sightOf s u p a) a t d
+  unfolding givesIn refusalIn fieldsRight ofKind
   give-open d l h o i =
       let w = destination-at d l in
       let q : destinationNumber (w .0) ≡ d = w .1 in
-      let e : d ≡ 1 - a = eqb-true d (1 - a) o in
-      let b : a < 2 = party-few a h in
-      let y : isParty d ≡ true = few-party d (omega (arith, e, b)) in
-      let z : eqb d a ≡ false = ne-eqb d a (λ r. omega (arith, r, e, b)) in
-      rw (q, h, lt-ltb t (signatures s) i, y, z) at (kind-open 2 (w .0) (Give a t (w .0)) (λ r. absurd (r refl)) refl)
+      rw (q, h, lt-ltb t (signatures s) i, o) at (kind-open 2 (w .0) (Give a t (w .0)) (λ r. absurd (r refl)) refl)
 
   -- the others but 6, on a transaction of the sheet
   module _ (place : t < count s → (x ≡ slot p t) × (since ≡ blockOf p (parent s t))) (low : t < count s) where
     not-last : eqb t noTransaction ≡ false
     not-last = ne-eqb t noTransaction (λ e. omega (arith, e, low, fit .checked .sized .few))
 
-    share-open : (d : ℕ) → d < 3 → isParty a ≡ true → isOpenStep s u p 1 a t d ≡ (goesTo s t d && eqb (refusalAs s u (sightOf s u p a) x since 1 a t d) accepted)
+    share-open : (d : ℕ) → d < destinations → isParty s a ≡ true → isOpenStep s u p 1 a t d ≡ (goesTo s t d && eqb (refusalAs s u (sightOf s u p a) x since 1 a t d) accepted)
     unfolding refusalAs refusalIn shareNewIn fieldsRight firstShareFields ofKind
     share-open d l h =
         let w = destination-at d l in
         let q : destinationNumber (w .0) ≡ d = w .1 in
-        rw (q, h, lt-ltb t (count s) low, not-last, or-false (sharesTo s t d), shares-goes s t d l)
+        rw (q, h, lt-ltb t (count s) low, not-last, or-false (sharesTo s t d), shares-goes s t d)
         at (kind-open 1 (w .0) (Share a t (w .0)) (λ r. place) refl)
 
-    module _ (d : ℕ) (l : d < 3) (h : isParty a ≡ true) (o : (eqb d contract || eqb d a) ≡ true) where
+    module _ (d : ℕ) (l : d < destinations) (h : isParty s a ≡ true) (o : (eqb d contract || eqb d a) ≡ true) where
       pool-open : isOpenStep s u p 3 a t d ≡ (goesTo s t d && eqb (refusalAs s u (sightOf s u p a) x since 3 a t d) accepted)
       unfolding refusalAs refusalIn fieldsRight ofKind
       pool-open =
@@ -142,11 +142,11 @@ module _ (s u : List ℕ) (p : Position) (fit : Fit s u) (a t : ℕ) (x : Slot) 
       bump-open = rw (h, lt-ltb t (count s) low) at (kind-open 7 Contract (Bump a t Contract) (λ r. place) refl)
 
     -- where some step of the kind may stand
-    pub listed-open : (k d : ℕ) → d < 3 → mayStand k a d ≡ true → (k ≡ 2 → ⊥)
+    pub listed-open : (k d : ℕ) → d < destinations → mayStand s k a d ≡ true → (k ≡ 2 → ⊥)
         → isOpenStep s u p k a t d ≡ ((leb 5 k || goesTo s t d) && eqb (refusalAs s u (sightOf s u p a) x since k a t d) accepted)
     unfolding mayStand partyMay
     listed-open k d l m other =
-        split (isParty a)
+        split (isParty s a)
         (λ h.
         split (eqb k 1)
         (λ e. rw (eqb-true k 1 e) (share-open d l h))
@@ -165,10 +165,10 @@ module _ (s u : List ℕ) (p : Position) (fit : Fit s u) (a t : ℕ) (x : Slot) 
         (λ q. rw (eqb-true k 5 q, eqb-true d contract (v .1)) (include-open (w .0)))
         (λ q. let z : eqb k 7 ≡ true = rw q at (v .0) in rw (eqb-true k 7 z, eqb-true d contract (v .1)) (bump-open (w .0))))
 
--- a give that may stand is one to the other party
-pub give-stands : (a d : ℕ) → mayStand 2 a d ≡ true → (isParty a ≡ true) × (eqb d (1 - a) ≡ true)
+-- a give that may stand is one to another party
+pub give-stands : (s : List ℕ) (a d : ℕ) → mayStand s 2 a d ≡ true → (isParty s a ≡ true) × (isOther s a d ≡ true)
 unfolding mayStand partyMay
-give-stands a d m =
-    split (isParty a)
+give-stands s a d m =
+    split (isParty s a)
     (λ h. (h, rw h at m))
     (λ h. let z : (eqb a miner && false) ≡ true = rw h at m in clash z (and-false (eqb a miner)))

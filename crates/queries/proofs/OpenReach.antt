@@ -1,6 +1,6 @@
 -- Which transaction bytes an actor's steps of a kind and a destination can have, and the sets of the open ones.
 -- Assumes nothing.
-use Prim.Native.Nat.{ℕ, zero, suc, _+_, _-_, _*_, _/_, _%_, _≤_, _<_}
+use Prim.Native.Nat.{ℕ, zero, suc, _+_, _*_, _/_, _%_, _≤_, _<_}
 use native.Mathlib.Nat.{eq-or-lt-of-le, le-of-suc-le-suc}
 use native.Mathlib.Omega.{arith}
 use mathlib.Core.Path.{_≡_, refl, sym, ap, _∙_}
@@ -12,29 +12,30 @@ use borrow.Author.Tests.{eqb-true, eqb-false, eq-eqb, ne-eqb, ltb-true, lt-ltb, 
 use Rattle.laws.specs.Booleans.{split, either, clash, and-parts, or-parts, or-right}
 use Rattle.laws.specs.Sets.{joined, setBelow}
 use Rattle.sheet.specs.Field.{count, signatures, parent}
+use Rattle.sheet.proofs.Parties.{party-miner}
 use Rattle.sheet.specs.Setup.{conduct}
 use Rattle.slots.specs.declared.Destination.the-variants.{Contract}
 use Rattle.slots.specs.declared.Step.{Step}
 use Rattle.slots.specs.declared.Step.the-variants.{Share, Give, SendToPool, HandToMiner, Include, Mine, Bump}
 use Rattle.slots.specs.Slot.{emptySlot}
-use Rattle.slots.specs.Destination.{miner, contract, destinationNumber, isParty, isContract}
+use Rattle.slots.specs.Destination.{miner, contract, destinations, destinationNumber, isParty, isContract}
 use Rattle.steps.specs.declared.Decoded.{Decoded}
 use Rattle.steps.specs.declared.Decoded.the-variants.{Read, Refused}
 use Rattle.readings.specs.declared.Sight.{Sight}
 use Rattle.steps.specs.Decode.{noTransaction, sendsTo, sharesTo, isOther, firstShareFields, fieldsRight, ofKind, decode, stepBytes}
 use Rattle.readings.specs.Forms.Sight.{shareNewIn, refusalIn, partyMay, mayStand, limit, givesIn, sharesFirst, minesIn, lastIn}
 use Rattle.steps.proofs.RightFields.{share-listed, give-listed, pool-listed, miner-listed, include-listed, bump-listed}
+use Rattle.output.specs.Forms.Emitted.{places}
 use Rattle.queries.specs.declared.OpenSets.{OpenSets}
 use Rattle.position.specs.declared.Position.{Position}
 use Rattle.position.specs.Position.{slotCount, slot, blockOf}
 use Rattle.sheet.specs.Checked.{Fit}
-use Rattle.queries.specs.Forms.OpenSets.{isOpenRead, isOpenStep, openSet, places, belowSets, lastSet, openSets, sightOf}
+use Rattle.queries.specs.Forms.OpenSets.{isOpenRead, isOpenStep, openSet, belowSets, lastSet, openSets, sightOf}
 use Rattle.position.proofs.Decoding.{decodes}
 use Rattle.queries.proofs.OpenListed.{kind-open, give-open, give-stands}
 
-no-party : (a : ℕ) → a ≡ 2 → isParty a ≡ false
-unfolding isParty
-no-party a e = le-ltb a 2 (omega (arith, e))
+no-party : (s : List ℕ) (a : ℕ) → a ≡ 2 → isParty s a ≡ false
+no-party s a e = rw e (party-miner s)
 
 -- ---- sets
 
@@ -55,26 +56,18 @@ set-upto (suc m) n f l h =
 
 -- ---- a step with right fields and a transaction byte other than 255
 module _ (s u : List ℕ) (k a t d : ℕ) (low : t < slotCount) where
-  party-reach : (j n : ℕ) → j ≡ k → isParty a ≡ true → partyMay j a d ≡ true → limit s j ≡ n → t < n → (mayStand k a d && ltb t (limit s k)) ≡ true
+  party-reach : (j n : ℕ) → j ≡ k → isParty s a ≡ true → partyMay s j a d ≡ true → limit s j ≡ n → t < n → (mayStand s k a d && ltb t (limit s k)) ≡ true
   unfolding mayStand
   party-reach j n e h f m l = rw (← e, h, f, m) (lt-ltb t n l)
 
   miner-reach : (j : ℕ) → j ≡ k → eqb a miner ≡ true → (eqb j 5 || eqb j 7) ≡ true → eqb d contract ≡ true → limit s j ≡ count s → t < count s
-      → (mayStand k a d && ltb t (limit s k)) ≡ true
-  unfolding mayStand isParty
+      → (mayStand s k a d && ltb t (limit s k)) ≡ true
+  unfolding mayStand
   miner-reach j e h f g m l =
-      let two : a ≡ 2 = eqb-true a miner h in
-      let other : ltb a 2 ≡ false = le-ltb a 2 (omega (arith, two)) in
+      let other : isParty s a ≡ false = no-party s a (eqb-true a miner h) in
       rw (← e, other, h, f, g, m) (lt-ltb t (count s) l)
 
-  -- a gift goes to the other party, what is sent to the contract or the sender
-  other-is : isParty a ≡ true → isOther a d ≡ true → eqb d (1 - a) ≡ true
-  unfolding isOther isParty
-  other-is h o =
-      let w = and-parts (ltb d 2) _ o in
-      let z : d ≡ a → ⊥ = eqb-false d a (not-true (eqb d a) (w .1)) in
-      eq-eqb d (1 - a) (omega (arith, ltb-true a 2 h, ltb-true d 2 (w .0), z))
-
+  -- what is sent goes to the contract or the sender
   sender-is : sendsTo s a t d ≡ true → (eqb d contract || eqb d a) ≡ true
   unfolding sendsTo
   sender-is h =
@@ -82,28 +75,28 @@ module _ (s u : List ℕ) (k a t d : ℕ) (low : t < slotCount) where
       (λ c. let e : eqb d contract ≡ true = rw c at h in rw e)
       (λ c. or-right (eqb d contract) (eqb d a) (and-parts (eqb d a) _ (rw c at h) .0))
 
-  in-reach : (y : Step) → stepBytes y ≡ k ∷ a ∷ t ∷ d ∷ [] → fieldsRight s u y ≡ true → (mayStand k a d && ltb t (limit s k)) ≡ true
+  in-reach : (y : Step) → stepBytes y ≡ k ∷ a ∷ t ∷ d ∷ [] → fieldsRight s u y ≡ true → (mayStand s k a d && ltb t (limit s k)) ≡ true
   unfolding stepBytes fieldsRight limit partyMay
   in-reach (Share b i to) e h =
       let m : b ≡ a = ap (λ l. getD l 1 0) e in
       let n : i ≡ t = ap (λ l. getD l 2 0) e in
       let r : fieldsRight s u (Share a t to) ≡ true = rw (m, n) at h in
-      party-reach 1 (count s) (ap (λ l. getD l 0 0) e) (and-parts (isParty a) _ r .0) refl refl
+      party-reach 1 (count s) (ap (λ l. getD l 0 0) e) (and-parts (isParty s a) _ r .0) refl refl
       (share-listed s u a t to (Share a t to) refl r (λ z. omega (arith, z, low)))
   in-reach (Give b i to) e h =
       let m : b ≡ a = ap (λ l. getD l 1 0) e in
       let n : i ≡ t = ap (λ l. getD l 2 0) e in
       let r : fieldsRight s u (Give a t to) ≡ true = rw (m, n) at h in
       let q : destinationNumber to ≡ d = ap (λ l. getD l 3 0) e in
-      let w = and-parts (isParty a) _ r in
+      let w = and-parts (isParty s a) _ r in
       let v = and-parts (ltb t (signatures s)) _ (w .1) in
-      party-reach 2 (signatures s) (ap (λ l. getD l 0 0) e) (w .0) (other-is (w .0) (rw q at (v .1))) refl (ltb-true t (signatures s) (v .0))
+      party-reach 2 (signatures s) (ap (λ l. getD l 0 0) e) (w .0) (rw q at (v .1)) refl (ltb-true t (signatures s) (v .0))
   in-reach (SendToPool b i to) e h =
       let m : b ≡ a = ap (λ l. getD l 1 0) e in
       let n : i ≡ t = ap (λ l. getD l 2 0) e in
       let r : fieldsRight s u (SendToPool a t to) ≡ true = rw (m, n) at h in
       let q : destinationNumber to ≡ d = ap (λ l. getD l 3 0) e in
-      let w = and-parts (isParty a) _ r in
+      let w = and-parts (isParty s a) _ r in
       let v = and-parts (ltb t (count s)) _ (w .1) in
       party-reach 3 (count s) (ap (λ l. getD l 0 0) e) (w .0) (sender-is (rw q at (v .1))) refl (pool-listed s u a t to (SendToPool a t to) refl r)
   in-reach (HandToMiner b i to) e h =
@@ -111,7 +104,7 @@ module _ (s u : List ℕ) (k a t d : ℕ) (low : t < slotCount) where
       let n : i ≡ t = ap (λ l. getD l 2 0) e in
       let r : fieldsRight s u (HandToMiner a t to) ≡ true = rw (m, n) at h in
       let q : destinationNumber to ≡ d = ap (λ l. getD l 3 0) e in
-      let w = and-parts (isParty a) _ r in
+      let w = and-parts (isParty s a) _ r in
       let v = and-parts (ltb t (count s)) _ (w .1) in
       party-reach 4 (count s) (ap (λ l. getD l 0 0) e) (w .0) (sender-is (rw q at (v .1))) refl (miner-listed s u a t to (HandToMiner a t to) refl r)
   in-reach (Include b i to) e h =
@@ -135,19 +128,19 @@ module _ (s u : List ℕ) (k a t d : ℕ) (low : t < slotCount) where
       miner-reach 7 (ap (λ l. getD l 0 0) e) (w .0) refl (rw q at (and-parts (ltb t (count s)) _ (w .1) .1)) refl
       (bump-listed s u a t to (Bump a t to) refl r)
 
-  read-closed : (p : Position) (y : Decoded) → decode s u k a t d ≡ y → (mayStand k a d && ltb t (limit s k)) ≡ false → isOpenRead s u p y ≡ false
+  read-closed : (p : Position) (y : Decoded) → decode s u k a t d ≡ y → (mayStand s k a d && ltb t (limit s k)) ≡ false → isOpenRead s u p y ≡ false
   unfolding isOpenRead
   read-closed p (Read y) e h = let w = decodes s u k a t d y e in clash (in-reach y (w .bytes) (w .fields)) h
   read-closed p Refused e h = refl
 
   -- out of reach, nothing is open
-  pub out-closed : (p : Position) → (mayStand k a d && ltb t (limit s k)) ≡ false → isOpenStep s u p k a t d ≡ false
+  pub out-closed : (p : Position) → (mayStand s k a d && ltb t (limit s k)) ≡ false → isOpenStep s u p k a t d ≡ false
   unfolding isOpenStep
   out-closed p h = read-closed p (decode s u k a t d) refl h
 
 -- ---- the set of a kind and a destination, where r is what the code found
 module _ (s u : List ℕ) (p : Position) (actor kind d : ℕ) where
-  pub set-none : (r : Bool) → r ≡ mayStand kind actor d → not r ≡ true → 0 ≡ openSet s u p actor kind d
+  pub set-none : (r : Bool) → r ≡ mayStand s kind actor d → not r ≡ true → 0 ≡ openSet s u p actor kind d
   unfolding openSet setBelow
   set-none r e h =
       sym
@@ -160,7 +153,7 @@ module _ (s u : List ℕ) (p : Position) (actor kind d : ℕ) where
   set-limited few =
       sym
       (set-upto slotCount (limit s kind) (λ t. isOpenStep s u p kind actor t d) few
-      (λ t l m. out-closed s u kind actor t d m p (rw (le-ltb t (limit s kind) l) (and-false (mayStand kind actor d)))))
+      (λ t l m. out-closed s u kind actor t d m p (rw (le-ltb t (limit s kind) l) (and-false (mayStand s kind actor d)))))
 
   pub set-sheet : (r : ℕ) → count s ≤ 32 → (kind ≡ 2 → ⊥) → r ≡ setBelow (count s) (λ t. isOpenStep s u p kind actor t d) → r ≡ openSet s u p actor kind d
   unfolding limit
@@ -168,12 +161,12 @@ module _ (s u : List ℕ) (p : Position) (actor kind d : ℕ) where
       let n : limit s kind ≡ count s = rw (ne-eqb kind 2 other) in
       h ∙ rw n at (set-limited (omega (arith, n, few)))
 
-  pub set-given : (r : ℕ) (b : Bool) (g : Sight) → Fit s u → signatures s ≤ 8 → g ≡ sightOf s u p actor → b ≡ mayStand kind actor d → not b ≡ false → d < 3
+  pub set-given : (r : ℕ) (b : Bool) (g : Sight) → Fit s u → signatures s ≤ 8 → g ≡ sightOf s u p actor → b ≡ mayStand s kind actor d → not b ≡ false → d < destinations
       → kind ≡ 2 → r ≡ setBelow (signatures s) (λ i. givesIn g actor i d) → r ≡ openSet s u p actor kind d
   unfolding limit
   set-given r b g fit few e m f l two h =
       let n : limit s kind ≡ signatures s = rw two in
-      let w = give-stands actor d (rw two at (sym m ∙ not-false b f)) in
+      let w = give-stands s actor d (rw two at (sym m ∙ not-false b f)) in
       (h ∙ rw e)
       ∙ set-same (signatures s) (λ i. givesIn (sightOf s u p actor) actor i d) (λ t. isOpenStep s u p kind actor t d)
       (λ i j. rw two (sym (give-open s u p fit actor i emptySlot 0 d l (w .0) (w .1) j)))
@@ -189,7 +182,7 @@ set-one n k f l h =
     ∙ rw (set-upto k 0 f (omega arith) (λ j i m. h j (omega (arith, m, l)) (λ e. omega (arith, e, m))))
 
 module _ (s u : List ℕ) (p : Position) (fit : Fit s u) (few : signatures s ≤ 8) (k a d : ℕ)
-    (first : isParty a ≡ true → k ≡ 1 → d ≡ 2 → ⊥) (mined : isParty a ≡ false → k ≡ 6 → d ≡ 2 → ⊥) where
+    (first : isParty s a ≡ true → k ≡ 1 → d ≡ 2 → ⊥) (mined : isParty s a ≡ false → k ≡ 6 → d ≡ 2 → ⊥) where
   beyond : (i n : ℕ) → i ≡ 255 → i < n → n ≤ 32 → ⊥
   beyond i n e l m = omega (arith, e, l, m)
 
@@ -199,7 +192,7 @@ module _ (s u : List ℕ) (p : Position) (fit : Fit s u) (few : signatures s ≤
       let m : b ≡ a = ap (λ l. getD l 1 0) e in
       let n : i ≡ 255 = ap (λ l. getD l 2 0) e in
       let q : destinationNumber to ≡ d = ap (λ l. getD l 3 0) e in
-      let w = and-parts (isParty b) _ h in
+      let w = and-parts (isParty s b) _ h in
       either (or-parts (ltb i (count s) && sharesTo s i (destinationNumber to)) _ (w .1))
       (λ y. beyond i (count s) n (ltb-true i (count s) (and-parts (ltb i (count s)) _ y .0)) (fit .checked .sized .few))
       (λ y.
@@ -213,7 +206,7 @@ module _ (s u : List ℕ) (p : Position) (fit : Fit s u) (few : signatures s ≤
       let m : b ≡ a = ap (λ l. getD l 1 0) e in
       let q : destinationNumber to ≡ d = ap (λ l. getD l 3 0) e in
       let w = and-parts (eqb b miner) _ h in
-      mined (no-party a (sym m ∙ eqb-true b miner (w .0))) (sym (ap (λ l. getD l 0 0) e))
+      mined (no-party s a (sym m ∙ eqb-true b miner (w .0))) (sym (ap (λ l. getD l 0 0) e))
       (sym q ∙ eqb-true (destinationNumber to) contract (and-parts (eqb i noTransaction) _ (w .1) .1))
   top-never (Bump b i to) e h = beyond i (count s) (ap (λ l. getD l 2 0) e) (bump-listed s u b i to (Bump b i to) refl h) (fit .checked .sized .few)
 
@@ -227,7 +220,7 @@ module _ (s u : List ℕ) (p : Position) (fit : Fit s u) (few : signatures s ≤
   top-closed = top-read (decode s u k a noTransaction d) refl
 
 -- a place by its kind and destination
-place-of : (i k : ℕ) → i / 3 + 1 ≡ k + 1 → i % 3 ≡ 2 → i ≡ 3 * k + 2
+place-of : (i k : ℕ) → i / 4 + 1 ≡ k + 1 → i % 4 ≡ 2 → i ≡ 4 * k + 2
 place-of i k e f = omega (arith, e, f)
 
 -- ---- these, and all sets of an actor
@@ -235,7 +228,7 @@ module _ (s u : List ℕ) (p : Position) (fit : Fit s u) (few : signatures s ≤
   no-slot : {k : ℕ} → (k ≡ 2 → ⊥) → noTransaction < count s → (emptySlot ≡ slot p noTransaction) × (0 ≡ blockOf p (parent s noTransaction))
   no-slot z m = absurd (omega (arith, m, fit .checked .sized .few))
 
-  first-open : isParty actor ≡ true → isOpenStep s u p 1 actor noTransaction 2 ≡ sharesFirst u (sightOf s u p actor) actor
+  first-open : isParty s actor ≡ true → isOpenStep s u p 1 actor noTransaction 2 ≡ sharesFirst u (sightOf s u p actor) actor
   unfolding sharesFirst refusalIn shareNewIn fieldsRight firstShareFields ofKind destinationNumber
   first-open h =
       rw (h, le-ltb noTransaction (count s) (omega (arith, fit .checked .sized .few)), and-true (not (eqb (conduct u) 0)))
@@ -247,22 +240,22 @@ module _ (s u : List ℕ) (p : Position) (fit : Fit s u) (few : signatures s ≤
       rw (and-true (eqb actor miner))
       at (kind-open s u p fit actor noTransaction emptySlot 0 6 Contract (Mine actor noTransaction Contract) no-slot refl)
 
-  last-is : lastIn u (sightOf s u p actor) actor ≡ lastSet s u p actor
+  last-is : lastIn s u (sightOf s u p actor) actor ≡ lastSet s u p actor
   unfolding lastIn lastSet
   last-is =
-      split (isParty actor)
+      split (isParty s actor)
       (λ h.
       rw (h, sym (first-open h))
       (sym
-      (set-one places 2 (λ i. isOpenStep s u p (i / 3 + 1) actor noTransaction (i % 3)) (omega arith)
-      (λ j l z. top-closed s u p fit few (j / 3 + 1) actor (j % 3) (λ g e f. z (place-of j 0 e f)) (λ g e f. clash h g)))))
+      (set-one places 2 (λ i. isOpenStep s u p (i / 4 + 1) actor noTransaction (i % 4)) (omega arith)
+      (λ j l z. top-closed s u p fit few (j / 4 + 1) actor (j % 4) (λ g e f. z (place-of j 0 e f)) (λ g e f. clash h g)))))
       (λ h.
       rw (h, sym mine-open)
       (sym
-      (set-one places 17 (λ i. isOpenStep s u p (i / 3 + 1) actor noTransaction (i % 3)) (omega arith)
-      (λ j l z. top-closed s u p fit few (j / 3 + 1) actor (j % 3) (λ g e f. clash g h) (λ g e f. z (place-of j 5 e f))))))
+      (set-one places 22 (λ i. isOpenStep s u p (i / 4 + 1) actor noTransaction (i % 4)) (omega arith)
+      (λ j l z. top-closed s u p fit few (j / 4 + 1) actor (j % 4) (λ g e f. clash g h) (λ g e f. z (place-of j 5 e f))))))
 
-  pub sets-made : (b : List ℕ) (r : ℕ) (g : Sight) → g ≡ sightOf s u p actor → b ≡ belowSets s u p actor → r ≡ lastIn u g actor
+  pub sets-made : (b : List ℕ) (r : ℕ) (g : Sight) → g ≡ sightOf s u p actor → b ≡ belowSets s u p actor → r ≡ lastIn s u g actor
       → record { below = b; last = r } ≡ openSets s u p actor
   unfolding openSets
   sets-made b r g e f h = rw (f, (h ∙ rw e) ∙ last-is)

@@ -7,7 +7,7 @@ use mathlib.Core.Bool.{Bool, true, false, not, _&&_, and-false}
 use mathlib.Core.List.{List, [], _∷_}
 use lib.Dec.{eqb}
 use lib.ListN.{getD}
-use borrow.Author.Tests.{eqb-false, lt-ltb, le-ltb, not-true, not-false}
+use borrow.Author.Tests.{eqb-false, not-true, not-false}
 use Rattle.laws.specs.Booleans.{split, and-parts}
 use Rattle.laws.specs.Failing.{firstFailing}
 use Rattle.sheet.specs.Field.{count, parent}
@@ -53,7 +53,7 @@ module _ (s u : List ℕ) (p : Position) (fit : Fit s u) (actor t : ℕ) (x : Sl
   mine-seen to = ap firstFailing (mine-tests s u p (fit .checked))
 
   -- conduct on sending, for a party
-  held-seen : isParty actor ≡ true → sendHeldIn s (outlook s u p) (keptBack s u p actor) actor t ≡ (sendAllowed s u p actor t && payingFirst s u p actor t)
+  held-seen : isParty s actor ≡ true → sendHeldIn s (outlook s u p) (keptBack s u p actor) actor t ≡ (sendAllowed s u p actor t && payingFirst s u p actor t)
   unfolding keptBack
   held-seen h = held-outlook s u p (keptBack s u p actor) actor t (rw h)
 
@@ -74,7 +74,7 @@ module _ (s u : List ℕ) (p : Position) (fit : Fit s u) (actor t : ℕ) (x : Sl
     unfolding refusalIn stepRefusal tests conductAllows sightOf fieldsRight
     pool-seen to h =
         let l = pool-listed s u actor t to (SendToPool actor t to) refl h in
-        rw (place l .0, place l .1, held-seen (and-parts (isParty actor) _ h .0))
+        rw (place l .0, place l .1, held-seen (and-parts (isParty s actor) _ h .0))
         (ap firstFailing (pool-tests (sendAllowed s u p actor t && payingFirst s u p actor t) s u p (fit .checked) actor t (destinationNumber to) l))
 
     miner-seen : (to : Destination) → fieldsRight s u (HandToMiner actor t to) ≡ true
@@ -82,7 +82,7 @@ module _ (s u : List ℕ) (p : Position) (fit : Fit s u) (actor t : ℕ) (x : Sl
     unfolding refusalIn stepRefusal tests conductAllows sightOf fieldsRight
     miner-seen to h =
         let l = miner-listed s u actor t to (HandToMiner actor t to) refl h in
-        rw (place l .0, place l .1, held-seen (and-parts (isParty actor) _ h .0))
+        rw (place l .0, place l .1, held-seen (and-parts (isParty s actor) _ h .0))
         (ap firstFailing (miner-tests (sendAllowed s u p actor t && payingFirst s u p actor t) s u p (fit .checked) actor t (destinationNumber to) l))
 
     include-seen : (to : Destination) → fieldsRight s u (Include actor t to) ≡ true
@@ -149,9 +149,9 @@ module _ (s u : List ℕ) (p : Position) (fit : Fit s u) (kind actor t d : ℕ) 
 
 -- ---- what is the same for all steps of the actor, from its parts
 module _ (s u : List ℕ) (p : Position) (o : Outlook) (actor : ℕ) where
-  pub kept-no-party : 2 ≤ actor → false ≡ keptBack s u p actor
-  unfolding keptBack isParty
-  kept-no-party l = rw (le-ltb actor 2 l)
+  pub kept-no-party : (b : Bool) → b ≡ isParty s actor → not b ≡ true → false ≡ keptBack s u p actor
+  unfolding keptBack
+  kept-no-party b e h = rw (sym e ∙ not-true b h)
 
   module _ (read : o ≡ outlook s u p) where
     careful-read : o .careful ≡ isCareful u
@@ -159,11 +159,11 @@ module _ (s u : List ℕ) (p : Position) (o : Outlook) (actor : ℕ) where
 
     pub kept-not-careful : not (o .careful) ≡ true → false ≡ keptBack s u p actor
     unfolding keptBack
-    kept-not-careful h = rw (sym careful-read ∙ not-true (o .careful) h) (sym (and-false (isParty actor)))
+    kept-not-careful h = rw (sym careful-read ∙ not-true (o .careful) h) (sym (and-false (isParty s actor)))
 
-    pub kept-if-paid : (b : Bool) → actor < 2 → not (o .careful) ≡ false → b ≡ canPay s u p actor → b ≡ keptBack s u p actor
-    unfolding keptBack isParty
-    kept-if-paid b l f e = rw (lt-ltb actor 2 l, sym careful-read ∙ not-false (o .careful) f) e
+    pub kept-if-paid : (b c : Bool) → c ≡ isParty s actor → not c ≡ false → not (o .careful) ≡ false → b ≡ canPay s u p actor → b ≡ keptBack s u p actor
+    unfolding keptBack
+    kept-if-paid b c i l f e = rw (sym i ∙ not-false c l, sym careful-read ∙ not-false (o .careful) f) e
 
     pub sight-made : (v : View) (back any made : Bool) → v ≡ viewBelow (count s) p → back ≡ keptBack s u p actor → any ≡ anyOwed s u p
         → made ≡ firstSharesMade p actor → record { view = v; outlook = o; back = back; owed = any; made = made } ≡ sightOf s u p actor

@@ -18,7 +18,7 @@ use Rattle.sheet.specs.Field.{count, parent}
 use Rattle.sheet.specs.Refusal.{accepted, stepConflict, stepParent, stepPool}
 use Rattle.sheet.specs.Setup.{perDay, stealth}
 use Rattle.slots.specs.declared.Slot.{Slot}
-use Rattle.slots.specs.Destination.{alice, bob, miner, isParty}
+use Rattle.slots.specs.Destination.{alice, bob, miner, destinations, isParty}
 use Rattle.slots.specs.Forms.Next.{Next}
 use Rattle.steps.specs.declared.Outlook.{Outlook}
 use Rattle.steps.specs.Decode.{noTransaction}
@@ -128,10 +128,10 @@ module _ (s u : List ℕ) (t : ℕ) (low : t < 32) where
 
 -- ---- a set made from those that are tested, c
 -- kinds below 5 are a party's
-party-of : (k a d : ℕ) → mayStand k a d ≡ true → leb 5 k ≡ false → isParty a ≡ true
+party-of : (s : List ℕ) (k a d : ℕ) → mayStand s k a d ≡ true → leb 5 k ≡ false → isParty s a ≡ true
 unfolding mayStand
-party-of k a d m h =
-    split (isParty a)
+party-of s k a d m h =
+    split (isParty s a)
     (λ e. e)
     (λ e.
     let v = and-parts (eqb k 5 || eqb k 7) _ (and-parts (eqb a miner) _ (rw e at m) .1) in
@@ -139,14 +139,14 @@ party-of k a d m h =
     (λ f. clash (rw (eqb-true k 5 f) refl) h)
     (λ f. let z : eqb k 7 ≡ true = rw f at (v .0) in clash (rw (eqb-true k 7 z) refl) h))
 
-module _ (s u : List ℕ) (p : Position) (k a d : ℕ) (fit : Fit s u) (few : d < 3) (m : mayStand k a d ≡ true) (other : k ≡ 2 → ⊥)
+module _ (s u : List ℕ) (p : Position) (k a d : ℕ) (fit : Fit s u) (few : d < destinations) (m : mayStand s k a d ≡ true) (other : k ≡ 2 → ⊥)
     (c n : ℕ) (g : Sight) (w : Goes) (seen : g ≡ sightOf s u p a) (goes : w ≡ goesFor s a) (tested : c ≡ candidatesIn u g w k a d) (all : n ≡ count s)
   where
     module _ (t : ℕ) (low : t < n) where
       listed : t < count s
       listed = omega (arith, low, all)
 
-      goes-bit : isParty a ≡ true → bit (goesOf w d) t ≡ goesTo s t d
+      goes-bit : isParty s a ≡ true → bit (goesOf w d) t ≡ goesTo s t d
       unfolding goesFor goesOf goesSet
       goes-bit h =
           split (eqb d 0)
@@ -155,15 +155,18 @@ module _ (s u : List ℕ) (p : Position) (k a d : ℕ) (fit : Fit s u) (few : d 
           split (eqb d 1)
           (λ f. rw (goes, h, eqb-true d 1 f) (set-bit (count s) (λ j. goesTo s j 1) (fit .checked .sized .few) t listed))
           (λ f.
-          let z : d ≡ 2 = omega (arith, few, eqb-false d 0 e, eqb-false d 1 f) in
-          rw (goes, h, z) (set-bit (count s) (λ j. goesTo s j 2) (fit .checked .sized .few) t listed)))
+          split (eqb d 3)
+          (λ q. rw (goes, h, eqb-true d 3 q) (set-bit (count s) (λ j. goesTo s j 3) (fit .checked .sized .few) t listed))
+          (λ q.
+          let z : d ≡ 2 = omega (arith, few, eqb-false d 0 e, eqb-false d 1 f, eqb-false d 3 q) in
+          rw (goes, h, z) (set-bit (count s) (λ j. goesTo s j 2) (fit .checked .sized .few) t listed))))
 
       candidate-bit : bit c t ≡ ((leb 5 k || goesTo s t d) && bit (turnsIn u g k a) t)
       unfolding candidatesIn
       candidate-bit =
           split (leb 5 k)
           (λ e. rw (tested, e))
-          (λ e. rw (tested, e) (bit-and (goesOf w d) (turnsIn u g k a) t ∙ rw (goes-bit (party-of k a d m e))))
+          (λ e. rw (tested, e) (bit-and (goesOf w d) (turnsIn u g k a) t ∙ rw (goes-bit (party-of s k a d m e))))
 
       pub turn-closed : bit c t ≡ false → isOpenStep s u p k a t d ≡ false
       turn-closed h =

@@ -35,7 +35,7 @@ fn kept_back(
     requires { ⌜ o ≡ outlook (now sheet) (now setup) position ⌝ }
     ensures { λ r. ⌜ r ≡ keptBack (now (sheet .entry)) (now (setup .entry)) position actor ⌝ }
 {
-    if 2 <= actor {
+    if !sheet::field::is_party(sheet, actor) {
         return false;
     }
     if !o.careful {
@@ -85,9 +85,9 @@ fn sheet_set(
     requires { ⌜ Fit (now sheet) (now setup) ⌝ }
     requires { ⌜ sight ≡ sightOf (now sheet) (now setup) position actor ⌝ }
     requires { ⌜ goes ≡ goesFor (now sheet) actor ⌝ }
-    requires { ⌜ mayStand kind actor to ≡ true ⌝ }
+    requires { ⌜ mayStand (now sheet) kind actor to ≡ true ⌝ }
     requires { ⌜ (kind ≡ 2 → ⊥) ⌝ }
-    requires { ⌜ to < 3 ⌝ }
+    requires { ⌜ to < 4 ⌝ }
     ensures { λ r. ⌜ r ≡ setBelow (count (now (sheet .entry))) (λ t. isOpenStep (now (sheet .entry)) (now (setup .entry)) position kind actor t to) ⌝ }
 {
     let n = sheet::field::count(sheet);
@@ -120,10 +120,10 @@ fn open_set(
     requires { ⌜ Fit (now sheet) (now setup) ⌝ }
     requires { ⌜ sight ≡ sightOf (now sheet) (now setup) position actor ⌝ }
     requires { ⌜ goes ≡ goesFor (now sheet) actor ⌝ }
-    requires { ⌜ destination < 3 ⌝ }
+    requires { ⌜ destination < 4 ⌝ }
     ensures { λ r. ⌜ r ≡ openSet (now (sheet .entry)) (now (setup .entry)) position actor kind destination ⌝ }
 {
-    if !open::may_stand(kind, actor, destination) {
+    if !open::may_stand(sheet, kind, actor, destination) {
         return 0;
     }
     if kind == 2 {
@@ -153,16 +153,16 @@ fn below_sets(
     sight: Sight,
     goes: Goes,
     actor: u8,
-) -> [u32; 21]
+) -> [u32; 28]
     requires { ⌜ Fit (now sheet) (now setup) ⌝ }
     requires { ⌜ sight ≡ sightOf (now sheet) (now setup) position actor ⌝ }
     requires { ⌜ goes ≡ goesFor (now sheet) actor ⌝ }
     ensures { λ r. ⌜ r ≡ belowSets (now (sheet .entry)) (now (setup .entry)) position actor ⌝ }
 {
-    let mut below: [u32; 21] = [0; 21];
+    let mut below: [u32; 28] = [0; 28];
     let mut i: usize = 0;
-    while i < 21 {
-        let kind = (i / 3 + 1) as u8;
+    while i < 28 {
+        let kind = (i / 4 + 1) as u8;
         let found = open_set(
             position,
             sheet,
@@ -171,7 +171,7 @@ fn below_sets(
             goes,
             actor,
             kind,
-            (i % 3) as u8,
+            (i % 4) as u8,
         );
         below[i] = found;
         i += 1;
@@ -198,6 +198,6 @@ pub fn open_sets(
     let sight = sight(position, sheet, setup, view, o, owed, actor);
     let goes = open::goes_for(sheet, actor);
     let below = below_sets(position, sheet, setup, sight, goes, actor);
-    let last = open::last_set(setup, sight, actor);
+    let last = open::last_set(sheet, setup, sight, actor);
     OpenSets { below, last }
 }

@@ -29,7 +29,7 @@ holder s confirmed payee coin = payeeBelow (count s) (endsCoin s confirmed coin)
 
 -- "A payout is a coin whose holder is a party.", where `held` gives each coin's holder
 unfoldable pub isPayout : List ℕ → (ℕ → ℕ) → ℕ → Bool
-isPayout s held coin = opening s coin && isParty (held coin)
+isPayout s held coin = opening s coin && isParty s (held coin)
 
 -- the coin is a payout to this party
 unfoldable pub isPayoutTo : List ℕ → (ℕ → ℕ) → ℕ → ℕ → Bool

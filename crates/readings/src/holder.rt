@@ -1,6 +1,5 @@
 // Who holds a coin, and payouts, over the set of the confirmed.
 use sheet::set;
-use slots::party;
 ghost use Prim.Native.Nat.{_<_};
 ghost use mathlib.Core.Path.{_≡_};
 ghost use mathlib.Core.Bool.{_&&_};
@@ -116,7 +115,7 @@ pub fn payout(sheet: &[u8], held: u8, coin: usize) -> bool
     ensures { λ r. ⌜ r ≡ isPayout (now (sheet .entry)) (λ k. held) coin ⌝ }
 {
     if sheet::field::opening(sheet, coin) {
-        return party::is_party(held);
+        return sheet::field::is_party(sheet, held);
     }
     false
 }

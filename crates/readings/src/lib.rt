@@ -23,6 +23,7 @@ pub struct Sight {
 pub struct Goes {
     pub alice: u32,
     pub bob: u32,
+    pub carol: u32,
     pub contract: u32,
 }
 

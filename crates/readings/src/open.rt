@@ -7,6 +7,7 @@ use slots::party;
 use slots::signatures;
 use steps::Outlook;
 use steps::conduct;
+use steps::decode;
 use steps::mining;
 use steps::owed;
 use steps::parent;
@@ -44,13 +45,13 @@ fn to_sender(actor: u8, destination: u8) -> bool
 }
 
 // Whether a party's step of a kind may go to a destination.
-fn party_may(kind: u8, actor: u8, destination: u8) -> bool
-    requires { ⌜ actor < 2 ⌝ }
-    ensures { λ r. ⌜ r ≡ partyMay kind actor destination ⌝ }
+fn party_may(sheet: &[u8], kind: u8, actor: u8, destination: u8) -> bool
+    requires { ⌜ Sized (now sheet) ⌝ }
+    ensures { λ r. ⌜ r ≡ partyMay (now (sheet .entry)) kind actor destination ⌝ }
 {
     match kind {
         1 => true,
-        2 => destination == 1 - actor,
+        2 => decode::is_other(sheet, actor, destination),
         3 => to_sender(actor, destination),
         4 => to_sender(actor, destination),
         _ => false,
@@ -58,11 +59,12 @@ fn party_may(kind: u8, actor: u8, destination: u8) -> bool
 }
 
 // Whether some step of a kind, an actor and a destination may have right fields with a transaction byte other than 255.
-pub fn may_stand(kind: u8, actor: u8, destination: u8) -> bool
-    ensures { λ r. ⌜ r ≡ mayStand kind actor destination ⌝ }
+pub fn may_stand(sheet: &[u8], kind: u8, actor: u8, destination: u8) -> bool
+    requires { ⌜ Sized (now sheet) ⌝ }
+    ensures { λ r. ⌜ r ≡ mayStand (now (sheet .entry)) kind actor destination ⌝ }
 {
-    if actor < 2 {
-        return party_may(kind, actor, destination);
+    if sheet::field::is_party(sheet, actor) {
+        return party_may(sheet, kind, actor, destination);
     }
     if actor != 2 {
         return false;
@@ -80,7 +82,6 @@ pub fn may_stand(kind: u8, actor: u8, destination: u8) -> bool
 fn goes_to(sheet: &[u8], t: usize, destination: u8) -> bool
     requires { ⌜ Sized (now sheet) ⌝ }
     requires { ⌜ t < count (now sheet) ⌝ }
-    requires { ⌜ destination < 3 ⌝ }
     ensures { λ r. ⌜ r ≡ goesTo (now (sheet .entry)) t destination ⌝ }
 {
     if destination == 2 {
@@ -92,7 +93,6 @@ fn goes_to(sheet: &[u8], t: usize, destination: u8) -> bool
 // The transactions that go to a destination.
 fn goes_set(sheet: &[u8], destination: u8) -> u32
     requires { ⌜ Sized (now sheet) ⌝ }
-    requires { ⌜ destination < 3 ⌝ }
     ensures { λ r. ⌜ r ≡ goesSet (now (sheet .entry)) destination ⌝ }
 {
     let n = sheet::field::count(sheet);
@@ -111,19 +111,22 @@ pub fn goes_for(sheet: &[u8], actor: u8) -> Goes
     requires { ⌜ Sized (now sheet) ⌝ }
     ensures { λ r. ⌜ r ≡ goesFor (now (sheet .entry)) actor ⌝ }
 {
-    if 2 <= actor {
+    if !sheet::field::is_party(sheet, actor) {
         return Goes {
             alice: 0,
             bob: 0,
+            carol: 0,
             contract: 0,
         };
     }
     let alice = goes_set(sheet, 0);
     let bob = goes_set(sheet, 1);
+    let carol = goes_set(sheet, 3);
     let contract = goes_set(sheet, 2);
     Goes {
         alice,
         bob,
+        carol,
         contract,
     }
 }
@@ -136,6 +139,7 @@ impl Goes {
         match destination {
             0 => self.alice,
             1 => self.bob,
+            3 => self.carol,
             _ => self.contract,
         }
     }
@@ -217,7 +221,7 @@ pub fn candidates(
 fn share_refusal(sheet: &[u8], sight: Sight, x: Slot, actor: u8, t: usize, destination: u8) -> u32
     requires { ⌜ Sized (now sheet) ⌝ }
     requires { ⌜ t < count (now sheet) ⌝ }
-    requires { ⌜ destination < 3 ⌝ }
+    requires { ⌜ destination < 4 ⌝ }
     ensures { λ r. ⌜ r ≡ firstFailing (conductTests (shareAllowedIn (sight .outlook) actor t) (shareMetIn (now (sheet .entry)) (keysIn (sight .view) actor) x actor t destination)) ⌝ }
 {
     let allowed = sight.outlook.share_allowed(actor, t as u8);
@@ -336,7 +340,7 @@ pub fn accepted_as(
 ) -> bool
     requires { ⌜ Fit (now sheet) (now setup) ⌝ }
     requires { ⌜ t < count (now sheet) ⌝ }
-    requires { ⌜ destination < 3 ⌝ }
+    requires { ⌜ destination < 4 ⌝ }
     ensures { λ r. ⌜ r ≡ eqb (refusalAs (now (sheet .entry)) (now (setup .entry)) sight x since kind actor t destination) 0 ⌝ }
 {
     match kind {
@@ -397,13 +401,14 @@ fn mines(sight: Sight, actor: u8) -> bool
     mining::mine_refusal(sight.view, sight.owed) == 0
 }
 
-// The kinds and destinations with which the step with transaction byte 255 is open: bit 3 * k + d for kind k + 1 and destination d.
-pub fn last_set(setup: &[u8], sight: Sight, actor: u8) -> u32
+// The kinds and destinations with which the step with transaction byte 255 is open: bit 4 * k + d for kind k + 1 and destination d.
+pub fn last_set(sheet: &[u8], setup: &[u8], sight: Sight, actor: u8) -> u32
+    requires { ⌜ Sized (now sheet) ⌝ }
     requires { ⌜ length (now setup) ≡ 4 ⌝ }
-    ensures { λ r. ⌜ r ≡ lastIn (now (setup .entry)) sight actor ⌝ }
+    ensures { λ r. ⌜ r ≡ lastIn (now (sheet .entry)) (now (setup .entry)) sight actor ⌝ }
 {
-    if actor < 2 {
+    if sheet::field::is_party(sheet, actor) {
         return set::join(0, shares_first(setup, sight, actor), 2);
     }
-    set::join(0, mines(sight, actor), 17)
+    set::join(0, mines(sight, actor), 22)
 }

@@ -62,7 +62,7 @@ module _ (s u j : List ℕ) (r : DatedRun) (e : r ≡ datedRun s u j) (out : Lis
       ∙ rw rows-found
 
 -- the number of a report
-pub report-below : (s u j out : List ℕ) → reportAnswer s u j out .refusal < 26
+pub report-below : (s u j out : List ℕ) → reportAnswer s u j out .refusal < 33
 report-below s u j out = rw (report-as s u j out) (written-bounds s u j (rowsAfter s u j) out 0 .0)
 
 -- the number and the buffer of an answer

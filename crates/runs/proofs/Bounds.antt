@@ -37,7 +37,7 @@ steps-bytes (k ∷ a ∷ t ∷ []) = lit≤ tt
 steps-bytes (k ∷ a ∷ t ∷ d ∷ rest) = omega (arith, steps-bytes rest)
 
 module _ (s u : List ℕ) where
-  -- the numbers of a step's tests, and of a call's, are below 25
+  -- the numbers of a step's tests are below 25, those of a call's below 33
   tests-below : (p : Position) (x : Step) → stepRefusal s u p x < 25
   unfolding stepRefusal tests shareTests giveTests sendTests poolTests minerTests includeTests mineTests bumpTests
   tests-below p (Share party t to) = answer-below 25 (tests s u p (Share party t to)) (lit< tt) refl
@@ -48,9 +48,9 @@ module _ (s u : List ℕ) where
   tests-below p (Mine party t to) = answer-below 25 (tests s u p (Mine party t to)) (lit< tt) refl
   tests-below p (Bump party t to) = answer-below 25 (tests s u p (Bump party t to)) (lit< tt) refl
 
-  call-below : (j : List ℕ) → firstFailing (callTests s u j) < 25
+  call-below : (j : List ℕ) → firstFailing (callTests s u j) < 33
   unfolding callTests sheetTests arrayTests setupTests
-  call-below j = answer-below 25 (callTests s u j) (lit< tt) refl
+  call-below j = answer-below 33 (callTests s u j) (lit< tt) refl
 
   take-below : (p : Position) (x : Step) → takeStep s u p x .refusal < 25
   unfolding takeStep
@@ -79,24 +79,24 @@ module _ (s u : List ℕ) where
       (λ e. rw (run-stops s u b bs c p e) (step-below p b, omega arith))
 
   module _ (j : List ℕ) where
-    -- a run's refusal is one of the numbers below 25, and the steps that it accepts are steps of the journal
-    pub run-bounds : (run s u j .refusal < 25) × (4 * run s u j .accepted ≤ length j) × (run s u j .accepted ≤ 16384)
+    -- a run's refusal is one of the numbers below 33, and the steps that it accepts are steps of the journal
+    pub run-bounds : (run s u j .refusal < 33) × (4 * run s u j .accepted ≤ length j) × (run s u j .accepted ≤ 16384)
     run-bounds =
         split (eqb (firstFailing (callTests s u j)) 0)
         (λ e.
         let h = eqb-true (firstFailing (callTests s u j)) 0 e in
         let w = row-bounds (journalSteps j) 0 (start s) in
         let z : 4 * runFrom s u (journalSteps j) 0 (start s) .accepted ≤ length j = omega (arith, w .1, steps-bytes j) in
-        rw (run-allowed s u j h) (w .0, z, omega (arith, z, journal-whole s u j h .1)))
+        rw (run-allowed s u j h) (omega (arith, w .0), z, omega (arith, z, journal-whole s u j h .1)))
         (λ e.
         rw (run-refused s u j (eqb-false (firstFailing (callTests s u j)) 0 e)) (call-below j, omega arith, lit≤ tt))
 
     -- the same of what the code found
-    pub ran-bounds : (r : Ran) → r ≡ run s u j → (r .refusal < 25) × (4 * r .accepted ≤ length j) × (r .accepted ≤ 16384)
+    pub ran-bounds : (r : Ran) → r ≡ run s u j → (r .refusal < 33) × (4 * r .accepted ≤ length j) × (r .accepted ≤ 16384)
     ran-bounds r e = rw e run-bounds
 
     -- a call that writes passes on the run's refusal or has one of its own, 25; it counts n at most
-    pub written-bounds : (bytes out : List ℕ) (n : ℕ) → (passOn (run s u j) bytes n out .refusal < 26) × (passOn (run s u j) bytes n out .count ≤ n)
+    pub written-bounds : (bytes out : List ℕ) (n : ℕ) → (passOn (run s u j) bytes n out .refusal < 33) × (passOn (run s u j) bytes n out .count ≤ n)
     written-bounds bytes out n =
         split (eqb (run s u j .refusal) accepted)
         (λ e.

@@ -81,7 +81,8 @@ pub fn run_from(from: Position, sheet: &[u8], setup: &[u8], journal: &[u8]) -> R
         }
         let at = seen::changed_place(kind, t);
         let x = position.slots[at];
-        let after = view.after(at, x, position.mined, position.alice, position.bob);
+        let keys = position.keys;
+        let after = view.after(at, x, position.mined, keys);
         view = after;
     }
     ran_to(refusal::ACCEPTED, k, position)

@@ -1,4 +1,5 @@
 pub mod Opened
+pub mod Parties
 pub mod ParentSets
 pub mod Passed
 pub mod PassedEntry

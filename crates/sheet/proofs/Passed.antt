@@ -1,15 +1,16 @@
 -- What each passed check of a sheet tells.
 -- Assumes nothing.
-use Prim.Native.Nat.{ℕ, _+_, _*_, _≤_}
+use Prim.Native.Nat.{ℕ, _+_, _*_, _≤_, _<_}
 use native.Mathlib.Omega.{arith}
 use mathlib.Core.Path.{_≡_}
-use mathlib.Core.Bool.{true, _&&_}
+use mathlib.Core.Bool.{true, false, _&&_}
 use mathlib.Core.List.{List}
 use lib.Dec.{leb, eqb}
 use lib.ListN.{length}
-use borrow.Author.Tests.{leb-true, eqb-true}
+use borrow.Author.Tests.{leb-true, lt-leb, eqb-true}
 use Rattle.laws.specs.Booleans.{and-parts}
-use Rattle.sheet.specs.Field.{count, arrays, signatures, Sized, arrays-head}
+use Rattle.sheet.specs.Field.{count, arrays, signatures, Sized}
+use Rattle.sheet.proofs.Parties.{arrays-head}
 use Rattle.sheet.specs.Setup.{perDay, blocksRight}
 use Rattle.sheet.specs.Check.{headRight, countRight, masksRight, signaturesRight, lengthRight}
 
@@ -17,6 +18,14 @@ use Rattle.sheet.specs.Check.{headRight, countRight, masksRight, signatu
 pub head-there : (s : List ℕ) → headRight s ≡ true → 5 ≤ length s
 unfolding headRight
 head-there s h = omega (arith, leb-true (arrays s) (length s) h, arrays-head s)
+
+pub headless : (s : List ℕ) → length s < 5 → headRight s ≡ false
+unfolding headRight
+headless s h = lt-leb (arrays s) (length s) (omega (arith, arrays-head s))
+
+pub arrays-there : (s : List ℕ) → headRight s ≡ true → arrays s ≤ length s
+unfolding headRight
+arrays-there s h = leb-true (arrays s) (length s) h
 
 -- 2
 pub count-some : (s : List ℕ) → countRight s ≡ true → 1 ≤ count s

@@ -10,7 +10,7 @@ use lib.Dec.{leb, ltb, eqb}
 use borrow.Author.Tests.{leb-true, ltb-true, eqb-true, eqb-false, eq-eqb, ne-eqb, not-true}
 use Rattle.laws.specs.Booleans.{split, either, and-parts, or-parts, beq-same}
 use Rattle.laws.specs.Below.{any-some, any-none}
-use Rattle.sheet.specs.Field.{count, signatures, parent, payees, required, veil, lockType, days, opening}
+use Rattle.sheet.specs.Field.{parties, count, signatures, parent, payees, required, veil, lockType, days, opening}
 use Rattle.sheet.specs.Check.{within, parentRight, entryRight, daysRight, lockRight, hasChild, childrenRight}
 use Rattle.sheet.specs.Checked.{LockPair, none, absolute, since, Entry}
 
@@ -24,13 +24,13 @@ unfolding within
 mask-within s m h = ltb-true m (2 ^ signatures s) h
 
 entry-parts : (s : List ℕ) (t : ℕ) → entryRight s t ≡ true
-    → (payees s t ≤ 3) × (1 ≤ required s t) × (required s t < 2 ^ signatures s) × (veil s t ≤ 1)
+    → (payees s t < 2 ^ parties s) × (1 ≤ required s t) × (required s t < 2 ^ signatures s) × (veil s t ≤ 1)
 unfolding entryRight
 entry-parts s t h =
-    let a = and-parts (leb (payees s t) 3) (leb 1 (required s t) && (within s (required s t) && leb (veil s t) 1)) h in
+    let a = and-parts (ltb (payees s t) (2 ^ parties s)) (leb 1 (required s t) && (within s (required s t) && leb (veil s t) 1)) h in
     let b = and-parts (leb 1 (required s t)) (within s (required s t) && leb (veil s t) 1) (a .1) in
     let c = and-parts (within s (required s t)) (leb (veil s t) 1) (b .1) in
-    (leb-true (payees s t) 3 (a .0), leb-true 1 (required s t) (b .0), mask-within s (required s t) (c .0), leb-true (veil s t) 1 (c .1))
+    (ltb-true (payees s t) (2 ^ parties s) (a .0), leb-true 1 (required s t) (b .0), mask-within s (required s t) (c .0), leb-true (veil s t) 1 (c .1))
 
 no-days : (s : List ℕ) (t : ℕ) → daysRight s t ≡ true → eqb (lockType s t) 0 ≡ true → days s t ≡ 0
 unfolding daysRight

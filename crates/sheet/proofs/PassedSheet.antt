@@ -1,15 +1,16 @@
 -- A sheet whose check gives 0 has everything that the crates above want.
 -- Assumes nothing.
-use Prim.Native.Nat.{ℕ}
+use Prim.Native.Nat.{ℕ, _<_, _^_}
 use mathlib.Core.Path.{_≡_, refl}
 use mathlib.Core.Bool.{true}
 use mathlib.Core.List.{List}
 use Rattle.laws.specs.Booleans.{and-parts}
 use Rattle.laws.specs.Below.{allBelow, all-at}
 use Rattle.laws.specs.Failing.{testOf, passed}
-use Rattle.sheet.specs.Field.{parties, count, secrets, startKeys}
+use Rattle.sheet.specs.Field.{parties, place, isParty, count, secrets, signatures, startMask, startKeys}
 use Rattle.sheet.specs.Check.{within, masksRight, parentRight, entryRight, lockRight, childrenRight, arrayTests, sheetTests, sheetRefusal}
 use Rattle.sheet.specs.Checked.{Checked}
+use Rattle.sheet.proofs.Parties.{place-below}
 use Rattle.sheet.proofs.Passed.{count-some, signatures-some, signatures-few, masks-right, sized}
 use Rattle.sheet.proofs.PassedEntry.{mask-within, passed-entry}
 
@@ -18,9 +19,14 @@ test-passed : (s : List ℕ) → sheetRefusal s ≡ 0 → (k : ℕ) → testOf k
 unfolding sheetRefusal sheetTests arrayTests
 test-passed s h k = passed (sheetTests s) refl h k
 
-masks : (s : List ℕ) → masksRight s ≡ true → (within s (secrets s) ≡ true) × (allBelow parties (λ p. within s (startKeys s p)) ≡ true)
+masks : (s : List ℕ) → masksRight s ≡ true → (within s (secrets s) ≡ true) × (allBelow (parties s) (λ k. within s (startMask s k)) ≡ true)
 unfolding masksRight
-masks s h = and-parts (within s (secrets s)) (allBelow parties (λ p. within s (startKeys s p))) h
+masks s h = and-parts (within s (secrets s)) (allBelow (parties s) (λ k. within s (startMask s k))) h
+
+keys-within : (s : List ℕ) → allBelow (parties s) (λ k. within s (startMask s k)) ≡ true → (p : ℕ) → isParty s p ≡ true → startKeys s p < 2 ^ signatures s
+unfolding startKeys
+keys-within s h p e =
+    rw e (mask-within s (startMask s (place p)) (all-at (parties s) (λ k. within s (startMask s k)) h (place p) (place-below s p e)))
 
 pub passed-sheet : (s : List ℕ) → sheetRefusal s ≡ 0 → Checked s
 unfolding sheetTests arrayTests
@@ -33,7 +39,7 @@ passed-sheet s h =
       signatures-some = signatures-some s (test 3);
       signatures-few = signatures-few s (test 3);
       secrets-within = mask-within s (secrets s) (m .0);
-      keys-within = λ p l. mask-within s (startKeys s p) (all-at parties (λ q. within s (startKeys s q)) (m .1) p l);
+      keys-within = keys-within s (m .1);
       entries = λ t l.
           passed-entry s t
           (all-at (count s) (parentRight s) (test 5) t l)

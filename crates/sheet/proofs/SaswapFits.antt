@@ -11,6 +11,7 @@ use borrow.Author.Tests.{eqb-true, eq-eqb, le-leb}
 use Rattle.laws.specs.Below.{allBelow, all-at}
 use Rattle.laws.specs.Failing.{firstFailing}
 use Rattle.laws.specs.Same.{equal-same}
+use Rattle.sheet.specs.Field.{parties}
 use Rattle.sheet.specs.Check.{sheetRefusal}
 use Rattle.sheet.proofs.Opened.{opened}
 use Rattle.sheet.proofs.Offset.{offset-small}
@@ -26,6 +27,11 @@ pub saswap-passes : (d : ℕ) → sheetRefusal (saswap d) ≡ 0
 unfolding saswap offset
 saswap-passes d =
     eqb-true (sheetRefusal (saswapAt (offset d))) 0 (all-at 4 (λ o. eqb (sheetRefusal (saswapAt o)) 0) all-pass (offset d) (omega (arith, offset-small d)))
+
+-- the SASwap sheet has two parties
+pub parties-saswap : (d : ℕ) → parties (saswap d) ≡ 2
+unfolding opened
+parties-saswap d = refl
 
 pub saswap-fits : (u : List ℕ) → length u ≡ 4 → 1 ≤ perDay u → perDay u ≤ 1000 → conduct u ≤ 2 → stealth u ≤ 1 → setupRefusal (saswap (perDay u)) u ≡ 0
 unfolding setupRefusal setupTests firstFailing blocksRight conductRight isSaswap

@@ -6,6 +6,7 @@ use mathlib.Core.List.{List}
 use lib.Dec.{lit<}
 use lib.ListN.{length}
 use Rattle.laws.specs.Failing.{answer-below}
+use Rattle.sheet.specs.Field.{parties}
 use Rattle.sheet.specs.Check.{arrayTests, sheetTests, sheetRefusal}
 use Rattle.sheet.specs.Saswap.{offset, offsetByDifference, saswap}
 use Rattle.sheet.specs.Setup.{perDay, conduct, stealth, setupRefusal}
@@ -25,6 +26,10 @@ saswap-length = SaswapLength.saswap-length
 -- It passes the check, for every number of blocks per day.
 pub saswap-passes : (d : ℕ) → sheetRefusal (saswap d) ≡ 0
 saswap-passes = SaswapFits.saswap-passes
+
+-- It has two parties.
+pub parties-saswap : (d : ℕ) → parties (saswap d) ≡ 2
+parties-saswap = SaswapFits.parties-saswap
 
 -- A setup of 1 to 1,000 blocks per day, any conduct and any stealth passes with its SASwap sheet.
 pub saswap-fits : (u : List ℕ) → length u ≡ 4 → 1 ≤ perDay u → perDay u ≤ 1000 → conduct u ≤ 2 → stealth u ≤ 1 → setupRefusal (saswap (perDay u)) u ≡ 0

@@ -9,7 +9,7 @@ use Rattle.laws.specs.Booleans.{pick}
 use Rattle.laws.specs.Below.{allBelow, anyBelow}
 use Rattle.laws.specs.Failing.{firstFailing}
 use Rattle.sheet.specs.Refusal.{sheetShort, sheetCount, sheetSignatures, sheetLength, sheetParent, sheetEntry, sheetLock, sheetChildren}
-use Rattle.sheet.specs.Field.{parties, count, arrays, signatures, secrets, startKeys, parent, payees, required, veil, lockType, days, opening}
+use Rattle.sheet.specs.Field.{parties, count, arrays, signatures, secrets, startMask, parent, payees, required, veil, lockType, days, opening}
 
 -- 1 "sheet under 5 bytes"
 unfoldable pub headRight : List ℕ → Bool
@@ -23,9 +23,9 @@ countRight s = leb 1 (count s) && leb (count s) 32
 unfoldable pub within : List ℕ → ℕ → Bool
 within s mask = ltb mask (2 ^ signatures s)
 
--- "a head mask beyond s": the secrets, and what each party holds at the start
+-- "a head mask beyond s": the secrets, and the start mask of each party
 unfoldable pub masksRight : List ℕ → Bool
-masksRight s = within s (secrets s) && allBelow parties (λ p. within s (startKeys s p))
+masksRight s = within s (secrets s) && allBelow (parties s) (λ k. within s (startMask s k))
 
 -- 3 "s outside 1 to 8, or a head mask beyond s"
 unfoldable pub signaturesRight : List ℕ → Bool
@@ -39,9 +39,9 @@ lengthRight s = eqb (length s) (arrays s + 6 * count s)
 unfoldable pub parentRight : List ℕ → ℕ → Bool
 parentRight s t = opening s t || ltb (parent s t) t
 
--- 6 "payees, needs (zero too) or veil out of range"
+-- 6 "payees, needs (zero too) or veil out of range": of the payees, a bit for each party
 unfoldable pub entryRight : List ℕ → ℕ → Bool
-entryRight s t = leb (payees s t) 3 && (leb 1 (required s t) && (within s (required s t) && leb (veil s t) 1))
+entryRight s t = ltb (payees s t) (2 ^ parties s) && (leb 1 (required s t) && (within s (required s t) && leb (veil s t) 1))
 
 -- "days (0 for type 0, else 1 to 255)"
 unfoldable pub daysRight : List ℕ → ℕ → Bool

@@ -6,7 +6,7 @@ use mathlib.Core.Bool.{true, false}
 use mathlib.Core.Logic.{_⊎_}
 use mathlib.Core.List.{List}
 use lib.ListN.{length}
-use Rattle.sheet.specs.Field.{parties, count, signatures, secrets, startKeys, parent, payees, required, veil, lockType, days, opening, Sized}
+use Rattle.sheet.specs.Field.{parties, isParty, count, signatures, secrets, startKeys, parent, payees, required, veil, lockType, days, opening, Sized}
 use Rattle.sheet.specs.Saswap.{saswap}
 use Rattle.sheet.specs.Setup.{perDay, conduct, stealth}
 
@@ -19,7 +19,7 @@ pub data LockPair (s : List ℕ) (t : ℕ) : Type 0 where
 -- a transaction of a checked sheet
 pub record Entry (s : List ℕ) (t : ℕ) : Type 0 where
   pub parent-lower : (opening s t ≡ true) ⊎ (parent s t < t)
-  pub payees-few : payees s t ≤ 3
+  pub payees-few : payees s t < 2 ^ parties s
   pub required-some : 1 ≤ required s t
   pub required-within : required s t < 2 ^ signatures s
   pub veil-flag : veil s t ≤ 1
@@ -33,7 +33,7 @@ pub record Checked (s : List ℕ) : Type 0 where
   pub signatures-some : 1 ≤ signatures s
   pub signatures-few : signatures s ≤ 8
   pub secrets-within : secrets s < 2 ^ signatures s
-  pub keys-within : (p : ℕ) → p < parties → startKeys s p < 2 ^ signatures s
+  pub keys-within : (p : ℕ) → isParty s p ≡ true → startKeys s p < 2 ^ signatures s
   pub entries : (t : ℕ) → t < count s → Entry s t
 
 -- a setup that passes the check for a sheet

@@ -1,27 +1,28 @@
 -- The fields of a sheet, in the order of document 01's first section. A sheet is a list of bytes.
 -- Assumes nothing.
-use Prim.Native.Nat.{ℕ, _+_, _*_, _≤_, _<_}
+use Prim.Native.Nat.{ℕ, _+_, _*_, _-_, _≤_, _<_}
 use mathlib.Core.Path.{_≡_}
-use mathlib.Core.Bool.{Bool}
+use mathlib.Core.Bool.{Bool, not, _&&_}
 use mathlib.Core.List.{List}
-use lib.Dec.{eqb, lit≤}
+use lib.Dec.{eqb, ltb, leb}
 use lib.ListN.{length, getD}
+use Rattle.laws.specs.Booleans.{pick}
 
 -- the byte at place i, 0 past the end
 abbrev pub byte : List ℕ → ℕ → ℕ
 byte s i = getD s i 0
 
--- Alice and Bob
-abbrev pub parties : ℕ
-parties = 2
+-- the number of parties of a sheet: Alice and Bob
+unfoldable pub parties : List ℕ → ℕ
+parties s = 2
 
 -- "byte 0 n transactions"
 unfoldable pub count : List ℕ → ℕ
 count s = byte s 0
 
--- where the two parallel arrays start, behind the head: "Length is exactly 5 + 6n"
+-- where the two parallel arrays start, behind the head: "Length is exactly 5 + 6n": three bytes and the start masks
 unfoldable pub arrays : List ℕ → ℕ
-arrays s = 5
+arrays s = 3 + parties s
 
 -- "byte 1 s signatures"
 abbrev pub signatures : List ℕ → ℕ
@@ -31,9 +32,29 @@ signatures s = byte s 1
 abbrev pub secrets : List ℕ → ℕ
 secrets s = byte s 2
 
--- "bytes 3 and 4 the masks held at the start by Alice and Bob": by party number
-abbrev pub startKeys : List ℕ → ℕ → ℕ
-startKeys s party = byte s (3 + party)
+-- "party (0 Alice, 1 Bob, 2 miner)"
+abbrev pub miner : ℕ
+miner = 2
+
+-- a party's place among the sheet's, by its number: Alice's is 0, Bob's 1; the miner's number is passed over
+unfoldable pub place : ℕ → ℕ
+place party = pick (ltb party miner) party (party - 1)
+
+-- the number of the party in a place
+unfoldable pub partyAt : ℕ → ℕ
+partyAt k = pick (ltb k miner) k (k + 1)
+
+-- the number is one of the sheet's parties', not the miner's and, of a destination, not the contract's
+unfoldable pub isParty : List ℕ → ℕ → Bool
+isParty s party = not (eqb party miner) && ltb (place party) (parties s)
+
+-- "bytes 3 and 4 the masks held at the start by Alice and Bob": by place
+abbrev pub startMask : List ℕ → ℕ → ℕ
+startMask s k = byte s (3 + k)
+
+-- the same by party number, 0 for any other number
+unfoldable pub startKeys : List ℕ → ℕ → ℕ
+startKeys s party = pick (isParty s party) (startMask s (place party)) 0
 
 -- "The first has 4 bytes for each transaction": byte k of transaction t's four
 unfoldable pub entry : List ℕ → ℕ → ℕ → ℕ
@@ -47,7 +68,7 @@ lockPair s t k = byte s (arrays s + 4 * count s + 2 * t + k)
 abbrev pub parent : List ℕ → ℕ → ℕ
 parent s t = entry s t 0
 
--- "payees (1 Alice, 2 Bob, 3 either, 0 a contract transaction)"
+-- "payees (1 Alice, 2 Bob, 3 either, 0 a contract transaction)": a bit for each party, by place
 abbrev pub payees : List ℕ → ℕ → ℕ
 payees s t = entry s t 1
 
@@ -76,7 +97,3 @@ pub record Sized (s : List ℕ) : Type 0 where
   pub few : count s ≤ 32
   pub head : 5 ≤ arrays s
   pub size : length s ≡ arrays s + 6 * count s
-
-pub arrays-head : (s : List ℕ) → 5 ≤ arrays s
-unfolding arrays
-arrays-head s = lit≤ tt

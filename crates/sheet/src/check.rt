@@ -9,13 +9,13 @@ ghost use mathlib.Core.Bool.{true};
 ghost use lib.ListN.{length};
 ghost use Rattle.laws.specs.Below.{allBelow};
 ghost use Rattle.laws.specs.Failing.{firstFailing};
-ghost use Rattle.sheet.specs.Field.{count, signatures, Sized};
+ghost use Rattle.sheet.specs.Field.{parties, count, arrays, signatures, startMask, Sized};
 ghost use Rattle.sheet.specs.Forms.Parents.{Parents};
 ghost use Rattle.sheet.specs.Check.{headRight, countRight, within, masksRight, signaturesRight, lengthRight, parentRight, entryRight, daysRight, lockRight, childrenRight, arrayTests, sheetRefusal};
 ghost use Rattle.sheet.specs.Forms.Check.{arrayRule};
 
 // Two to the number of bits.
-fn limit(bits: u8) -> usize
+fn limit(bits: usize) -> usize
     requires { ⌜ bits ≤ 8 ⌝ }
     ensures { λ r. ⌜ r ≡ 2 ^ bits ⌝ }
 {
@@ -28,13 +28,16 @@ fn within(sheet: &[u8], mask: u8) -> bool
     requires { ⌜ signatures (now sheet) ≤ 8 ⌝ }
     ensures { λ r. ⌜ r ≡ within (now (sheet .entry)) mask ⌝ }
 {
-    field::wide(mask) < limit(field::signatures(sheet))
+    field::wide(mask) < limit(field::wide(field::signatures(sheet)))
 }
 
 // 1: the head is there.
 fn head_right(sheet: &[u8]) -> bool
     ensures { λ r. ⌜ r ≡ headRight (now (sheet .entry)) ⌝ }
 {
+    if sheet.len() < 5 {
+        return false;
+    }
     field::arrays(sheet) <= sheet.len()
 }
 
@@ -47,24 +50,41 @@ fn count_right(sheet: &[u8]) -> bool
     1 <= n && n <= 32
 }
 
+// The start masks of all parties.
+fn starts_right(sheet: &[u8]) -> bool
+    requires { ⌜ 5 ≤ length (now sheet) ⌝ }
+    requires { ⌜ arrays (now sheet) ≤ length (now sheet) ⌝ }
+    requires { ⌜ signatures (now sheet) ≤ 8 ⌝ }
+    ensures { λ r. ⌜ r ≡ allBelow (parties (now (sheet .entry))) (λ k. within (now (sheet .entry)) (startMask (now (sheet .entry)) k)) ⌝ }
+{
+    let n = field::parties(sheet);
+    let mut k: usize = 0;
+    while k < n {
+        if !within(sheet, field::start_mask(sheet, k)) {
+            return false;
+        }
+        k += 1;
+    }
+    true
+}
+
 // The masks of the head, with 1 to 8 signatures.
 fn masks_right(sheet: &[u8]) -> bool
     requires { ⌜ 5 ≤ length (now sheet) ⌝ }
+    requires { ⌜ arrays (now sheet) ≤ length (now sheet) ⌝ }
     requires { ⌜ signatures (now sheet) ≤ 8 ⌝ }
     ensures { λ r. ⌜ r ≡ masksRight (now (sheet .entry)) ⌝ }
 {
     if !within(sheet, field::secrets(sheet)) {
         return false;
     }
-    if !within(sheet, field::start_keys(sheet, 0)) {
-        return false;
-    }
-    within(sheet, field::start_keys(sheet, 1))
+    starts_right(sheet)
 }
 
 // 3: 1 to 8 signatures, and the masks of the head.
 fn signatures_right(sheet: &[u8]) -> bool
     requires { ⌜ 5 ≤ length (now sheet) ⌝ }
+    requires { ⌜ arrays (now sheet) ≤ length (now sheet) ⌝ }
     ensures { λ r. ⌜ r ≡ signaturesRight (now (sheet .entry)) ⌝ }
 {
     let s = field::signatures(sheet);
@@ -105,7 +125,7 @@ fn entry_right(sheet: &[u8], t: usize) -> bool
     requires { ⌜ t < count (now sheet) ⌝ }
     ensures { λ r. ⌜ r ≡ entryRight (now (sheet .entry)) t ⌝ }
 {
-    if 3 < field::payees(sheet, t) {
+    if limit(field::parties(sheet)) <= field::wide(field::payees(sheet, t)) {
         return false;
     }
     let required = field::required(sheet, t);

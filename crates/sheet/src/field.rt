@@ -2,14 +2,32 @@
 ghost use Prim.Native.Nat.{_<_, _≤_, _+_, _*_};
 ghost use mathlib.Core.Path.{_≡_};
 ghost use lib.ListN.{length};
-ghost use Rattle.sheet.specs.Field.{byte, count, arrays, signatures, secrets, startKeys, entry, lockPair, parent, payees, required, veil, lockType, days, opening, Sized};
-ghost use Rattle.sheet.specs.Forms.Field.{Wide, Start};
+ghost use Rattle.sheet.specs.Field.{byte, parties, count, arrays, isParty, place, partyAt, signatures, secrets, startMask, startKeys, entry, lockPair, parent, payees, required, veil, lockType, days, opening, Sized};
+ghost use Rattle.sheet.specs.Forms.Field.{Wide, Few, Start};
 
 // A byte as a size.
 pub fn wide(x: u8) -> usize
     ensures { λ r. ⌜ Wide x r ⌝ }
 {
     x as usize
+}
+
+// The byte at place i, 0 past the end.
+fn byte_or_zero(bytes: &[u8], i: usize) -> u8
+    ensures { λ r. ⌜ r ≡ byte (now (bytes .entry)) i ⌝ }
+{
+    if i < bytes.len() {
+        return bytes[i];
+    }
+    0
+}
+
+// The number of parties of a sheet.
+pub fn parties(sheet: &[u8]) -> usize
+    requires { ⌜ 1 ≤ length (now sheet) ⌝ }
+    ensures { λ r. ⌜ Few (parties (now (sheet .entry))) r ⌝ }
+{
+    2
 }
 
 // The number of transactions.
@@ -22,9 +40,42 @@ pub fn count(sheet: &[u8]) -> usize
 
 // Where the two parallel arrays start.
 pub fn arrays(sheet: &[u8]) -> usize
+    requires { ⌜ 1 ≤ length (now sheet) ⌝ }
     ensures { λ r. ⌜ Start (now (sheet .entry)) r ⌝ }
 {
-    5
+    3 + parties(sheet)
+}
+
+// A party's place among the sheet's, by its number.
+pub fn place(party: u8) -> u8
+    ensures { λ r. ⌜ r ≡ place party ⌝ }
+{
+    if party < 2 {
+        return party;
+    }
+    party - 1
+}
+
+// The number of the party in a place.
+pub fn party_at(k: usize) -> u8
+    requires { ⌜ k < 3 ⌝ }
+    ensures { λ r. ⌜ r ≡ partyAt k ⌝ }
+{
+    if k < 2 {
+        return k as u8;
+    }
+    k as u8 + 1
+}
+
+// Whether a number is a party's: not the miner's, and in a place of the sheet.
+pub fn is_party(sheet: &[u8], party: u8) -> bool
+    requires { ⌜ 1 ≤ length (now sheet) ⌝ }
+    ensures { λ r. ⌜ r ≡ isParty (now (sheet .entry)) party ⌝ }
+{
+    if party == 2 {
+        return false;
+    }
+    wide(place(party)) < parties(sheet)
 }
 
 // The number of signatures.
@@ -43,13 +94,26 @@ pub fn secrets(sheet: &[u8]) -> u8
     sheet[2]
 }
 
-// The mask that a party holds at the start.
-pub fn start_keys(sheet: &[u8], party: usize) -> u8
-    requires { ⌜ 5 ≤ length (now sheet) ⌝ }
-    requires { ⌜ party < 2 ⌝ }
+// The start mask of the party in a place.
+pub fn start_mask(sheet: &[u8], k: usize) -> u8
+    requires { ⌜ arrays (now sheet) ≤ length (now sheet) ⌝ }
+    requires { ⌜ k < parties (now sheet) ⌝ }
+    ensures { λ r. ⌜ r ≡ startMask (now (sheet .entry)) k ⌝ }
+{
+    sheet[3 + k]
+}
+
+// The mask that a party holds at the start, 0 for a number that is no party's.
+pub fn start_keys(sheet: &[u8], party: u8) -> u8
     ensures { λ r. ⌜ r ≡ startKeys (now (sheet .entry)) party ⌝ }
 {
-    sheet[3 + party]
+    if sheet.len() == 0 {
+        return 0;
+    }
+    if is_party(sheet, party) {
+        return byte_or_zero(sheet, 3 + wide(place(party)));
+    }
+    0
 }
 
 // Byte k of a transaction's four in the first array.
@@ -84,7 +148,7 @@ pub fn parent(sheet: &[u8], t: usize) -> usize
     wide(entry(sheet, t, 0))
 }
 
-// The payees: bit 0 Alice, bit 1 Bob, 0 a contract transaction.
+// The payees: a bit for each party, in its place; 0 for a contract transaction.
 pub fn payees(sheet: &[u8], t: usize) -> u8
     requires { ⌜ Sized (now sheet) ⌝ }
     requires { ⌜ t < count (now sheet) ⌝ }

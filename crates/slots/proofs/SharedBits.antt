@@ -12,7 +12,7 @@ use Rattle.laws.specs.Booleans.{pick, either}
 use Rattle.laws.specs.Mask.{bit}
 use Rattle.laws.specs.Bits.{bit-or, or-bit, union-bit}
 use Rattle.slots.specs.declared.Slot.{Slot}
-use Rattle.slots.specs.Destination.{alice, bob, contract, destinations}
+use Rattle.slots.specs.Destination.{alice, bob, carol, contract, destinations}
 use Rattle.slots.specs.Slot.{withPool, withBlock, withConfirmed, sharedFor, withShared, sharedAny, withMark}
 
 -- a mask that grows where a test holds
@@ -31,7 +31,9 @@ shared-from to m x zero i l h = either (grew (eqb to alice) (x .alice) m i h) in
 shared-from to m x (suc zero) i l h = either (grew (eqb to bob) (x .bob) m i h) inl (λ g. inr (sym (eqb-true to 1 (g .0)), g .1))
 shared-from to m x (suc (suc zero)) i l h =
     either (grew (eqb to contract) (x .contract) m i h) inl (λ g. inr (sym (eqb-true to 2 (g .0)), g .1))
-shared-from to m x (suc (suc (suc e))) i l h = absurd (omega arith)
+shared-from to m x (suc (suc (suc zero))) i l h =
+    either (grew (eqb to carol) (x .carol) m i h) inl (λ g. inr (sym (eqb-true to 3 (g .0)), g .1))
+shared-from to m x (suc (suc (suc (suc e)))) i l h = absurd (omega arith)
 
 pub shared-kept : (to m : ℕ) (x : Slot) (e i : ℕ) → e < destinations → bit (sharedFor x e) i ≡ true
     → bit (sharedFor (withShared to m x) e) i ≡ true
@@ -39,7 +41,8 @@ unfolding sharedFor withShared
 shared-kept to m x zero i l h = kept (eqb to alice) (x .alice) m i h
 shared-kept to m x (suc zero) i l h = kept (eqb to bob) (x .bob) m i h
 shared-kept to m x (suc (suc zero)) i l h = kept (eqb to contract) (x .contract) m i h
-shared-kept to m x (suc (suc (suc e))) i l h = absurd (omega arith)
+shared-kept to m x (suc (suc (suc zero))) i l h = kept (eqb to carol) (x .carol) m i h
+shared-kept to m x (suc (suc (suc (suc e)))) i l h = absurd (omega arith)
 
 -- entries and marks leave them as they are
 pub shared-pool : (entry : ℕ) (x : Slot) (e : ℕ) → sharedFor (withPool entry x) e ≡ sharedFor x e

@@ -7,11 +7,11 @@ use lib.Bits.{bitOr}
 use Rattle.laws.specs.Booleans.{pick}
 use Rattle.laws.specs.Mask.{bit, unionBelow}
 use Rattle.slots.specs.declared.Slot.{Slot}
-use Rattle.slots.specs.Destination.{alice, bob, contract, destinations}
+use Rattle.slots.specs.Destination.{alice, bob, carol, contract, destinations}
 
 -- a transaction to which nothing has happened
 abbrev pub emptySlot : Slot
-emptySlot = record { pool = 0; block = 0; confirmed = 0; madea = 0; madeb = 0; alice = 0; bob = 0; contract = 0; height = 0 }
+emptySlot = record { pool = 0; block = 0; confirmed = 0; madea = 0; madeb = 0; madec = 0; alice = 0; bob = 0; carol = 0; contract = 0; height = 0 }
 
 -- "its pool entry, block entry, confirmation": there is one (0: none)
 unfoldable pub standing : ℕ → Bool
@@ -34,8 +34,10 @@ withPool entry x =
       confirmed = x .confirmed;
       madea = x .madea;
       madeb = x .madeb;
+      madec = x .madec;
       alice = x .alice;
       bob = x .bob;
+      carol = x .carol;
       contract = x .contract;
       height = x .height;
     }
@@ -49,8 +51,10 @@ withBlock entry x =
       confirmed = x .confirmed;
       madea = x .madea;
       madeb = x .madeb;
+      madec = x .madec;
       alice = x .alice;
       bob = x .bob;
+      carol = x .carol;
       contract = x .contract;
       height = x .height;
     }
@@ -64,15 +68,17 @@ withConfirmed entry b x =
       confirmed = entry;
       madea = x .madea;
       madeb = x .madeb;
+      madec = x .madec;
       alice = x .alice;
       bob = x .bob;
+      carol = x .carol;
       contract = x .contract;
       height = b;
     }
 
 -- "signatures shared for the same transaction and destination"
 unfoldable pub sharedFor : Slot → ℕ → ℕ
-sharedFor x destination = pick (eqb destination alice) (x .alice) (pick (eqb destination bob) (x .bob) (x .contract))
+sharedFor x destination = pick (eqb destination alice) (x .alice) (pick (eqb destination bob) (x .bob) (pick (eqb destination contract) (x .contract) (x .carol)))
 
 -- "become shared": the signatures of a mask, for a destination
 unfoldable pub withShared : ℕ → ℕ → Slot → Slot
@@ -83,8 +89,10 @@ withShared destination mask x =
       confirmed = x .confirmed;
       madea = x .madea;
       madeb = x .madeb;
+      madec = x .madec;
       alice = pick (eqb destination alice) (bitOr (x .alice) mask) (x .alice);
       bob = pick (eqb destination bob) (bitOr (x .bob) mask) (x .bob);
+      carol = pick (eqb destination carol) (bitOr (x .carol) mask) (x .carol);
       contract = pick (eqb destination contract) (bitOr (x .contract) mask) (x .contract);
       height = x .height;
     }
@@ -95,7 +103,7 @@ sharedAny x = unionBelow destinations (sharedFor x)
 
 -- "the shares it has made": a party's, a bit for each destination
 unfoldable pub marksOf : Slot → ℕ → ℕ
-marksOf x party = pick (eqb party alice) (x .madea) (x .madeb)
+marksOf x party = pick (eqb party alice) (x .madea) (pick (eqb party bob) (x .madeb) (pick (eqb party carol) (x .madec) 0))
 
 -- "this party has shared this before for this destination"
 unfoldable pub markedFor : Slot → ℕ → ℕ → Bool
@@ -110,8 +118,10 @@ withMark party destination x =
       confirmed = x .confirmed;
       madea = pick (eqb party alice) (bitOr (x .madea) (2 ^ destination)) (x .madea);
       madeb = pick (eqb party bob) (bitOr (x .madeb) (2 ^ destination)) (x .madeb);
+      madec = pick (eqb party carol) (bitOr (x .madec) (2 ^ destination)) (x .madec);
       alice = x .alice;
       bob = x .bob;
+      carol = x .carol;
       contract = x .contract;
       height = x .height;
     }

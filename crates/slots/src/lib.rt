@@ -12,11 +12,12 @@ pub mod party;
 mod siblings;
 pub mod signatures;
 
-// "destination (0 Alice, 1 Bob, 2 contract)"
+// "destination (0 Alice, 1 Bob, 2 contract)", and 3 for a third party, Carol
 pub enum Destination {
     Alice,
     Bob,
     Contract,
+    Carol,
 }
 
 // "a step is one of seven kinds": each with its party, its transaction byte and its destination
@@ -31,18 +32,20 @@ pub enum Step {
 }
 
 // "for each of 32 transactions, its pool entry, block entry, confirmation and shared knowledge", and "the shares it has made".
-// Ten bytes, without padding.
+// Twelve bytes, without padding.
 pub struct Slot {
     // pool entry, block entry and confirmation: 0 none, else the destination + 1
     pub pool: u8,
     pub block: u8,
     pub confirmed: u8,
-    // the shares made by Alice and by Bob: a bit for each destination
+    // the shares made by Alice, by Bob and by Carol: a bit for each destination
     pub madea: u8,
     pub madeb: u8,
+    pub madec: u8,
     // the signatures shared for each destination
     pub alice: u8,
     pub bob: u8,
+    pub carol: u8,
     pub contract: u8,
     // the block of the confirmation, 0 while there is none
     pub height: u16,
@@ -84,7 +87,10 @@ impl Slot {
         if destination == 1 {
             return self.bob;
         }
-        self.contract
+        if destination == 2 {
+            return self.contract;
+        }
+        self.carol
     }
 
     // The slot with the signatures of a mask shared for a destination.
@@ -101,6 +107,10 @@ impl Slot {
         }
         if destination == 2 {
             self.contract = self.contract | mask;
+            return self;
+        }
+        if destination == 3 {
+            self.carol = self.carol | mask;
         }
         self
     }
@@ -109,7 +119,7 @@ impl Slot {
     pub fn shared_any(self) -> u8
         ensures { λ r. ⌜ r ≡ sharedAny self ⌝ }
     {
-        self.alice | self.bob | self.contract
+        self.alice | self.bob | self.contract | self.carol
     }
 
     // A party's share marks.
@@ -119,12 +129,18 @@ impl Slot {
         if party == 0 {
             return self.madea;
         }
-        self.madeb
+        if party == 1 {
+            return self.madeb;
+        }
+        if party == 3 {
+            return self.madec;
+        }
+        0
     }
 
     // Whether a party has shared the transaction for a destination.
     pub fn marked_for(self, party: u8, destination: u8) -> bool
-        requires { ⌜ destination < 3 ⌝ }
+        requires { ⌜ destination < 4 ⌝ }
         ensures { λ r. ⌜ r ≡ markedFor self party destination ⌝ }
     {
         signatures::has(self.marks(party), destination)
@@ -132,15 +148,20 @@ impl Slot {
 
     // The slot with one more share mark.
     pub fn with_mark(mut self, party: u8, destination: u8) -> Slot
-        requires { ⌜ party < 2 ⌝ }
-        requires { ⌜ destination < 3 ⌝ }
+        requires { ⌜ destination < 4 ⌝ }
         ensures { λ r. ⌜ r ≡ withMark party destination self ⌝ }
     {
         if party == 0 {
             self.madea = self.madea | (1u8 << destination);
             return self;
         }
-        self.madeb = self.madeb | (1u8 << destination);
+        if party == 1 {
+            self.madeb = self.madeb | (1u8 << destination);
+            return self;
+        }
+        if party == 3 {
+            self.madec = self.madec | (1u8 << destination);
+        }
         self
     }
 }

@@ -20,7 +20,7 @@ module _ (s u : List ℕ) where
     pub share-listed : x ≡ Share party t to → fieldsRight s u x ≡ true → (t ≡ 255 → ⊥) → t < count s
     unfolding fieldsRight firstShareFields
     share-listed e h other =
-        let w = and-parts (isParty party) _ (rw e at h) in
+        let w = and-parts (isParty s party) _ (rw e at h) in
         either (or-parts (ltb t (count s) && sharesTo s t (destinationNumber to)) _ (w .1))
         (λ y. ltb-true t (count s) (and-parts (ltb t (count s)) _ y .0))
         (λ y. absurd (other (eqb-true t noTransaction (and-parts (eqb t noTransaction) _ y .0))))
@@ -28,17 +28,17 @@ module _ (s u : List ℕ) where
     pub give-listed : x ≡ Give party t to → signatures s ≤ 8 → fieldsRight s u x ≡ true → t < 8
     unfolding fieldsRight
     give-listed e few h =
-        let w = and-parts (isParty party) _ (rw e at h) in
+        let w = and-parts (isParty s party) _ (rw e at h) in
         let i : t < signatures s = ltb-true t (signatures s) (and-parts (ltb t (signatures s)) _ (w .1) .0) in
         omega (arith, i, few)
 
     pub pool-listed : x ≡ SendToPool party t to → fieldsRight s u x ≡ true → t < count s
     unfolding fieldsRight
-    pool-listed e h = ltb-true t (count s) (and-parts (ltb t (count s)) _ (and-parts (isParty party) _ (rw e at h) .1) .0)
+    pool-listed e h = ltb-true t (count s) (and-parts (ltb t (count s)) _ (and-parts (isParty s party) _ (rw e at h) .1) .0)
 
     pub miner-listed : x ≡ HandToMiner party t to → fieldsRight s u x ≡ true → t < count s
     unfolding fieldsRight
-    miner-listed e h = ltb-true t (count s) (and-parts (ltb t (count s)) _ (and-parts (isParty party) _ (rw e at h) .1) .0)
+    miner-listed e h = ltb-true t (count s) (and-parts (ltb t (count s)) _ (and-parts (isParty s party) _ (rw e at h) .1) .0)
 
     pub include-listed : x ≡ Include party t to → fieldsRight s u x ≡ true → t < count s
     unfolding fieldsRight

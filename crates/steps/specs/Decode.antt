@@ -8,7 +8,7 @@ use Rattle.laws.specs.Booleans.{pick}
 use Rattle.sheet.specs.Field.{count, signatures}
 use Rattle.sheet.specs.Setup.{conduct}
 use Rattle.slots.specs.declared.Destination.{Destination}
-use Rattle.slots.specs.declared.Destination.the-variants.{Alice, Bob, Contract}
+use Rattle.slots.specs.declared.Destination.the-variants.{Alice, Bob, Contract, Carol}
 use Rattle.slots.specs.declared.Step.{Step}
 use Rattle.slots.specs.declared.Step.the-variants.{Share, Give, SendToPool, HandToMiner, Include, Mine, Bump}
 use Rattle.slots.specs.Destination.{miner, contract, destinationNumber, isParty, isPayee, isContract}
@@ -27,23 +27,23 @@ sendsTo s party t destination =
 -- "Contract transactions go to 2", and of a share: "A paying one names one of its payees."
 unfoldable pub sharesTo : List ℕ → ℕ → ℕ → Bool
 sharesTo s t destination =
-    pick (isContract s t) (eqb destination contract) (isParty destination && isPayee s t destination)
+    pick (isContract s t) (eqb destination contract) (isParty s destination && isPayee s t destination)
 
 -- "receiver (the destination, the other party)"
-unfoldable pub isOther : ℕ → ℕ → Bool
-isOther party destination = isParty destination && not (eqb destination party)
+unfoldable pub isOther : List ℕ → ℕ → ℕ → Bool
+isOther s party destination = isParty s destination && not (eqb destination party)
 
 -- "255 is right only for kind 6, always, and for kind 1 under conduct 1 and 2", "isn't 2 beside 255"
 unfoldable pub firstShareFields : List ℕ → ℕ → ℕ → Bool
 firstShareFields u t destination = eqb t noTransaction && (not (eqb (conduct u) 0) && eqb destination contract)
 
--- "Kinds 1 to 4 have party 0 or 1; kinds 5, 6, 7 have party 2 and destination 2. Outside kind 2 a transaction is below n"
+-- "Kinds 1 to 4 have party 0 or 1": one of the sheet's; "kinds 5, 6, 7 have party 2 and destination 2. Outside kind 2 a transaction is below n"
 unfoldable pub fieldsRight : List ℕ → List ℕ → Step → Bool
 fieldsRight s u (Share party t to) =
-    isParty party && ((ltb t (count s) && sharesTo s t (destinationNumber to)) || firstShareFields u t (destinationNumber to))
-fieldsRight s u (Give party i to) = isParty party && (ltb i (signatures s) && isOther party (destinationNumber to))
-fieldsRight s u (SendToPool party t to) = isParty party && (ltb t (count s) && sendsTo s party t (destinationNumber to))
-fieldsRight s u (HandToMiner party t to) = isParty party && (ltb t (count s) && sendsTo s party t (destinationNumber to))
+    isParty s party && ((ltb t (count s) && sharesTo s t (destinationNumber to)) || firstShareFields u t (destinationNumber to))
+fieldsRight s u (Give party i to) = isParty s party && (ltb i (signatures s) && isOther s party (destinationNumber to))
+fieldsRight s u (SendToPool party t to) = isParty s party && (ltb t (count s) && sendsTo s party t (destinationNumber to))
+fieldsRight s u (HandToMiner party t to) = isParty s party && (ltb t (count s) && sendsTo s party t (destinationNumber to))
 fieldsRight s u (Include party t to) = eqb party miner && (ltb t (count s) && eqb (destinationNumber to) contract)
 fieldsRight s u (Mine party t to) = eqb party miner && (eqb t noTransaction && eqb (destinationNumber to) contract)
 fieldsRight s u (Bump party t to) = eqb party miner && (ltb t (count s) && eqb (destinationNumber to) contract)
@@ -60,13 +60,14 @@ ofKind kind party t to =
     (pick (eqb kind 7) (Read (Bump party t to))
     Refused))))))
 
--- "and its destination one of three"
+-- "and its destination one of three", or a third party's, which the range check refuses on a sheet that has none
 unfoldable pub spelled : ℕ → ℕ → ℕ → ℕ → Decoded
 spelled kind party t destination =
     pick (eqb destination 0) (ofKind kind party t Alice)
     (pick (eqb destination 1) (ofKind kind party t Bob)
     (pick (eqb destination 2) (ofKind kind party t Contract)
-    Refused))
+    (pick (eqb destination 3) (ofKind kind party t Carol)
+    Refused)))
 
 -- 11 "step field out of range for its kind"
 unfoldable pub rangeChecked : List ℕ → List ℕ → Decoded → Decoded

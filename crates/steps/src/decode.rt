@@ -37,6 +37,7 @@ fn spelled(kind: u8, party: u8, t: u8, destination: u8) -> Decoded
         0 => of_kind(kind, party, t, Destination::Alice),
         1 => of_kind(kind, party, t, Destination::Bob),
         2 => of_kind(kind, party, t, Destination::Contract),
+        3 => of_kind(kind, party, t, Destination::Carol),
         _ => Decoded::Refused,
     }
 }
@@ -45,7 +46,6 @@ fn spelled(kind: u8, party: u8, t: u8, destination: u8) -> Decoded
 fn sends_to(sheet: &[u8], party: u8, t: usize, destination: u8) -> bool
     requires { ⌜ Sized (now sheet) ⌝ }
     requires { ⌜ t < count (now sheet) ⌝ }
-    requires { ⌜ party < 2 ⌝ }
     ensures { λ r. ⌜ r ≡ sendsTo (now (sheet .entry)) party t destination ⌝ }
 {
     if party::is_contract(sheet, t) {
@@ -66,17 +66,18 @@ fn shares_to(sheet: &[u8], t: usize, destination: u8) -> bool
     if party::is_contract(sheet, t) {
         return destination == 2;
     }
-    if destination < 2 {
+    if sheet::field::is_party(sheet, destination) {
         return party::is_payee(sheet, t, destination);
     }
     false
 }
 
-// Whether a destination is the other party.
-fn is_other(party: u8, destination: u8) -> bool
-    ensures { λ r. ⌜ r ≡ isOther party destination ⌝ }
+// Whether a destination is another party.
+pub fn is_other(sheet: &[u8], party: u8, destination: u8) -> bool
+    requires { ⌜ Sized (now sheet) ⌝ }
+    ensures { λ r. ⌜ r ≡ isOther (now (sheet .entry)) party destination ⌝ }
 {
-    if destination < 2 {
+    if sheet::field::is_party(sheet, destination) {
         return destination != party;
     }
     false
@@ -111,7 +112,6 @@ fn listed_share(sheet: &[u8], t: u8, destination: u8) -> bool
 // Whether t is of the sheet and may be sent by a party to a destination.
 fn listed_send(sheet: &[u8], party: u8, t: u8, destination: u8) -> bool
     requires { ⌜ Sized (now sheet) ⌝ }
-    requires { ⌜ party < 2 ⌝ }
     ensures { λ r. ⌜ r ≡ (ltb t (count (now (sheet .entry))) && sendsTo (now (sheet .entry)) party t destination) ⌝ }
 {
     let k = sheet::field::wide(t);
@@ -124,9 +124,9 @@ fn listed_send(sheet: &[u8], party: u8, t: u8, destination: u8) -> bool
 // The fields of kind 1.
 fn share_fields(sheet: &[u8], setup: &[u8], party: u8, t: u8, destination: u8) -> bool
     requires { ⌜ Fit (now sheet) (now setup) ⌝ }
-    ensures { λ r. ⌜ r ≡ (isParty party && ((ltb t (count (now (sheet .entry))) && sharesTo (now (sheet .entry)) t destination) || firstShareFields (now (setup .entry)) t destination)) ⌝ }
+    ensures { λ r. ⌜ r ≡ (isParty (now (sheet .entry)) party && ((ltb t (count (now (sheet .entry))) && sharesTo (now (sheet .entry)) t destination) || firstShareFields (now (setup .entry)) t destination)) ⌝ }
 {
-    if 2 <= party {
+    if !sheet::field::is_party(sheet, party) {
         return false;
     }
     if listed_share(sheet, t, destination) {
@@ -138,13 +138,13 @@ fn share_fields(sheet: &[u8], setup: &[u8], party: u8, t: u8, destination: u8) -
 // The fields of kind 2.
 fn give_fields(sheet: &[u8], party: u8, i: u8, destination: u8) -> bool
     requires { ⌜ Sized (now sheet) ⌝ }
-    ensures { λ r. ⌜ r ≡ (isParty party && (ltb i (signatures (now (sheet .entry))) && isOther party destination)) ⌝ }
+    ensures { λ r. ⌜ r ≡ (isParty (now (sheet .entry)) party && (ltb i (signatures (now (sheet .entry))) && isOther (now (sheet .entry)) party destination)) ⌝ }
 {
-    if 2 <= party {
+    if !sheet::field::is_party(sheet, party) {
         return false;
     }
     if i < sheet::field::signatures(sheet) {
-        return is_other(party, destination);
+        return is_other(sheet, party, destination);
     }
     false
 }
@@ -152,9 +152,9 @@ fn give_fields(sheet: &[u8], party: u8, i: u8, destination: u8) -> bool
 // The fields of kinds 3 and 4.
 fn send_fields(sheet: &[u8], party: u8, t: u8, destination: u8) -> bool
     requires { ⌜ Sized (now sheet) ⌝ }
-    ensures { λ r. ⌜ r ≡ (isParty party && (ltb t (count (now (sheet .entry))) && sendsTo (now (sheet .entry)) party t destination)) ⌝ }
+    ensures { λ r. ⌜ r ≡ (isParty (now (sheet .entry)) party && (ltb t (count (now (sheet .entry))) && sendsTo (now (sheet .entry)) party t destination)) ⌝ }
 {
-    if 2 <= party {
+    if !sheet::field::is_party(sheet, party) {
         return false;
     }
     listed_send(sheet, party, t, destination)

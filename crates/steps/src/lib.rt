@@ -31,8 +31,8 @@ pub struct View {
     pub confirmed: u32,
     pub mined: u16,
     pub shared: u8,
-    pub alice: u8,
-    pub bob: u8,
+    // by party number, as in a position
+    pub keys: [u8; 6],
 }
 
 // What conduct reads off a position, once for each step.
@@ -67,21 +67,21 @@ impl View {
         requires { ⌜ k < 32 ⌝ }
         ensures { λ r. ⌜ r ≡ viewWith self k x ⌝ }
     {
+        let keys = self.keys;
         View {
             pool: sheet::set::join(self.pool, 0 < x.pool, k),
             block: sheet::set::join(self.block, 0 < x.block, k),
             confirmed: sheet::set::join(self.confirmed, 0 < x.height, k),
             mined: self.mined,
             shared: self.shared | x.shared_any(),
-            alice: self.alice,
-            bob: self.bob,
+            keys,
         }
     }
 
     // The view after a step that changed no other slot than k's, which is x then, nor took an entry away.
-    pub fn after(self, k: usize, x: Slot, mined: u16, alice: u8, bob: u8) -> View
+    pub fn after(self, k: usize, x: Slot, mined: u16, keys: [u8; 6]) -> View
         requires { ⌜ k < 32 ⌝ }
-        ensures { λ r. ⌜ r ≡ viewAfter self k x mined alice bob ⌝ }
+        ensures { λ r. ⌜ r ≡ viewAfter self k x mined keys ⌝ }
     {
         let w = self.add(k, x);
         View {
@@ -90,8 +90,7 @@ impl View {
             confirmed: w.confirmed,
             mined,
             shared: w.shared,
-            alice,
-            bob,
+            keys,
         }
     }
 }

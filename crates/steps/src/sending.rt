@@ -40,10 +40,11 @@ impl View {
     pub fn keys(self, party: u8) -> u8
         ensures { λ r. ⌜ r ≡ keysIn self party ⌝ }
     {
-        if party == 0 {
-            return self.alice;
+        let k = sheet::field::wide(party);
+        if k < 6 {
+            return self.keys[k];
         }
-        self.bob
+        0
     }
 
     // What a sender has of a transaction whose slot is x.
@@ -180,7 +181,7 @@ pub fn miner_refusal(
 pub fn sent_slot(sheet: &[u8], t: usize, destination: u8, x: Slot) -> Slot
     requires { ⌜ Sized (now sheet) ⌝ }
     requires { ⌜ t < count (now sheet) ⌝ }
-    requires { ⌜ destination < 3 ⌝ }
+    requires { ⌜ destination < 4 ⌝ }
     ensures { λ r. ⌜ r ≡ withPool (entryFor destination) (withShared destination (exposedMask (now (sheet .entry)) t) x) ⌝ }
 {
     let mask = signatures::exposed_mask(sheet, t);
@@ -201,7 +202,6 @@ pub fn pays(
 ) -> bool
     requires { ⌜ Fit (now sheet) (now setup) ⌝ }
     requires { ⌜ t < count (now sheet) ⌝ }
-    requires { ⌜ party < 2 ⌝ }
     ensures { λ r. ⌜ r ≡ paysIn allowed (now (sheet .entry)) (now (setup .entry)) view x since party t ⌝ }
 {
     if !party::is_payee(sheet, t, party) {

@@ -10,7 +10,7 @@ ghost use Rattle.steps.specs.Forms.Sharing.{shareMetIn, giveMetIn};
 pub fn share_met(sheet: &[u8], held: u8, x: Slot, party: u8, t: usize, destination: u8) -> bool
     requires { ⌜ Sized (now sheet) ⌝ }
     requires { ⌜ t < count (now sheet) ⌝ }
-    requires { ⌜ destination < 3 ⌝ }
+    requires { ⌜ destination < 4 ⌝ }
     ensures { λ r. ⌜ r ≡ shareMetIn (now (sheet .entry)) held x party t destination ⌝ }
 {
     if x.marked_for(party, destination) {

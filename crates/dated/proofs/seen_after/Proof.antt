@@ -31,7 +31,7 @@ after-requires c κs = search needs
 returns-2 : tie.Need-returns-2
 unfolding seenAfter slot
 returns-2 c =
-    rw (sym (c .before .before .before .before .changes-many .ensures) ∙ c .before .before .before .if1 .left, ← (c .before .before .changed-place .ensures .0)) (c .after .ensures)
+    rw (sym (c .before .before .before .before .before .changes-many .ensures) ∙ c .before .before .before .before .if1 .left, ← (c .before .before .before .changed-place .ensures .0)) (c .after .ensures)
 
 pub seen-after-spec : {M : Type 1} → statement M
 seen-after-spec =

@@ -7,7 +7,7 @@ use lib.Dec.{eqb, leb}
 use Rattle.laws.specs.Booleans.{pick}
 use Rattle.laws.specs.Below.{anyBelow}
 use Rattle.laws.specs.Mask.{bit}
-use Rattle.sheet.specs.Field.{parties}
+use Rattle.sheet.specs.Field.{parties, partyAt}
 use Rattle.sheet.specs.LockHeight.{never, lockHeight}
 use Rattle.slots.specs.declared.Slot.{Slot}
 use Rattle.slots.specs.Destination.{contract, isPayee, isContract}
@@ -28,7 +28,7 @@ atHandIn s v x t party =
 unfoldable pub opensIn : List ℕ → ℕ → View → Slot → ℕ → ℕ → Bool
 opensIn s d v x since t =
     noConflict s (bit (v .confirmed)) t
-    && (hasParent s (bit (v .confirmed)) t && (leb (lockHeight s d (λ k. since) t) (v .mined) && anyBelow parties (atHandIn s v x t)))
+    && (hasParent s (bit (v .confirmed)) t && (leb (lockHeight s d (λ k. since) t) (v .mined) && anyBelow (parties s) (λ k. atHandIn s v x t (partyAt k))))
 
 -- the count c of t once this is seen
 unfoldable pub firstOpenIn : List ℕ → ℕ → View → Slot → ℕ → ℕ → ℕ → ℕ

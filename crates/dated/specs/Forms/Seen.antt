@@ -16,4 +16,4 @@ unfoldable pub seenAfter : List ℕ → View → Position → ℕ → ℕ → Vi
 seenAfter s v q kind t =
     pick (changesMany v kind t)
     (viewBelow (count s) q)
-    (viewAfter v (changedPlace kind t) (slot q (changedPlace kind t)) (q .mined) (q .alice) (q .bob))
+    (viewAfter v (changedPlace kind t) (slot q (changedPlace kind t)) (q .mined) (q .keys))

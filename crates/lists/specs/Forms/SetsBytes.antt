@@ -1,19 +1,20 @@
--- The list of open steps, from the three actors' sets.
+-- The list of open steps, from the actors' sets.
 -- Assumes nothing.
 use Prim.Native.Nat.{ℕ, _+_}
 use mathlib.Core.List.{List, _++_}
-use Rattle.slots.specs.Destination.{alice, bob, miner}
+use Rattle.slots.specs.Destination.{alice, bob, carol, miner}
 use Rattle.output.specs.Forms.Emitted.{actorBytes, openCount}
 use Rattle.queries.specs.declared.OpenSets.{OpenSets}
 
--- ".. then Bob's in the part that follows, then the miner's"
-unfoldable pub laterBytes : OpenSets → OpenSets → List ℕ
-laterBytes b m = actorBytes (b .below) (b .last) bob ++ actorBytes (m .below) (m .last) miner
+-- an actor's steps, then another's "in the part that follows"
+unfoldable pub twoBytes : OpenSets → ℕ → OpenSets → ℕ → List ℕ
+twoBytes x a y b = actorBytes (x .below) (x .last) a ++ actorBytes (y .below) (y .last) b
 
--- "List writes Alice's steps first .."
-unfoldable pub setsBytes : OpenSets → OpenSets → OpenSets → List ℕ
-setsBytes a b m = actorBytes (a .below) (a .last) alice ++ laterBytes b m
+-- "List writes Alice's steps first, then Bob's in the part that follows, then the miner's"; a third party stands before the miner
+unfoldable pub setsBytes : OpenSets → OpenSets → OpenSets → OpenSets → List ℕ
+setsBytes a b c m = twoBytes a alice b bob ++ twoBytes c carol m miner
 
 -- the number of steps in the sets
-unfoldable pub setsCount : OpenSets → OpenSets → OpenSets → ℕ
-setsCount a b m = openCount (a .below) (a .last) + openCount (b .below) (b .last) + openCount (m .below) (m .last)
+unfoldable pub setsCount : OpenSets → OpenSets → OpenSets → OpenSets → ℕ
+setsCount a b c m =
+    openCount (a .below) (a .last) + openCount (b .below) (b .last) + openCount (c .below) (c .last) + openCount (m .below) (m .last)

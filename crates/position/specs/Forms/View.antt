@@ -20,8 +20,7 @@ viewBelow n p =
       confirmed = setBelow n (isConfirmed p);
       mined = p .mined;
       shared = unionBelow n (λ k. sharedAny (slot p k));
-      alice = p .alice;
-      bob = p .bob;
+      keys = p .keys;
     }
 
 -- the parent's block, as a loop over the slots reads it

@@ -11,7 +11,8 @@ use Rattle.laws.specs.Mask.{bit}
 use Rattle.laws.specs.Sets.{setBelow}
 use Rattle.sheet.specs.Refusal.{accepted}
 use Rattle.sheet.specs.Field.{count}
-use Rattle.slots.specs.Destination.{destinations, isParty}
+use Rattle.slots.specs.Destination.{destinations, placeOf, isParty}
+use Rattle.output.specs.Forms.Emitted.{places}
 use Rattle.readings.specs.declared.Sight.{Sight}
 use Rattle.steps.specs.declared.Decoded.{Decoded}
 use Rattle.steps.specs.declared.Decoded.the-variants.{Read, Refused}
@@ -36,28 +37,24 @@ isOpenRead s u p Refused = false
 unfoldable pub isOpenStep : List ℕ → List ℕ → Position → ℕ → ℕ → ℕ → ℕ → Bool
 isOpenStep s u p kind actor t d = isOpenRead s u p (decode s u kind actor t d)
 
--- The 21 sets `below` and the set `last` are an actor's open steps: the set at place 3 * k + d is that of kind k + 1 and destination d,
--- with bit t for transaction byte t; bit 3 * k + d of `last` stands for transaction byte 255.
+-- The sets `below` and the set `last` are an actor's open steps: the set at place `placeOf k d` is that of kind k + 1 and destination d,
+-- with bit t for transaction byte t; bit `placeOf k d` of `last` stands for transaction byte 255.
 pub record Opens (s u : List ℕ) (p : Position) (actor : ℕ) (below : List ℕ) (last : ℕ) : Type 0 where
   pub lower : (k d t : ℕ) → k < kinds → d < destinations → t < slotCount
-      → bit (getD below (3 * k + d) 0) t ≡ isOpenStep s u p (k + 1) actor t d
-  pub top : (k d : ℕ) → k < kinds → d < destinations → bit last (3 * k + d) ≡ isOpenStep s u p (k + 1) actor noTransaction d
+      → bit (getD below (placeOf k d) 0) t ≡ isOpenStep s u p (k + 1) actor t d
+  pub top : (k d : ℕ) → k < kinds → d < destinations → bit last (placeOf k d) ≡ isOpenStep s u p (k + 1) actor noTransaction d
 
 -- the transaction bytes below 32 with which a step of this kind and destination is open
 unfoldable pub openSet : List ℕ → List ℕ → Position → ℕ → ℕ → ℕ → ℕ
 openSet s u p actor kind d = setBelow slotCount (λ t. isOpenStep s u p kind actor t d)
 
--- the places of the kinds and destinations, of which there are 21, 3 for each kind
-abbrev pub places : ℕ
-places = 21
-
 -- the sets by place
 unfoldable pub belowSets : List ℕ → List ℕ → Position → ℕ → List ℕ
-belowSets s u p actor = rewriteFirst places (λ i x. openSet s u p actor (i / 3 + 1) (i % 3)) (replicate places 0)
+belowSets s u p actor = rewriteFirst places (λ i x. openSet s u p actor (i / destinations + 1) (i % destinations)) (replicate places 0)
 
 -- the places at which the step with transaction byte 255 is open
 unfoldable pub lastSet : List ℕ → List ℕ → Position → ℕ → ℕ
-lastSet s u p actor = setBelow places (λ i. isOpenStep s u p (i / 3 + 1) actor noTransaction (i % 3))
+lastSet s u p actor = setBelow places (λ i. isOpenStep s u p (i / destinations + 1) actor noTransaction (i % destinations))
 
 -- both
 unfoldable pub openSets : List ℕ → List ℕ → Position → ℕ → OpenSets
@@ -65,7 +62,7 @@ openSets s u p actor = record { below = belowSets s u p actor; last = lastSet s 
 
 -- a careful party that can send a transaction that pays it, and so "sends no contract one"
 unfoldable pub keptBack : List ℕ → List ℕ → Position → ℕ → Bool
-keptBack s u p actor = isParty actor && (isCareful u && canPay s u p actor)
+keptBack s u p actor = isParty s actor && (isCareful u && canPay s u p actor)
 
 -- what is the same for all steps of an actor
 unfoldable pub sightOf : List ℕ → List ℕ → Position → ℕ → Sight

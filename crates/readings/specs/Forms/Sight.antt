@@ -1,6 +1,6 @@
 -- The refusal of any step over what is the same for all steps of an actor, the slot x of the step's transaction and `since`, its parent's block.
 -- Assumes nothing.
-use Prim.Native.Nat.{ℕ, _-_}
+use Prim.Native.Nat.{ℕ}
 use mathlib.Core.Bool.{Bool, true, false, not, _&&_, _||_}
 use mathlib.Core.List.{List}
 use lib.Bits.{bitAnd}
@@ -14,13 +14,13 @@ use Rattle.sheet.specs.Setup.{perDay, conduct, stealth}
 use Rattle.slots.specs.declared.Slot.{Slot}
 use Rattle.slots.specs.declared.Step.{Step}
 use Rattle.slots.specs.declared.Step.the-variants.{Share, Give, SendToPool, HandToMiner, Include, Mine, Bump}
-use Rattle.slots.specs.Destination.{alice, miner, contract, destinationNumber, isParty, isPayee, isContract}
+use Rattle.slots.specs.Destination.{alice, bob, carol, miner, contract, placeOf, destinationNumber, isParty, isPayee, isContract}
 use Rattle.readings.specs.declared.Sight.{Sight}
 use Rattle.readings.specs.declared.Goes.{Goes}
 use Rattle.steps.specs.declared.Outlook.{Outlook}
 use Rattle.steps.specs.declared.Decoded.{Decoded}
 use Rattle.steps.specs.declared.Decoded.the-variants.{Read, Refused}
-use Rattle.steps.specs.Decode.{noTransaction}
+use Rattle.steps.specs.Decode.{noTransaction, isOther}
 use Rattle.steps.specs.Forms.View.{keysIn}
 use Rattle.steps.specs.Forms.Conduct.{shareAllowedIn, giveAllowedIn, sendHeldIn, conductTests}
 use Rattle.steps.specs.Forms.Sharing.{shareMetIn, giveMetIn}
@@ -54,16 +54,16 @@ isOpenIn s u g x since Refused = false
 -- ---- the same by numbers, for a transaction of the sheet
 
 -- a party's step of this kind may go to this destination
-unfoldable pub partyMay : ℕ → ℕ → ℕ → Bool
-partyMay kind actor destination =
+unfoldable pub partyMay : List ℕ → ℕ → ℕ → ℕ → Bool
+partyMay s kind actor destination =
     pick (eqb kind 1) true
-    (pick (eqb kind 2) (eqb destination (1 - actor))
+    (pick (eqb kind 2) (isOther s actor destination)
     ((eqb kind 3 || eqb kind 4) && (eqb destination contract || eqb destination actor)))
 
 -- some step of this kind, actor and destination may have right fields with a transaction byte other than 255
-unfoldable pub mayStand : ℕ → ℕ → ℕ → Bool
-mayStand kind actor destination =
-    pick (isParty actor) (partyMay kind actor destination) (eqb actor miner && ((eqb kind 5 || eqb kind 7) && eqb destination contract))
+unfoldable pub mayStand : List ℕ → ℕ → ℕ → ℕ → Bool
+mayStand s kind actor destination =
+    pick (isParty s actor) (partyMay s kind actor destination) (eqb actor miner && ((eqb kind 5 || eqb kind 7) && eqb destination contract))
 
 -- a contract transaction goes to the contract, a paying one to its payees
 unfoldable pub goesTo : List ℕ → ℕ → ℕ → Bool
@@ -87,12 +87,12 @@ goesSet s d = setBelow (count s) (λ t. goesTo s t d)
 -- by destination, for a party
 unfoldable pub goesFor : List ℕ → ℕ → Goes
 goesFor s actor =
-    pick (isParty actor)
-    (record { alice = goesSet s 0; bob = goesSet s 1; contract = goesSet s 2 })
-    (record { alice = 0; bob = 0; contract = 0 })
+    pick (isParty s actor)
+    (record { alice = goesSet s alice; bob = goesSet s bob; carol = goesSet s carol; contract = goesSet s contract })
+    (record { alice = 0; bob = 0; carol = 0; contract = 0 })
 
 unfoldable pub goesOf : Goes → ℕ → ℕ
-goesOf w d = pick (eqb d 0) (w .alice) (pick (eqb d 1) (w .bob) (w .contract))
+goesOf w d = pick (eqb d alice) (w .alice) (pick (eqb d bob) (w .bob) (pick (eqb d carol) (w .carol) (w .contract)))
 
 -- all of 32
 abbrev pub full : ℕ
@@ -133,9 +133,10 @@ sharesFirst u g actor =
 unfoldable pub minesIn : Sight → ℕ → Bool
 minesIn g actor = eqb actor miner && eqb (firstFailing (mineTestsIn (g .view) (g .owed))) accepted
 
--- the places of the steps with transaction byte 255: 2 for the first shares, 17 for kind 6
-unfoldable pub lastIn : List ℕ → Sight → ℕ → ℕ
-lastIn u g actor = pick (isParty actor) (joined 0 (sharesFirst u g actor) 2) (joined 0 (minesIn g actor) 17)
+-- the places of the steps with transaction byte 255: the first shares, and kind 6
+unfoldable pub lastIn : List ℕ → List ℕ → Sight → ℕ → ℕ
+lastIn s u g actor =
+    pick (isParty s actor) (joined 0 (sharesFirst u g actor) (placeOf 0 contract)) (joined 0 (minesIn g actor) (placeOf 5 contract))
 
 -- the transaction bytes other than 255 that a kind's steps may have are below this
 unfoldable pub limit : List ℕ → ℕ → ℕ

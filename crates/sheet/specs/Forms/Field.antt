@@ -10,6 +10,12 @@ pub record Wide (v r : ℕ) : Type 0 where
   pub is : r ≡ v
   pub small : r < 256
 
+-- r is v, a number of parties
+pub record Few (v r : ℕ) : Type 0 where
+  pub is : r ≡ v
+  pub some : 2 ≤ r
+  pub few : r ≤ 3
+
 -- r is where the arrays start, behind a head of at least five bytes
 pub record Start (s : List ℕ) (r : ℕ) : Type 0 where
   pub is : r ≡ arrays s

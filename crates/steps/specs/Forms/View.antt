@@ -3,12 +3,11 @@
 use Prim.Native.Nat.{ℕ}
 use mathlib.Core.List.{List}
 use lib.Bits.{bitAnd, bitOr}
-use lib.Dec.{eqb, ltb}
-use Rattle.laws.specs.Booleans.{pick}
+use lib.Dec.{ltb}
+use lib.ListN.{getD}
 use Rattle.laws.specs.Sets.{joined}
 use Rattle.sheet.specs.Field.{secrets}
 use Rattle.slots.specs.declared.Slot.{Slot}
-use Rattle.slots.specs.Destination.{alice}
 use Rattle.slots.specs.Slot.{standing, sharedFor, sharedAny}
 use Rattle.slots.specs.Signatures.{senderMask}
 use Rattle.steps.specs.declared.View.{View}
@@ -22,21 +21,19 @@ viewWith v k x =
       confirmed = joined (v .confirmed) (ltb 0 (x .height)) k;
       mined = v .mined;
       shared = bitOr (v .shared) (sharedAny x);
-      alice = v .alice;
-      bob = v .bob;
+      keys = v .keys;
     }
 
 -- after a step that changed no other slot than k's, which is x then, nor took an entry away: with the blocks mined and the keys held then
-unfoldable pub viewAfter : View → ℕ → Slot → ℕ → ℕ → ℕ → View
-viewAfter v k x mined alice bob =
+unfoldable pub viewAfter : View → ℕ → Slot → ℕ → List ℕ → View
+viewAfter v k x mined keys =
     record {
       pool = joined (v .pool) (standing (x .pool)) k;
       block = joined (v .block) (standing (x .block)) k;
       confirmed = joined (v .confirmed) (ltb 0 (x .height)) k;
       mined = mined;
       shared = bitOr (v .shared) (sharedAny x);
-      alice = alice;
-      bob = bob;
+      keys = keys;
     }
 
 -- "in pool or confirmed"
@@ -49,7 +46,7 @@ placedSet v = bitOr (v .block) (v .confirmed)
 
 -- "each party's keys held"
 unfoldable pub keysIn : View → ℕ → ℕ
-keysIn v party = pick (eqb party alice) (v .alice) (v .bob)
+keysIn v party = getD (v .keys) party 0
 
 -- what a sender has of a transaction whose slot is x
 unfoldable pub senderIn : List ℕ → View → Slot → ℕ → ℕ → ℕ

@@ -1,40 +1,58 @@
 -- None before this one.
 use Rattle.dated.specs.Forms.Opens.{atHandIn}
-use Rattle.sheet.specs.Field.{parties}
+use Rattle.sheet.specs.Field.{parties, partyAt}
 use Rattle.laws.specs.Below.{anyBelow, any-start, any-more, any-found, any-done}
-use mathlib.Core.Bool.{false}
+use mathlib.Core.Bool.{Bool, false}
+use Rattle.slots.specs.declared.Slot.{Slot}
+use Rattle.steps.specs.declared.View.{View}
+use mathlib.Core.List.{List}
 use mathlib.Core.Path.{_≡_, sym, _∙_}
-use Prim.Native.Nat.{_≤_, _-_}
+use Prim.Native.Nat.{ℕ, _≤_, _-_}
 use borrow.Author.Needs.{needs}
 use Rattle.dated.proofs.opens.at_hand_of_some.Statement.{statement}
 use Rattle.dated.proofs.opens.at_hand_of_some.Tie as tie
 
+-- what is answered of the party in a place
+at-place : (s : List ℕ) (v : View) (x : Slot) (t p k : ℕ) (a : Bool) → p ≡ partyAt k → a ≡ atHandIn s v x t p → atHandIn s v x t (partyAt k) ≡ a
+at-place s v x t p k a e h = rw (← e) (sym h)
+
 abbrev Inv-loop : tie.InvT-loop
-Inv-loop sheet view x t party₀ party = (party ≤ parties) × (anyBelow party (atHandIn sheet view x t) ≡ false)
+Inv-loop sheet view x t n k₀ k = (k ≤ n) × (n ≡ parties sheet) × (n ≤ 3) × (anyBelow k (λ j. atHandIn sheet view x t (partyAt j)) ≡ false)
 
 abbrev μ-loop : tie.MeasureT-loop
-μ-loop sheet view x t party₀ party = parties - party
+μ-loop sheet view x t n k₀ k = n - k
+
+parties-requires : tie.Need-parties-requires Inv-loop μ-loop
+parties-requires c κs = search needs
 
 loop-holds : tie.Need-loop-holds Inv-loop μ-loop
-loop-holds c = (search needs, any-start _)
+loop-holds c = (search needs, c .parties .ensures .is, c .parties .ensures .few, any-start _)
+
+party-at-requires : tie.Need-party-at-requires Inv-loop μ-loop
+party-at-requires c κs = search needs
 
 at-hand-requires : tie.Need-at-hand-requires Inv-loop μ-loop
 at-hand-requires c κs = search needs
 
 returns : tie.Need-returns Inv-loop μ-loop
-returns c = sym (any-found _ _ _ (c .before .before .loop-test .taken) (sym (c .before .at-hand .ensures) ∙ c .if1 .taken))
+returns c =
+    let l = c .before .before .before .before .loop in
+    rw (← (l .inv .1))
+    (sym (any-found _ _ _ (c .before .before .before .loop-test .taken) (at-place _ _ _ _ _ _ _ (c .before .before .party-at .ensures) (c .before .at-hand .ensures) ∙ c .if1 .taken)))
 
-add-party : tie.Need-add-party Inv-loop μ-loop
-add-party c = search needs
+add-k : tie.Need-add-k Inv-loop μ-loop
+add-k c = search needs
 
 loop-less : tie.Need-loop-less Inv-loop μ-loop
 loop-less c = search needs
 
 loop-again : tie.Need-loop-again Inv-loop μ-loop
-loop-again c = (search needs, any-more _ _ (c .before .before .before .loop .inv .1) (sym (c .before .at-hand .ensures) ∙ c .if1 .left))
+loop-again c =
+    let l = c .before .before .before .before .loop in
+    (search needs, l .inv .1, l .inv .2, any-more _ _ (l .inv .3) (at-place _ _ _ _ _ _ _ (c .before .before .party-at .ensures) (c .before .at-hand .ensures) ∙ c .if1 .left))
 
 returns-2 : tie.Need-returns-2 Inv-loop μ-loop
-returns-2 c = any-done _ _ _ _ (c .before .loop .inv .0) (c .loop-test .left) (c .before .loop .inv .1)
+returns-2 c = let l = c .before .loop in rw (← (l .inv .1)) (any-done _ _ _ _ (l .inv .0) (c .loop-test .left) (l .inv .3))
 
 pub at-hand-of-some-spec : {M : Type 1} → statement M
 at-hand-of-some-spec =
@@ -42,10 +60,12 @@ at-hand-of-some-spec =
     (tie.spec
     Inv-loop
     μ-loop
+    parties-requires
     loop-holds
+    party-at-requires
     at-hand-requires
     returns
-    add-party
+    add-k
     loop-less
     loop-again
     returns-2)

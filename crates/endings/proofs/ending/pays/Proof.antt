@@ -1,6 +1,6 @@
 -- A contract transaction has no payee; a party is one or not.
-use Rattle.laws.specs.Booleans.{tests}
-use Rattle.slots.specs.Destination.{isParty}
+use Rattle.sheet.proofs.Parties.{party-past}
+use Rattle.endings.proofs.Naming.{payee-party}
 use Rattle.steps.specs.Decode.{sharesTo}
 use borrow.Author.Needs.{needs}
 use Rattle.endings.proofs.ending.pays.Statement.{statement}
@@ -20,12 +20,12 @@ is-payee-requires : tie.Need-is-payee-requires
 is-payee-requires c κs = search needs
 
 returns-2 : tie.Need-returns-2
-unfolding sharesTo isParty
-returns-2 c = simp (tests, ← (c .before .before .before .is-contract .ensures), c .before .before .if1 .left, c .before .if2 .taken, ← (c .is-payee .ensures))
+unfolding sharesTo
+returns-2 c = rw (← (c .before .before .before .is-contract .ensures), c .before .before .if1 .left, payee-party) (c .is-payee .ensures)
 
 returns-3 : tie.Need-returns-3
-unfolding sharesTo isParty
-returns-3 c = simp (tests, ← (c .before .before .is-contract .ensures), c .before .if1 .left, c .if2 .left)
+unfolding sharesTo
+returns-3 c = rw (← (c .before .before .is-contract .ensures), c .before .if1 .left, party-past _ _ (c .if2 .left))
 
 pub pays-spec : {M : Type 1} → statement M
 pays-spec =

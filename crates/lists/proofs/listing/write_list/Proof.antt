@@ -1,4 +1,4 @@
--- The three actors' sets make the list.
+-- The actors' sets make the list.
 use Rattle.lists.proofs.Lists.{gives-sets}
 use borrow.Author.Needs.{needs}
 use Rattle.lists.proofs.listing.write_list.Statement.{statement}
@@ -28,6 +28,11 @@ open-sets-requires-3 c κs =
     let q = c .before .before .before .before .before .before .before .before .pre in
     (q, (c .before .before .before .before .view .ensures, (c .before .before .before .outlook .ensures, c .before .before .any-owed .ensures)))
 
+open-sets-requires-4 : tie.Need-open-sets-requires-4
+open-sets-requires-4 c κs =
+    let q = c .before .before .before .before .before .before .before .before .before .pre in
+    (q, (c .before .before .before .before .before .view .ensures, (c .before .before .before .before .outlook .ensures, c .before .before .before .any-owed .ensures)))
+
 write-fitting-requires : tie.Need-write-fitting-requires
 write-fitting-requires c κs = search needs
 
@@ -35,7 +40,7 @@ same-length : tie.Need-same-length
 same-length c = search needs
 
 returns : tie.Need-returns
-returns c = gives-sets _ _ _ _ _ _ _ _ _ _ (c .before .before .before .before .before .before .open-sets .ensures) (c .before .before .before .before .before .open-sets2 .ensures) (c .before .before .before .before .open-sets3 .ensures) (c .before .before .write-fitting .ensures)
+returns c = gives-sets _ _ _ _ _ _ _ _ _ _ _ (c .before .before .before .before .before .before .before .open-sets .ensures) (c .before .before .before .before .before .before .open-sets2 .ensures) (c .before .before .before .before .before .open-sets3 .ensures) (c .before .before .before .before .open-sets4 .ensures) (c .before .before .write-fitting .ensures)
 
 pub write-list-spec : {M : Type 1} → statement M
 write-list-spec =
@@ -47,6 +52,7 @@ write-list-spec =
     open-sets-requires
     open-sets-requires-2
     open-sets-requires-3
+    open-sets-requires-4
     write-fitting-requires
     same-length
     returns)

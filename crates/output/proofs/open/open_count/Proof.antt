@@ -13,10 +13,10 @@ use Rattle.output.proofs.open.open_count.Statement.{statement}
 use Rattle.output.proofs.open.open_count.Tie as tie
 
 abbrev Inv-loop : tie.InvT-loop
-Inv-loop last below sum₀ i₀ sum i = (i ≤ 21) × (sum ≤ 32 * i) × (sum ≡ sumBelow i (λ k. bitsBelow 32 (getD below k 0)))
+Inv-loop last below sum₀ i₀ sum i = (i ≤ 28) × (sum ≤ 32 * i) × (sum ≡ sumBelow i (λ k. bitsBelow 32 (getD below k 0)))
 
 abbrev μ-loop : tie.MeasureT-loop
-μ-loop last below sum₀ i₀ sum i = 21 - i
+μ-loop last below sum₀ i₀ sum i = 28 - i
 
 loop-holds : tie.Need-loop-holds Inv-loop μ-loop
 loop-holds c = (search needs, search needs, sum-start _)
@@ -59,7 +59,7 @@ returns c =
     let is : l .sum + c .ones2 .result ≡ openCount (c .before .before .before .args .t1) last =
     ap₂ (λ (x y : ℕ). x + y)
     (sum-done _ _ _ _ (l .inv .0) (c .before .loop-test .left) (l .inv .2))
-    (c .ones2 .ensures .is ∙ bits-short 21 32 _ (omega arith) (mod-lt last (omega arith)) ∙ bits-low 21 last)
+    (c .ones2 .ensures .is ∙ bits-short 28 32 _ (omega arith) (mod-lt last (omega arith)) ∙ bits-low 28 last)
     in
     record { is = is; small = omega (arith, is, count-bound (c .before .before .before .args .t1) last) }
 

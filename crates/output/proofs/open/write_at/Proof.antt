@@ -14,10 +14,10 @@ abbrev turn : List Bool → ℕ → ℕ → ℕ → ℕ → List ℕ
 turn on kind actor t d = emitted (opens on d) kind actor t d
 
 abbrev Inv-loop : tie.InvT-loop
-Inv-loop kind actor t out₀ on at₀ d₀ out at d = Turns (turn on kind actor t) 3 out₀ out at d
+Inv-loop kind actor t out₀ on at₀ d₀ out at d = Turns (turn on kind actor t) 4 out₀ out at d
 
 abbrev μ-loop : tie.MeasureT-loop
-μ-loop kind actor t out₀ on at₀ d₀ out at d = 3 - d
+μ-loop kind actor t out₀ on at₀ d₀ out at d = 4 - d
 
 loop-holds : tie.Need-loop-holds Inv-loop μ-loop
 unfolding emittedAt

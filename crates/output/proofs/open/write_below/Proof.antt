@@ -1,6 +1,6 @@
 -- None, or the steps on the transactions before t.
 use Rattle.output.specs.Forms.Emitted.{belowBytes}
-use Rattle.output.proofs.Three.{none-below}
+use Rattle.output.proofs.Four.{none-below}
 use Rattle.laws.specs.Over.{over-none}
 use Rattle.laws.specs.Wrote.{Turns, turns-start, turn-room, turn-end, turn-more, turns-done}
 use mathlib.Core.Path.{refl}
@@ -42,6 +42,15 @@ mul-if1-3 c = search needs
 
 array-read-if1-3 : tie.Need-array-read-if1-3 Inv-loop μ-loop
 array-read-if1-3 c = search needs
+
+add-if1-3 : tie.Need-add-if1-3 Inv-loop μ-loop
+add-if1-3 c = search needs
+
+mul-if1-4 : tie.Need-mul-if1-4 Inv-loop μ-loop
+mul-if1-4 c = search needs
+
+array-read-if1-4 : tie.Need-array-read-if1-4 Inv-loop μ-loop
+array-read-if1-4 c = search needs
 
 returns : tie.Need-returns Inv-loop μ-loop
 returns c =
@@ -103,6 +112,9 @@ write-below-spec =
     add-if1-2
     mul-if1-3
     array-read-if1-3
+    add-if1-3
+    mul-if1-4
+    array-read-if1-4
     returns
     loop-holds
     sub-write-transaction

@@ -1,5 +1,5 @@
--- The three bits of byte 255.
-use Rattle.output.proofs.Three.{three-last}
+-- The four bits of byte 255.
+use Rattle.output.proofs.Four.{four-last}
 use borrow.Author.Needs.{needs}
 use Rattle.output.proofs.open.write_last.Statement.{statement}
 use Rattle.output.proofs.open.write_last.Tie as tie
@@ -22,6 +22,12 @@ add-has-2 c = search needs
 has-requires-3 : tie.Need-has-requires-3
 has-requires-3 c κs = search needs
 
+add-has-3 : tie.Need-add-has-3
+add-has-3 c = search needs
+
+has-requires-4 : tie.Need-has-requires-4
+has-requires-4 c κs = search needs
+
 add-write-at : tie.Need-add-write-at
 add-write-at c = search needs
 
@@ -29,15 +35,15 @@ cast-write-at : tie.Need-cast-write-at
 cast-write-at c = search needs
 
 write-at-requires : tie.Need-write-at-requires
-write-at-requires c κs = rw (three-last _ _ _ _ _ _ (c .before .before .before .has .ensures) (c .before .before .has2 .ensures) (c .before .has3 .ensures)) (c .before .before .before .before .before .pre .1)
+write-at-requires c κs = rw (four-last _ _ _ _ _ _ _ (c .before .before .before .before .has .ensures) (c .before .before .before .has2 .ensures) (c .before .before .has3 .ensures) (c .before .has4 .ensures)) (c .before .before .before .before .before .before .pre .1)
 
 same-length : tie.Need-same-length
 same-length c = search needs
 
 returns : tie.Need-returns
 returns c =
-    let a = c .before .before .before .before .before .before .before .before .args in
-    let e = three-last (a .last) (a .actor) (a .k) _ _ _ (c .before .before .before .before .before .before .has .ensures) (c .before .before .before .before .before .has2 .ensures) (c .before .before .before .before .has3 .ensures) in
+    let a = c .before .before .before .before .before .before .before .before .before .args in
+    let e = four-last (a .last) (a .actor) (a .k) _ _ _ _ (c .before .before .before .before .before .before .before .has .ensures) (c .before .before .before .before .before .before .has2 .ensures) (c .before .before .before .before .before .has3 .ensures) (c .before .before .before .before .has4 .ensures) in
     let w = c .before .before .write-at .ensures in
     rw e at w
 
@@ -51,6 +57,8 @@ write-last-spec =
     has-requires-2
     add-has-2
     has-requires-3
+    add-has-3
+    has-requires-4
     add-write-at
     cast-write-at
     write-at-requires

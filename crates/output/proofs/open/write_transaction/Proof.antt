@@ -1,5 +1,5 @@
--- The three bits of a transaction.
-use Rattle.output.proofs.Three.{three-below}
+-- The four bits of a transaction.
+use Rattle.output.proofs.Four.{four-below}
 use borrow.Author.Needs.{needs}
 use Rattle.output.proofs.open.write_transaction.Statement.{statement}
 use Rattle.output.proofs.open.write_transaction.Tie as tie
@@ -40,6 +40,18 @@ array-read-has-3 c = search needs
 has-requires-3 : tie.Need-has-requires-3
 has-requires-3 c κs = search needs
 
+add-has-3 : tie.Need-add-has-3
+add-has-3 c = search needs
+
+mul-has-4 : tie.Need-mul-has-4
+mul-has-4 c = search needs
+
+array-read-has-4 : tie.Need-array-read-has-4
+array-read-has-4 c = search needs
+
+has-requires-4 : tie.Need-has-requires-4
+has-requires-4 c κs = search needs
+
 add-write-at : tie.Need-add-write-at
 add-write-at c = search needs
 
@@ -51,16 +63,16 @@ cast-write-at-2 c = search needs
 
 write-at-requires : tie.Need-write-at-requires
 write-at-requires c κs =
-    let a = c .before .before .before .before .before .args in
-    rw (three-below (a .t1) (a .actor) (a .k) (a .t) _ _ _ (c .before .before .before .has .ensures) (c .before .before .has2 .ensures) (c .before .has3 .ensures)) (c .before .before .before .before .before .pre .1 .1)
+    let a = c .before .before .before .before .before .before .args in
+    rw (four-below (a .t1) (a .actor) (a .k) (a .t) _ _ _ _ (c .before .before .before .before .has .ensures) (c .before .before .before .has2 .ensures) (c .before .before .has3 .ensures) (c .before .has4 .ensures)) (c .before .before .before .before .before .before .pre .1 .1)
 
 same-length : tie.Need-same-length
 same-length c = search needs
 
 returns : tie.Need-returns
 returns c =
-    let a = c .before .before .before .before .before .before .before .before .args in
-    let e = three-below (a .t1) (a .actor) (a .k) (a .t) _ _ _ (c .before .before .before .before .before .before .has .ensures) (c .before .before .before .before .before .has2 .ensures) (c .before .before .before .before .has3 .ensures) in
+    let a = c .before .before .before .before .before .before .before .before .before .args in
+    let e = four-below (a .t1) (a .actor) (a .k) (a .t) _ _ _ _ (c .before .before .before .before .before .before .before .has .ensures) (c .before .before .before .before .before .before .has2 .ensures) (c .before .before .before .before .before .has3 .ensures) (c .before .before .before .before .has4 .ensures) in
     let w = c .before .before .write-at .ensures in
     rw e at w
 
@@ -80,6 +92,10 @@ write-transaction-spec =
     mul-has-3
     array-read-has-3
     has-requires-3
+    add-has-3
+    mul-has-4
+    array-read-has-4
+    has-requires-4
     add-write-at
     cast-write-at
     cast-write-at-2

@@ -1,7 +1,7 @@
--- One of four texts.
+-- One of five texts.
 use mathlib.Core.Path.{refl}
 use Rattle.pages.proofs.Columns.{same-column, room-as, written-as}
-use Rattle.pages.proofs.Names.{is-alice, is-bob, is-contract, is-nobody}
+use Rattle.pages.proofs.Names.{is-alice, is-bob, is-contract, is-carol, is-nobody}
 use borrow.Author.Needs.{needs}
 use Rattle.pages.proofs.line.write_payee.Statement.{statement}
 use Rattle.pages.proofs.line.write_payee.Tie as tie
@@ -28,7 +28,13 @@ slice-aggregate-write-text-4 : tie.Need-slice-aggregate-write-text-4
 slice-aggregate-write-text-4 c = search needs
 
 write-text-requires-4 : tie.Need-write-text-requires-4
-write-text-requires-4 c κs = room-as _ _ (same-column _ _ _ _ refl (is-nobody _ (c .before .before .match .rest .0 .0 .1) (c .before .before .match .rest .0 .1) (c .before .before .match .rest .1))) _ (c .before .before .before .before .pre)
+write-text-requires-4 c κs = room-as _ _ (same-column _ _ _ _ refl (is-carol _ (c .before .before .match .keys4))) _ (c .before .before .before .before .pre)
+
+slice-aggregate-write-text-5 : tie.Need-slice-aggregate-write-text-5
+slice-aggregate-write-text-5 c = search needs
+
+write-text-requires-5 : tie.Need-write-text-requires-5
+write-text-requires-5 c κs = room-as _ _ (same-column _ _ _ _ refl (is-nobody _ (c .before .before .match .rest .0 .0 .0 .1) (c .before .before .match .rest .0 .0 .1) (c .before .before .match .rest .0 .1) (c .before .before .match .rest .1))) _ (c .before .before .before .before .pre)
 
 same-length : tie.Need-same-length
 same-length c = search needs
@@ -52,7 +58,13 @@ same-length-4 : tie.Need-same-length-4
 same-length-4 c = search needs
 
 returns-4 : tie.Need-returns-4
-returns-4 c = written-as _ _ (same-column _ _ _ _ refl (is-nobody _ (c .before .before .before .before .before .match .rest .0 .0 .1) (c .before .before .before .before .before .match .rest .0 .1) (c .before .before .before .before .before .match .rest .1))) _ _ _ (c .before .before .write-text4 .ensures)
+returns-4 c = written-as _ _ (same-column _ _ _ _ refl (is-carol _ (c .before .before .before .before .before .match .keys4))) _ _ _ (c .before .before .write-text4 .ensures)
+
+same-length-5 : tie.Need-same-length-5
+same-length-5 c = search needs
+
+returns-5 : tie.Need-returns-5
+returns-5 c = written-as _ _ (same-column _ _ _ _ refl (is-nobody _ (c .before .before .before .before .before .match .rest .0 .0 .0 .1) (c .before .before .before .before .before .match .rest .0 .0 .1) (c .before .before .before .before .before .match .rest .0 .1) (c .before .before .before .before .before .match .rest .1))) _ _ _ (c .before .before .write-text5 .ensures)
 
 pub write-payee-spec : {M : Type 1} → statement M
 write-payee-spec =
@@ -66,6 +78,8 @@ write-payee-spec =
     write-text-requires-3
     slice-aggregate-write-text-4
     write-text-requires-4
+    slice-aggregate-write-text-5
+    write-text-requires-5
     same-length
     returns
     same-length-2
@@ -73,4 +87,6 @@ write-payee-spec =
     same-length-3
     returns-3
     same-length-4
-    returns-4)
+    returns-4
+    same-length-5
+    returns-5)

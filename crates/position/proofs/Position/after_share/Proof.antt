@@ -12,7 +12,7 @@ use Rattle.position.proofs.Position.share_one.Reads as share-one-reads
 use Rattle.sheet.proofs.field.wide.Reads as wide-reads
 
 share-first-requires : tie.Need-share-first-requires
-share-first-requires c κs = (c .before .before .pre .0, (share-first-fits _ _ (c .before .before .pre .0 .few) (c .before .before .pre .1 .1 .1) (c .if1 .taken), c .before .before .pre .1 .0))
+share-first-requires c κs = (c .before .before .pre .0, (share-first-fits _ _ (c .before .before .pre .0 .few) (c .before .before .pre .1 .1) (c .if1 .taken)))
 
 returns : tie.Need-returns
 unfolding afterShare
@@ -22,7 +22,7 @@ wide-requires : tie.Need-wide-requires
 wide-requires c κs = search needs
 
 share-one-requires : tie.Need-share-one-requires
-share-one-requires c κs = (c .before .before .before .pre .0, (rw (c .wide .ensures .is) (share-one-fits _ _ (c .before .before .before .pre .0 .few) (c .before .before .before .pre .1 .1 .1) (c .before .if1 .left)), (c .before .before .before .pre .1 .0, c .before .before .before .pre .1 .1 .0)))
+share-one-requires c κs = (c .before .before .before .pre .0, (rw (c .wide .ensures .is) (share-one-fits _ _ (c .before .before .before .pre .0 .few) (c .before .before .before .pre .1 .1) (c .before .if1 .left)), c .before .before .before .pre .1 .0))
 
 returns-2 : tie.Need-returns-2
 unfolding afterShare

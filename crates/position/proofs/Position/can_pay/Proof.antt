@@ -51,7 +51,7 @@ returns : tie.Need-returns Inv-loop μ-loop
 unfolding slot
 returns c =
     let l : length (c .before .before .before .before .before .before .before .before .before .before .before .before .args .t1 .slots) ≡ 32 = search (length-of-map, c .before .before .before .before .before .before .before .before .before .before .before .before .good) in
-    pays-found _ _ _ _ _ _ (c .before .before .before .before .before .before .before .before .before .before .before .before .pre .0) l (c .before .before .before .before .before .before .before .before .before .before .before .before .pre .1 .0) (c .before .before .before .before .before .before .before .before .before .before .before .before .pre .1 .1 .0) _ _ (c .before .before .before .before .before .before .before .before .before .count .ensures .is) (c .before .before .before .before .before .before .before .loop-test .taken) (sym (pays-turn _ _ _ _ _ _ _ _ _ _ _ (c .before .before .before .before .before .slot-above .ensures .0) (c .before .before .before .block-above .ensures) (c .before .before .send-allowed .ensures) (c .before .pays .ensures)) ∙ c .if1 .taken)
+    pays-found _ _ _ _ _ _ (c .before .before .before .before .before .before .before .before .before .before .before .before .pre .0) l (c .before .before .before .before .before .before .before .before .before .before .before .before .pre .1 .0) (c .before .before .before .before .before .before .before .before .before .before .before .before .pre .1 .1) _ _ (c .before .before .before .before .before .before .before .before .before .count .ensures .is) (c .before .before .before .before .before .before .before .loop-test .taken) (sym (pays-turn _ _ _ _ _ _ _ _ _ _ _ (c .before .before .before .before .before .slot-above .ensures .0) (c .before .before .before .block-above .ensures) (c .before .before .send-allowed .ensures) (c .before .pays .ensures)) ∙ c .if1 .taken)
 
 add-t : tie.Need-add-t Inv-loop μ-loop
 add-t c = search needs
@@ -66,7 +66,7 @@ loop-again c = (search needs, any-more _ _ (c .before .before .before .before .b
 returns-2 : tie.Need-returns-2 Inv-loop μ-loop
 returns-2 c =
     let l : length (c .before .before .before .before .before .args .t1 .slots) ≡ 32 = search (length-of-map, c .before .before .before .before .before .good) in
-    pays-none _ _ _ _ _ _ (c .before .before .before .before .before .pre .0) l (c .before .before .before .before .before .pre .1 .0) (c .before .before .before .before .before .pre .1 .1 .0) _ _ (c .before .before .count .ensures .is) (c .before .loop .inv .0) (c .loop-test .left) (c .before .loop .inv .1)
+    pays-none _ _ _ _ _ _ (c .before .before .before .before .before .pre .0) l (c .before .before .before .before .before .pre .1 .0) (c .before .before .before .before .before .pre .1 .1) _ _ (c .before .before .count .ensures .is) (c .before .loop .inv .0) (c .loop-test .left) (c .before .loop .inv .1)
 
 pub can-pay-spec : {M : Type 1} → statement M
 can-pay-spec =

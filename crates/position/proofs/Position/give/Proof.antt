@@ -11,14 +11,14 @@ destination-number-requires : tie.Need-destination-number-requires
 destination-number-requires c κs = search needs
 
 give-refusal-requires : tie.Need-give-refusal-requires
-give-refusal-requires c κs = let p = c .before .before .before .pre in (p .0, (p .1 .0, p .1 .1 .0))
+give-refusal-requires c κs = let p = c .before .before .before .pre in (p .0, (p .1 .0, p .1 .1))
 
 returns : tie.Need-returns
 unfolding stepRefusal tests conductAllows
 returns c = refuses _ _ _ _ _ (rw (← (c .before .before .destination-number .ensures .0)) (c .before .give-refusal .ensures)) (c .if1 .taken)
 
 with-key-requires : tie.Need-with-key-requires
-with-key-requires c κs = let p = c .before .before .before .before .before .pre in (rw (c .before .before .destination-number .ensures .0) (p .1 .1 .1), p .1 .1 .0)
+with-key-requires c κs = let p = c .before .before .before .before .before .pre in (c .before .before .destination-number .ensures .1, p .1 .1)
 
 returns-2 : tie.Need-returns-2
 unfolding stepRefusal tests conductAllows effect afterGive

@@ -15,14 +15,14 @@ wide-requires : tie.Need-wide-requires
 wide-requires c κs = search needs
 
 miner-refusal-requires : tie.Need-miner-refusal-requires
-miner-refusal-requires c κs = let p = c .before .before .before .before .pre in (p .0, (p .1 .0, (p .1 .1 .0, rw (c .wide .ensures .is) (p .1 .1 .1))))
+miner-refusal-requires c κs = let p = c .before .before .before .before .pre in (p .0, (p .1 .0, rw (c .wide .ensures .is) (p .1 .1)))
 
 returns : tie.Need-returns
 unfolding stepRefusal tests conductAllows
 returns c = refuses _ _ _ _ _ (rw (← (c .before .before .wide .ensures .is), ← (c .before .before .before .destination-number .ensures .0)) (c .before .miner-refusal .ensures)) (c .if1 .taken)
 
 after-hand-in-requires : tie.Need-after-hand-in-requires
-after-hand-in-requires c κs = let p = c .before .before .before .before .before .before .pre in (rw (c .before .before .wide .ensures .is) (omega (arith, p .1 .1 .1, p .0 .checked .sized .few)), c .before .before .before .destination-number .ensures .1)
+after-hand-in-requires c κs = let p = c .before .before .before .before .before .before .pre in (rw (c .before .before .wide .ensures .is) (omega (arith, p .1 .1, p .0 .checked .sized .few)), c .before .before .before .destination-number .ensures .1)
 
 returns-2 : tie.Need-returns-2
 unfolding stepRefusal tests conductAllows effect

@@ -14,7 +14,7 @@ returns-2 : tie.Need-returns-2
 returns-2 c = held-not-contract _ _ _ _ _ _ (c .before .before .before .before .before .before .pre .1 .1 .0) _ (c .before .is-contract .ensures) (c .if2 .taken)
 
 can-pay-requires : tie.Need-can-pay-requires
-can-pay-requires c κs = (c .before .before .before .before .before .before .pre .0, (c .before .before .before .before .before .before .pre .1 .0, (c .before .before .before .before .before .before .pre .1 .1 .0, c .before .before .before .before .before .before .pre .1 .1 .1 .0)))
+can-pay-requires c κs = (c .before .before .before .before .before .before .pre .0, (c .before .before .before .before .before .before .pre .1 .0, c .before .before .before .before .before .before .pre .1 .1 .0))
 
 returns-3 : tie.Need-returns-3
 returns-3 c = held-if-paid _ _ _ _ _ _ (c .before .before .before .before .before .before .before .pre .1 .1 .0) _ _ (c .before .before .before .if1 .left) (c .before .before .is-contract .ensures) (c .before .if2 .left) (c .can-pay .ensures)

@@ -1,16 +1,28 @@
--- By party number.
+-- A byte of the keys, 0 past them.
+use native.Mathlib.Omega.{arith}
+use mathlib.Core.Path.{_≡_, sym}
+use lib.ListN.{length, List·getD-eq-default}
+use Rattle.laws.specs.Each.{length-of-map}
 use Rattle.position.specs.Position.{keys}
-use Rattle.laws.specs.Booleans.{tests}
+use borrow.Author.Needs.{needs}
 use Rattle.position.proofs.Position.keys.Statement.{statement}
 use Rattle.position.proofs.Position.keys.Tie as tie
 
+wide-requires : tie.Need-wide-requires
+wide-requires c κs = search needs
+
+element-copy-out-result : tie.Need-element-copy-out-result
+element-copy-out-result c = search needs
+
 returns : tie.Need-returns
 unfolding keys
-returns c = rw (c .if1 .taken)
+returns c = rw (c .before .before .wide .ensures .is)
 
 returns-2 : tie.Need-returns-2
 unfolding keys
-returns-2 c = simp (tests, c .if1 .left)
+returns-2 c =
+    let l : length (c .before .before .args .t1 .keys) ≡ 6 = search (length-of-map, c .before .before .good) in
+    sym (List·getD-eq-default (c .before .before .args .t1 .keys) 0 (omega (arith, l, c .before .wide .ensures .is, c .if1 .left)))
 
 pub keys-spec : {M : Type 1} → statement M
-keys-spec = tie.close (tie.spec returns returns-2)
+keys-spec = tie.close (tie.spec wide-requires element-copy-out-result returns returns-2)

@@ -14,7 +14,7 @@ returns : tie.Need-returns
 returns c = send-refused _ _ _ _ _ _ (c .before .before .outlook .ensures) _ (c .before .send-allowed .ensures) (c .if1 .taken)
 
 held-back-requires : tie.Need-held-back-requires
-held-back-requires c κs = (c .before .before .before .before .before .pre .0, (c .before .before .before .before .before .pre .1 .0, (c .before .before .outlook .ensures, (c .before .before .before .before .before .pre .1 .1 .0, c .before .before .before .before .before .pre .1 .1 .1))))
+held-back-requires c κs = (c .before .before .before .before .before .pre .0, (c .before .before .before .before .before .pre .1 .0, (c .before .before .outlook .ensures, c .before .before .before .before .before .pre .1 .1)))
 
 returns-2 : tie.Need-returns-2
 returns-2 c = send-passed _ _ _ _ _ _ (c .before .before .before .outlook .ensures) _ _ (c .before .before .send-allowed .ensures) (c .before .if1 .left) (c .held-back .ensures)

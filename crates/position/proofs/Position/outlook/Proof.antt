@@ -3,7 +3,8 @@ use Rattle.position.specs.Position.{slot}
 use Rattle.position.specs.Conduct.{isOpen}
 use Rattle.position.specs.Forms.Outlook.{openOutlook, outlook}
 use Rattle.position.proofs.Outlooks.{success-there, outlook-made}
-use mathlib.Core.Path.{sym, _∙_}
+use mathlib.Core.Path.{sym, ap, _∙_}
+use Rattle.laws.specs.Mask.{bit}
 use borrow.Author.Tests.{eq-eqb}
 use borrow.Author.Needs.{needs}
 use Rattle.position.proofs.Position.outlook.Statement.{statement}
@@ -31,6 +32,9 @@ late-requires c κs = (c .before .before .before .before .before .before .before
 is-sent-requires : tie.Need-is-sent-requires
 is-sent-requires c κs = search needs
 
+keys-requires : tie.Need-keys-requires
+keys-requires c κs = search needs
+
 has-requires : tie.Need-has-requires
 has-requires c κs = search needs
 
@@ -39,7 +43,7 @@ sender-requires c κs = search needs
 
 returns-2 : tie.Need-returns-2
 unfolding slot
-returns-2 c = outlook-made _ _ _ _ _ _ _ _ _ _ (c .before .before .before .before .before .before .before .before .before .conduct .ensures) (c .before .before .before .before .before .before .before .before .if1 .left) (c .before .before .before .before .before .phase .ensures) (c .before .before .before .before .late .ensures) (c .before .before .before .is-sent .ensures) (c .before .has .ensures) (c .before .before .before .before .before .before .before .before .before .before .before .before .pre .1) (c .sender .ensures)
+returns-2 c = outlook-made _ _ _ _ _ _ _ _ _ _ (c .before .before .before .before .before .before .before .before .before .before .conduct .ensures) (c .before .before .before .before .before .before .before .before .before .if1 .left) (c .before .before .before .before .before .before .phase .ensures) (c .before .before .before .before .before .late .ensures) (c .before .before .before .before .is-sent .ensures) (c .before .has .ensures ∙ ap (λ m. bit m 3) (c .before .before .keys .ensures)) (c .before .before .before .before .before .before .before .before .before .before .before .before .before .pre .1) (c .sender .ensures)
 
 pub outlook-spec : {M : Type 1} → statement M
 outlook-spec =
@@ -52,6 +56,7 @@ outlook-spec =
     phase-requires
     late-requires
     is-sent-requires
+    keys-requires
     has-requires
     sender-requires
     returns-2)

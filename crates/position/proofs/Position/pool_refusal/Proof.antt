@@ -10,7 +10,7 @@ may-send-requires : tie.Need-may-send-requires
 may-send-requires c κs = c .before .before .pre
 
 parent-requires : tie.Need-parent-requires
-parent-requires c κs = (c .before .before .before .pre .0 .checked .sized, c .before .before .before .pre .1 .1 .1)
+parent-requires c κs = (c .before .before .before .pre .0 .checked .sized, c .before .before .before .pre .1 .1)
 
 block-of-requires : tie.Need-block-of-requires
 block-of-requires c κs = search needs
@@ -22,11 +22,11 @@ element-copy-out-x : tie.Need-element-copy-out-x
 element-copy-out-x c = search needs
 
 pool-refusal-requires : tie.Need-pool-refusal-requires
-pool-refusal-requires c κs = (c .before .before .before .before .before .before .pre .0, c .before .before .before .before .before .before .pre .1 .1 .1)
+pool-refusal-requires c κs = (c .before .before .before .before .before .before .pre .0, c .before .before .before .before .before .before .pre .1 .1)
 
 returns : tie.Need-returns
 unfolding slot
-returns c = pool-answer _ _ _ _ (c .before .before .before .before .before .before .before .pre .0 .checked) _ _ _ (c .before .before .before .before .before .before .before .pre .1 .1 .1) _ _ _ _ (c .before .before .before .before .before .before .before .pre .1 .0) (c .before .before .block-of .ensures ∙ ap (blockOf (c .before .before .before .before .before .before .before .args .t1)) (c .before .before .before .parent .ensures .is)) (c .before .before .before .before .may-send .ensures) (c .pool-refusal .ensures)
+returns c = pool-answer _ _ _ _ (c .before .before .before .before .before .before .before .pre .0 .checked) _ _ _ (c .before .before .before .before .before .before .before .pre .1 .1) _ _ _ _ (c .before .before .before .before .before .before .before .pre .1 .0) (c .before .before .block-of .ensures ∙ ap (blockOf (c .before .before .before .before .before .before .before .args .t1)) (c .before .before .before .parent .ensures .is)) (c .before .before .before .before .may-send .ensures) (c .pool-refusal .ensures)
 
 pub pool-refusal-spec : {M : Type 1} → statement M
 pool-refusal-spec =

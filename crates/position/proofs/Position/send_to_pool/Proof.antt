@@ -14,14 +14,14 @@ wide-requires : tie.Need-wide-requires
 wide-requires c κs = search needs
 
 pool-refusal-requires : tie.Need-pool-refusal-requires
-pool-refusal-requires c κs = let p = c .before .before .before .before .pre in (p .0, (p .1 .0, (p .1 .1 .0, rw (c .wide .ensures .is) (p .1 .1 .1))))
+pool-refusal-requires c κs = let p = c .before .before .before .before .pre in (p .0, (p .1 .0, rw (c .wide .ensures .is) (p .1 .1)))
 
 returns : tie.Need-returns
 unfolding stepRefusal tests conductAllows
 returns c = refuses _ _ _ _ _ (rw (← (c .before .before .wide .ensures .is), ← (c .before .before .before .destination-number .ensures .0)) (c .before .pool-refusal .ensures)) (c .if1 .taken)
 
 after-send-requires : tie.Need-after-send-requires
-after-send-requires c κs = let p = c .before .before .before .before .before .before .pre in (p .0 .checked .sized, (rw (c .before .before .wide .ensures .is) (p .1 .1 .1), c .before .before .before .destination-number .ensures .1))
+after-send-requires c κs = let p = c .before .before .before .before .before .before .pre in (p .0 .checked .sized, (rw (c .before .before .wide .ensures .is) (p .1 .1), c .before .before .before .destination-number .ensures .1))
 
 returns-2 : tie.Need-returns-2
 unfolding stepRefusal tests conductAllows effect

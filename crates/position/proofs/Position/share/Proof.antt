@@ -11,14 +11,14 @@ destination-number-requires : tie.Need-destination-number-requires
 destination-number-requires c κs = search needs
 
 share-refusal-requires : tie.Need-share-refusal-requires
-share-refusal-requires c κs = let p = c .before .before .before .pre in (p .0, (p .1 .0, (p .1 .1 .1, c .destination-number .ensures .1)))
+share-refusal-requires c κs = let p = c .before .before .before .pre in (p .0, (p .1 .0, (p .1 .1, c .destination-number .ensures .1)))
 
 returns : tie.Need-returns
 unfolding stepRefusal tests conductAllows
 returns c = refuses _ _ _ _ _ (rw (← (c .before .before .destination-number .ensures .0)) (c .before .share-refusal .ensures)) (c .if1 .taken)
 
 after-share-requires : tie.Need-after-share-requires
-after-share-requires c κs = let p = c .before .before .before .before .before .pre in (p .0 .checked .sized, (p .1 .1 .0, (c .before .before .destination-number .ensures .1, p .1 .1 .1)))
+after-share-requires c κs = let p = c .before .before .before .before .before .pre in (p .0 .checked .sized, (c .before .before .destination-number .ensures .1, p .1 .1))
 
 returns-2 : tie.Need-returns-2
 unfolding stepRefusal tests conductAllows effect

@@ -1,6 +1,6 @@
 -- By the kind.
-use Rattle.position.proofs.Fields.{share-fields, give-fields, pool-fields, miner-fields}
-use Rattle.steps.proofs.RightFields.{include-listed, bump-listed}
+use Rattle.position.proofs.Fields.{share-fields}
+use Rattle.steps.proofs.RightFields.{give-listed, pool-listed, miner-listed, include-listed, bump-listed}
 use borrow.Author.Needs.{needs}
 use Rattle.position.proofs.Position.take.Statement.{statement}
 use Rattle.position.proofs.Position.take.Tie as tie
@@ -24,19 +24,19 @@ enum-known-x-2 : tie.Need-enum-known-x-2
 enum-known-x-2 c = search needs
 
 give-requires : tie.Need-give-requires
-give-requires c κs = let p = c .before .before .before .before .before .pre in (p .0, (p .1 .0, give-fields _ _ _ _ _ _ (c .before .x2 .given .1) (p .0 .checked .signatures-few) (p .1 .1)))
+give-requires c κs = let p = c .before .before .before .before .before .pre in (p .0, (p .1 .0, give-listed _ _ _ _ _ _ (c .before .x2 .given .1) (p .0 .checked .signatures-few) (p .1 .1)))
 
 enum-known-x-3 : tie.Need-enum-known-x-3
 enum-known-x-3 c = search needs
 
 send-to-pool-requires : tie.Need-send-to-pool-requires
-send-to-pool-requires c κs = let p = c .before .before .before .before .before .pre in (p .0, (p .1 .0, pool-fields _ _ _ _ _ _ (c .before .x3 .given .1) (p .1 .1)))
+send-to-pool-requires c κs = let p = c .before .before .before .before .before .pre in (p .0, (p .1 .0, pool-listed _ _ _ _ _ _ (c .before .x3 .given .1) (p .1 .1)))
 
 enum-known-x-4 : tie.Need-enum-known-x-4
 enum-known-x-4 c = search needs
 
 hand-to-miner-requires : tie.Need-hand-to-miner-requires
-hand-to-miner-requires c κs = let p = c .before .before .before .before .before .pre in (p .0, (p .1 .0, miner-fields _ _ _ _ _ _ (c .before .x4 .given .1) (p .1 .1)))
+hand-to-miner-requires c κs = let p = c .before .before .before .before .before .pre in (p .0, (p .1 .0, miner-listed _ _ _ _ _ _ (c .before .x4 .given .1) (p .1 .1)))
 
 enum-known-x-5 : tie.Need-enum-known-x-5
 enum-known-x-5 c = search needs

@@ -40,7 +40,7 @@ unfolding slot
 loop-again c = (search needs, view-more _ _ _ _ _ (c .before .before .before .loop .inv .1) (c .add .ensures) refl)
 
 returns : tie.Need-returns Inv-loop μ-loop
-returns c = rw (← (c .before .before .count .ensures .is)) (view-done _ _ _ _ (c .before .loop .inv .0) (c .loop-test .left) (c .before .loop .inv .1))
+returns c = rw (← (c .before .before .before .count .ensures .is)) (view-done _ _ _ _ (c .before .loop .inv .0) (c .loop-test .left) (c .before .loop .inv .1))
 
 pub view-spec : {M : Type 1} → statement M
 view-spec =

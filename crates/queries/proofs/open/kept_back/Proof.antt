@@ -1,20 +1,23 @@
 -- A careful party that can pay.
 use Rattle.queries.proofs.OpenSteps.{kept-no-party, kept-not-careful, kept-if-paid}
-use native.Mathlib.Omega.{arith}
+use borrow.Author.Needs.{needs}
 use Rattle.queries.proofs.open.kept_back.Statement.{statement}
 use Rattle.queries.proofs.open.kept_back.Tie as tie
 
+is-party-requires : tie.Need-is-party-requires
+is-party-requires c κs = search needs
+
 returns : tie.Need-returns
-returns c = kept-no-party _ _ _ (c .before .before .before .args .o) _ (c .if1 .taken)
+returns c = kept-no-party _ _ _ (c .before .before .before .before .args .o) _ _ (c .before .is-party .ensures) (c .if1 .taken)
 
 returns-2 : tie.Need-returns-2
-returns-2 c = kept-not-careful _ _ _ _ _ (c .before .before .before .before .before .pre .1 .1) (c .if2 .taken)
+returns-2 c = kept-not-careful _ _ _ _ _ (c .before .before .before .before .before .before .pre .1 .1) (c .if2 .taken)
 
 can-pay-requires : tie.Need-can-pay-requires
-can-pay-requires c κs = (c .before .before .before .before .before .pre .0, (c .before .before .before .before .before .pre .1 .0, (c .before .before .before .before .before .pre .1 .1, (omega (arith, c .before .before .if1 .left)))))
+can-pay-requires c κs = c .before .before .before .before .before .before .pre
 
 returns-3 : tie.Need-returns-3
-returns-3 c = kept-if-paid _ _ _ _ _ (c .before .before .before .before .before .before .pre .1 .1) _ (omega (arith, c .before .before .before .if1 .left)) (c .before .if2 .left) (c .can-pay .ensures)
+returns-3 c = kept-if-paid _ _ _ _ _ (c .before .before .before .before .before .before .before .pre .1 .1) _ _ (c .before .before .before .before .is-party .ensures) (c .before .before .before .if1 .left) (c .before .if2 .left) (c .can-pay .ensures)
 
 pub kept-back-spec : {M : Type 1} → statement M
-kept-back-spec = tie.close (tie.spec returns returns-2 can-pay-requires returns-3)
+kept-back-spec = tie.close (tie.spec is-party-requires returns returns-2 can-pay-requires returns-3)

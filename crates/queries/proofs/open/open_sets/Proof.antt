@@ -13,7 +13,7 @@ below-sets-requires : tie.Need-below-sets-requires
 below-sets-requires c κs = (c .before .before .before .before .pre .0, (c .before .sight .ensures, c .goes-for .ensures))
 
 last-set-requires : tie.Need-last-set-requires
-last-set-requires c κs = c .before .before .before .before .before .pre .0 .setup .size
+last-set-requires c κs = let f = c .before .before .before .before .before .pre .0 in (f .checked .sized, f .setup .size)
 
 returns : tie.Need-returns
 returns c = sets-made _ _ _ (c .before .before .before .before .before .before .pre .0) (c .before .before .before .before .before .before .pre .0 .checked .signatures-few) _ _ _ _ (c .before .before .before .sight .ensures) (c .before .below-sets .ensures) (c .last-set .ensures)

@@ -1,11 +1,9 @@
 -- By the destination.
-use Rattle.readings.specs.Forms.Sight.{goesOf}
 use borrow.Author.Tests.{ne-eqb}
+use Rattle.readings.specs.Forms.Sight.{goesOf}
 use borrow.Author.Needs.{needs}
 use Rattle.readings.proofs.Goes.of.Statement.{statement}
 use Rattle.readings.proofs.Goes.of.Tie as tie
-use Rattle.readings.proofs.Goes.of.Reads as reads
-use Rattle.readings.proofs.Goes.of.Lts as lts
 
 returns : tie.Need-returns
 unfolding goesOf
@@ -17,7 +15,11 @@ returns-2 c = rw (c .match .keys2)
 
 returns-3 : tie.Need-returns-3
 unfolding goesOf
-returns-3 c = rw (ne-eqb _ _ (c .match .rest .1), ne-eqb _ _ (c .match .rest .0 .1))
+returns-3 c = rw (c .match .keys3)
+
+returns-4 : tie.Need-returns-4
+unfolding goesOf
+returns-4 c = rw (ne-eqb _ _ (c .match .rest .1), ne-eqb _ _ (c .match .rest .0 .1), ne-eqb _ _ (c .match .rest .0 .0 .1))
 
 pub of-spec : {M : Type 1} → statement M
-of-spec = tie.close (tie.spec returns returns-2 returns-3)
+of-spec = tie.close (tie.spec returns returns-2 returns-3 returns-4)

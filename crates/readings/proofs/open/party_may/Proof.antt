@@ -1,15 +1,12 @@
 -- By the kind.
-use Rattle.readings.specs.Forms.Sight.{partyMay}
 use borrow.Author.Tests.{ne-eqb}
+use Rattle.readings.specs.Forms.Sight.{partyMay}
 use borrow.Author.Needs.{needs}
 use Rattle.readings.proofs.open.party_may.Statement.{statement}
 use Rattle.readings.proofs.open.party_may.Tie as tie
-use Rattle.readings.proofs.open.party_may.Reads as reads
-use Rattle.readings.proofs.open.party_may.Lts as lts
-use Rattle.readings.proofs.open.to_sender.Reads as to-sender-reads
 
-sub-result : tie.Need-sub-result
-sub-result c = search needs
+is-other-requires : tie.Need-is-other-requires
+is-other-requires c κs = search needs
 
 to-sender-requires : tie.Need-to-sender-requires
 to-sender-requires c κs = search needs
@@ -23,7 +20,7 @@ returns c = rw (c .match .keys1)
 
 returns-2 : tie.Need-returns-2
 unfolding partyMay
-returns-2 c = rw (c .match .keys2)
+returns-2 c = rw (c .before .match .keys2) (c .is-other .ensures)
 
 returns-3 : tie.Need-returns-3
 unfolding partyMay
@@ -41,7 +38,7 @@ pub party-may-spec : {M : Type 1} → statement M
 party-may-spec =
     tie.close
     (tie.spec
-    sub-result
+    is-other-requires
     to-sender-requires
     to-sender-requires-2
     returns

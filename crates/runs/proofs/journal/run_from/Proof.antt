@@ -96,9 +96,9 @@ loop-less-2 c = search needs
 loop-again-2 : tie.Need-loop-again-2 Inv-loop μ-loop
 unfolding slot stepAt
 loop-again-2 c = (
-  omega (arith, c .before .before .before .before .before .before .before .before .before .before .before .loop-test .taken),
-  left-on _ _ _ _ _ _ _ (c .before .before .before .before .before .before .before .before .before .before .before .before .loop .inv .1) (omega (arith, c .before .before .before .before .before .before .before .before .before .before .before .loop-test .taken)) (c .before .before .before .before .before .before .before .before .before .before .step-seen .ensures) (c .before .before .before .before .before .before .before .before .if2 .left),
-  rw (c .after .ensures, c .before .before .changed-place .ensures .0) (seen-after _ _ _ _ (c .before .before .before .before .before .before .before .before .before .before .before .before .before .before .before .before .before .before .pre .0) (c .before .before .before .before .before .before .before .before .before .before .before .before .loop .inv .2) _ _ (c .before .before .before .before .before .before .before .before .before .before .step-seen .ensures) (c .before .before .before .before .before .before .before .before .if2 .left) (sym (c .before .before .before .before .changes-many .ensures) ∙ c .before .before .before .if3 .left)),
+  omega (arith, c .before .before .before .before .before .before .before .before .before .before .before .before .loop-test .taken),
+  left-on _ _ _ _ _ _ _ (c .before .before .before .before .before .before .before .before .before .before .before .before .before .loop .inv .1) (omega (arith, c .before .before .before .before .before .before .before .before .before .before .before .before .loop-test .taken)) (c .before .before .before .before .before .before .before .before .before .before .before .step-seen .ensures) (c .before .before .before .before .before .before .before .before .before .if2 .left),
+  rw (c .after .ensures, c .before .before .before .changed-place .ensures .0) (seen-after _ _ _ _ (c .before .before .before .before .before .before .before .before .before .before .before .before .before .before .before .before .before .before .before .pre .0) (c .before .before .before .before .before .before .before .before .before .before .before .before .before .loop .inv .2) _ _ (c .before .before .before .before .before .before .before .before .before .before .before .step-seen .ensures) (c .before .before .before .before .before .before .before .before .before .if2 .left) (sym (c .before .before .before .before .before .changes-many .ensures) ∙ c .before .before .before .before .if3 .left)),
 )
 
 ran-to-requires-3 : tie.Need-ran-to-requires-3 Inv-loop μ-loop

@@ -1,15 +1,20 @@
 -- The head is there: check 1.
+use Rattle.sheet.proofs.Passed.{headless}
+use mathlib.Core.Path.{sym}
 use Rattle.sheet.specs.Check.{headRight}
 use borrow.Author.Needs.{needs}
 use Rattle.sheet.proofs.check.head_right.Statement.{statement}
 use Rattle.sheet.proofs.check.head_right.Tie as tie
 
+returns : tie.Need-returns
+returns c = sym (headless _ (c .if1 .taken))
+
 arrays-requires : tie.Need-arrays-requires
 arrays-requires c κs = search needs
 
-returns : tie.Need-returns
+returns-2 : tie.Need-returns-2
 unfolding headRight
-returns c = rw (c .arrays .ensures .is)
+returns-2 c = rw (c .arrays .ensures .is)
 
 pub head-right-spec : {M : Type 1} → statement M
-head-right-spec = tie.close (tie.spec arrays-requires returns)
+head-right-spec = tie.close (tie.spec returns arrays-requires returns-2)

@@ -1,5 +1,5 @@
 -- The first of the checks 1 to 8 that fails.
-use Rattle.sheet.proofs.Passed.{head-there, count-few, signatures-few, sized}
+use Rattle.sheet.proofs.Passed.{head-there, arrays-there, count-few, signatures-few, sized}
 use Rattle.sheet.specs.Check.{sheetTests, sheetRefusal}
 use Rattle.laws.specs.Failing.{fails, passes}
 use Rattle.laws.specs.Booleans.{held}
@@ -23,7 +23,7 @@ returns-2 c = passes _ _ _ _ _ (c .before .before .before .head-right .ensures) 
     (fails _ _ _ _ (c .before .count-right .ensures) (c .if2 .taken))
 
 signatures-right-requires : tie.Need-signatures-right-requires
-signatures-right-requires c κs = head-there _ (held _ _ (c .before .before .before .head-right .ensures) (c .before .before .if1 .left))
+signatures-right-requires c κs = let h = held _ _ (c .before .before .before .head-right .ensures) (c .before .before .if1 .left) in (head-there _ h, arrays-there _ h)
 
 returns-3 : tie.Need-returns-3
 unfolding sheetRefusal sheetTests

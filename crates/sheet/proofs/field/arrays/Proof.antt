@@ -1,13 +1,19 @@
--- The start of the arrays is a constant.
-use Rattle.sheet.specs.Field.{arrays}
+-- Behind the head: three bytes and the start masks.
 use mathlib.Core.Path.{refl}
+use Rattle.sheet.specs.Field.{arrays}
 use borrow.Author.Needs.{needs}
 use Rattle.sheet.proofs.field.arrays.Statement.{statement}
 use Rattle.sheet.proofs.field.arrays.Tie as tie
 
+parties-requires : tie.Need-parties-requires
+parties-requires c κs = search needs
+
+add-result : tie.Need-add-result
+add-result c = search needs
+
 returns : tie.Need-returns
 unfolding arrays
-returns c = record { is = refl; head = search needs; small = search needs }
+returns c = record { is = rw (← (c .parties .ensures .is)); head = search needs; small = search needs }
 
 pub arrays-spec : {M : Type 1} → statement M
-arrays-spec = tie.close (tie.spec returns)
+arrays-spec = tie.close (tie.spec parties-requires add-result returns)

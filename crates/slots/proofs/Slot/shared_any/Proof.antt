@@ -1,4 +1,4 @@
--- The union over the three destinations.
+-- The union over the four destinations.
 use lib.Bits.{or-zero-l}
 use Rattle.slots.specs.Slot.{sharedFor, sharedAny}
 use Rattle.laws.specs.Mask.{unionBelow}

@@ -1,9 +1,9 @@
 -- One more mark, by party number; the other fields stay.
-use Rattle.slots.specs.Slot.{withMark}
-use lib.Pow.{shl-exact}
-use native.Mathlib.Omega.{arith}
 use native.Mathlib.Nat.{one-mul}
-use mathlib.Core.Path.{_≡_}
+use native.Mathlib.Omega.{arith}
+use lib.Pow.{shl-exact}
+use Rattle.laws.specs.Booleans.{tests}
+use Rattle.slots.specs.Slot.{withMark}
 use borrow.Author.Needs.{needs}
 use Rattle.slots.proofs.Slot.with_mark.Statement.{statement}
 use Rattle.slots.proofs.Slot.with_mark.Tie as tie
@@ -20,7 +20,19 @@ shl-self-2 c = search needs
 
 returns-2 : tie.Need-returns-2
 unfolding withMark
-returns-2 c = let one : c .before .before .args .party ≡ 1 = omega (arith, c .before .before .pre, c .before .if1 .left) in rw (one, shl-exact {a = 1} 1 (c .before .before .args .destination) 8 (omega arith) (omega arith), one-mul)
+returns-2 c = rw (c .before .if2 .taken, shl-exact {a = 1} 1 (c .before .before .before .args .destination) 8 (omega arith) (omega arith), one-mul)
+
+shl-self-3 : tie.Need-shl-self-3
+shl-self-3 c = search needs
+
+returns-3 : tie.Need-returns-3
+unfolding withMark
+returns-3 c = rw (c .before .if3 .taken, shl-exact {a = 1} 1 (c .before .before .before .before .args .destination) 8 (omega arith) (omega arith), one-mul)
+
+returns-4 : tie.Need-returns-4
+unfolding withMark
+returns-4 c = simp (tests, c .before .before .if1 .left, c .before .if2 .left, c .if3 .left)
 
 pub with-mark-spec : {M : Type 1} → statement M
-with-mark-spec = tie.close (tie.spec shl-self returns shl-self-2 returns-2)
+with-mark-spec =
+    tie.close (tie.spec shl-self returns shl-self-2 returns-2 shl-self-3 returns-3 returns-4)

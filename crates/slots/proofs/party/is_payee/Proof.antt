@@ -1,18 +1,37 @@
--- The party's bit among the payees.
+-- The bit of the party's place among the payees.
+use denote.Ref.{now}
+use Rattle.laws.specs.Booleans.{held}
+use borrow.Author.Tests.{not-true, not-false}
+use native.Mathlib.Omega.{arith}
+use mathlib.Core.Path.{sym, _∙_}
+use Rattle.sheet.specs.Field.{parties, place}
+use Rattle.sheet.proofs.Parties.{parties-few, place-below}
 use Rattle.slots.specs.Destination.{isPayee}
 use borrow.Author.Needs.{needs}
 use Rattle.slots.proofs.party.is_payee.Statement.{statement}
 use Rattle.slots.proofs.party.is_payee.Tie as tie
 
-payees-requires : tie.Need-payees-requires
-payees-requires c κs = search needs
-
-has-requires : tie.Need-has-requires
-has-requires c κs = search needs
+is-party-requires : tie.Need-is-party-requires
+is-party-requires c κs = search needs
 
 returns : tie.Need-returns
 unfolding isPayee
-returns c = rw (← (c .before .payees .ensures)) (c .has .ensures)
+returns c = simp (← (c .before .is-party .ensures), not-true (c .before .is-party .result) (c .if1 .taken))
+
+payees-requires : tie.Need-payees-requires
+payees-requires c κs = search needs
+
+place-requires : tie.Need-place-requires
+place-requires c κs = search needs
+
+has-requires : tie.Need-has-requires
+has-requires c κs = let h = place-below _ _ (held _ _ (c .before .before .before .is-party .ensures) (c .before .before .if1 .left)) in rw (c .place .ensures) (omega (arith, h, parties-few (now (c .before .before .before .before .before .args .sheet))))
+
+returns-2 : tie.Need-returns-2
+unfolding isPayee
+returns-2 c = simp (← (c .before .before .before .before .is-party .ensures), not-false (c .before .before .before .before .is-party .result) (c .before .before .before .if1 .left), ← (c .before .before .payees .ensures), ← (c .before .place .ensures)) (c .has .ensures)
 
 pub is-payee-spec : {M : Type 1} → statement M
-is-payee-spec = tie.close (tie.spec payees-requires has-requires returns)
+is-payee-spec =
+    tie.close
+    (tie.spec is-party-requires returns payees-requires place-requires has-requires returns-2)

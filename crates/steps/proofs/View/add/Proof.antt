@@ -1,6 +1,6 @@
--- Each part joined.
-use Rattle.steps.specs.Forms.View.{viewWith}
+-- The sets with k, by what its slot has.
 use Rattle.slots.specs.Slot.{standing}
+use Rattle.steps.specs.Forms.View.{viewWith}
 use borrow.Author.Needs.{needs}
 use Rattle.steps.proofs.View.add.Statement.{statement}
 use Rattle.steps.proofs.View.add.Tie as tie

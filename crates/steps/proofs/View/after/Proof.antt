@@ -1,4 +1,4 @@
--- With the slot of k, and the other numbers.
+-- As with k added, but for the blocks mined and the keys.
 use Rattle.steps.specs.Forms.View.{viewWith, viewAfter}
 use borrow.Author.Needs.{needs}
 use Rattle.steps.proofs.View.after.Statement.{statement}

@@ -1,19 +1,28 @@
--- By party number.
-use Rattle.laws.specs.Booleans.{tests}
+-- A byte of the keys, 0 past them.
+use Rattle.laws.specs.Each.{length-of-map}
+use native.Mathlib.Omega.{arith}
+use mathlib.Core.Path.{_≡_, sym}
+use lib.ListN.{length, List·getD-eq-default}
 use Rattle.steps.specs.Forms.View.{keysIn}
 use borrow.Author.Needs.{needs}
 use Rattle.steps.proofs.View.keys.Statement.{statement}
 use Rattle.steps.proofs.View.keys.Tie as tie
-use Rattle.steps.proofs.View.keys.Reads as reads
-use Rattle.steps.proofs.View.keys.Lts as lts
+
+wide-requires : tie.Need-wide-requires
+wide-requires c κs = search needs
+
+element-copy-out-result : tie.Need-element-copy-out-result
+element-copy-out-result c = search needs
 
 returns : tie.Need-returns
 unfolding keysIn
-returns c = simp (tests, c .if1 .taken)
+returns c = rw (c .before .before .wide .ensures .is)
 
 returns-2 : tie.Need-returns-2
 unfolding keysIn
-returns-2 c = simp (tests, c .if1 .left)
+returns-2 c =
+    let l : length (c .before .before .args .t1 .keys) ≡ 6 = search (length-of-map, c .before .before .good) in
+    sym (List·getD-eq-default (c .before .before .args .t1 .keys) 0 (omega (arith, l, c .before .wide .ensures .is, c .if1 .left)))
 
 pub keys-spec : {M : Type 1} → statement M
-keys-spec = tie.close (tie.spec returns returns-2)
+keys-spec = tie.close (tie.spec wide-requires element-copy-out-result returns returns-2)

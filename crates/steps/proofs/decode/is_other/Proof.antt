@@ -1,17 +1,20 @@
--- A party, and not this one.
-use Rattle.steps.specs.Decode.{isOther}
-use Rattle.slots.specs.Destination.{isParty}
+-- A party of the sheet, and not the giver.
 use Rattle.laws.specs.Booleans.{tests}
+use Rattle.steps.specs.Decode.{isOther}
+use borrow.Author.Needs.{needs}
 use Rattle.steps.proofs.decode.is_other.Statement.{statement}
 use Rattle.steps.proofs.decode.is_other.Tie as tie
 
+is-party-requires : tie.Need-is-party-requires
+is-party-requires c κs = search needs
+
 returns : tie.Need-returns
-unfolding isOther isParty
-returns c = simp (tests, c .if1 .taken)
+unfolding isOther
+returns c = simp (tests, ← (c .before .is-party .ensures), c .if1 .taken)
 
 returns-2 : tie.Need-returns-2
-unfolding isOther isParty
-returns-2 c = simp (tests, c .if1 .left)
+unfolding isOther
+returns-2 c = simp (tests, ← (c .before .is-party .ensures), c .if1 .left)
 
 pub is-other-spec : {M : Type 1} → statement M
-is-other-spec = tie.close (tie.spec returns returns-2)
+is-other-spec = tie.close (tie.spec is-party-requires returns returns-2)

@@ -1,7 +1,6 @@
--- A contract transaction is shared for the contract, a paying one for a payee.
-use Rattle.steps.specs.Decode.{sharesTo}
-use Rattle.slots.specs.Destination.{isParty}
+-- A contract transaction for the contract, a paying one for its payees.
 use Rattle.laws.specs.Booleans.{tests}
+use Rattle.steps.specs.Decode.{sharesTo}
 use borrow.Author.Needs.{needs}
 use Rattle.steps.proofs.decode.shares_to.Statement.{statement}
 use Rattle.steps.proofs.decode.shares_to.Tie as tie
@@ -13,17 +12,21 @@ returns : tie.Need-returns
 unfolding sharesTo
 returns c = simp (← (c .before .is-contract .ensures), c .if1 .taken)
 
+is-party-requires : tie.Need-is-party-requires
+is-party-requires c κs = search needs
+
 is-payee-requires : tie.Need-is-payee-requires
 is-payee-requires c κs = search needs
 
 returns-2 : tie.Need-returns-2
-unfolding sharesTo isParty
-returns-2 c = simp (tests, ← (c .before .before .before .is-contract .ensures), c .before .before .if1 .left, c .before .if2 .taken, ← (c .is-payee .ensures))
+unfolding sharesTo
+returns-2 c = simp (← (c .before .before .before .before .is-contract .ensures), c .before .before .before .if1 .left, ← (c .before .before .is-party .ensures), c .before .if2 .taken, ← (c .is-payee .ensures))
 
 returns-3 : tie.Need-returns-3
-unfolding sharesTo isParty
-returns-3 c = simp (tests, ← (c .before .before .is-contract .ensures), c .before .if1 .left, c .if2 .left)
+unfolding sharesTo
+returns-3 c = simp (← (c .before .before .before .is-contract .ensures), c .before .before .if1 .left, ← (c .before .is-party .ensures), c .if2 .left)
 
 pub shares-to-spec : {M : Type 1} → statement M
 shares-to-spec =
-    tie.close (tie.spec is-contract-requires returns is-payee-requires returns-2 returns-3)
+    tie.close
+    (tie.spec is-contract-requires returns is-party-requires is-payee-requires returns-2 returns-3)

@@ -1,6 +1,6 @@
 -- By the destination.
-use Rattle.steps.specs.Decode.{spelled}
 use Rattle.laws.specs.Booleans.{tests}
+use Rattle.steps.specs.Decode.{spelled}
 use borrow.Author.Needs.{needs}
 use Rattle.steps.proofs.decode.spelled.Statement.{statement}
 use Rattle.steps.proofs.decode.spelled.Tie as tie
@@ -13,6 +13,9 @@ of-kind-requires-2 c κs = search needs
 
 of-kind-requires-3 : tie.Need-of-kind-requires-3
 of-kind-requires-3 c κs = search needs
+
+of-kind-requires-4 : tie.Need-of-kind-requires-4
+of-kind-requires-4 c κs = search needs
 
 returns : tie.Need-returns
 unfolding spelled
@@ -28,7 +31,11 @@ returns-3 c = rw (c .before .match .keys3) (c .of-kind3 .ensures)
 
 returns-4 : tie.Need-returns-4
 unfolding spelled
-returns-4 c = simp (tests, c .match .rest .1, c .match .rest .0 .1, c .match .rest .0 .0 .1)
+returns-4 c = rw (c .before .match .keys4) (c .of-kind4 .ensures)
+
+returns-5 : tie.Need-returns-5
+unfolding spelled
+returns-5 c = simp (tests, c .match .rest .1, c .match .rest .0 .1, c .match .rest .0 .0 .1, c .match .rest .0 .0 .0 .1)
 
 pub spelled-spec : {M : Type 1} → statement M
 spelled-spec =
@@ -37,7 +44,9 @@ spelled-spec =
     of-kind-requires
     of-kind-requires-2
     of-kind-requires-3
+    of-kind-requires-4
     returns
     returns-2
     returns-3
-    returns-4)
+    returns-4
+    returns-5)

@@ -1,4 +1,4 @@
--- Bob's steps, then the miner's.
+-- One actor's steps, then the other's.
 use Prim.Native.Nat.{ℕ, _≤_, _+_, _-_}
 use native.Mathlib.Omega.{arith}
 use mathlib.Core.List.{List, _++_}
@@ -6,20 +6,20 @@ use lib.ListN.{length}
 use borrow.Rule.Slice.PartMut.{putMid}
 use Rattle.laws.specs.Wrote.{Wrote, wrote-first, wrote-room, wrote-more, front-fits}
 use Rattle.output.specs.Forms.Emitted.{actorBytes}
-use Rattle.lists.specs.Forms.SetsBytes.{laterBytes}
+use Rattle.lists.specs.Forms.SetsBytes.{twoBytes}
 use borrow.Author.Needs.{needs}
-use Rattle.lists.proofs.listing.write_later.Statement.{statement}
-use Rattle.lists.proofs.listing.write_later.Tie as tie
+use Rattle.lists.proofs.listing.write_two.Statement.{statement}
+use Rattle.lists.proofs.listing.write_two.Tie as tie
 
 -- the two parts, and that they fit
 abbrev start : tie.Start → List ℕ
-start s = actorBytes (s .args .bob .below) (s .args .bob .last) 1
+start s = actorBytes (s .args .x .below) (s .args .x .last) (s .args .a)
 
 abbrev rest : tie.Start → List ℕ
-rest s = actorBytes (s .args .miner .below) (s .args .miner .last) 2
+rest s = actorBytes (s .args .y .below) (s .args .y .last) (s .args .b)
 
 fits : (s : tie.Start) → length (start s ++ rest s) ≤ length (s .args .out .now)
-unfolding laterBytes
+unfolding twoBytes
 fits s = s .pre
 
 -- the buffer after the first part, and after both
@@ -54,15 +54,18 @@ part-write-actor-end c = search needs
 write-actor-requires-2 : tie.Need-write-actor-requires-2
 write-actor-requires-2 c κs = let s = c .before .before .before .before .before .before in wrote-room _ _ _ (rest s) _ (one (c .before)) (fits s)
 
+add-result : tie.Need-add-result
+add-result c = omega (arith, two c)
+
 same-length : tie.Need-same-length
 same-length c = two c .long
 
 returns : tie.Need-returns
-unfolding laterBytes
-returns c = two c .is
+unfolding twoBytes
+returns c = (two c .at, two c .is)
 
-pub write-later-spec : {M : Type 1} → statement M
-write-later-spec =
+pub write-two-spec : {M : Type 1} → statement M
+write-two-spec =
     tie.close
     (tie.spec
     write-actor-requires
@@ -70,5 +73,6 @@ write-later-spec =
     part-write-actor-start
     part-write-actor-end
     write-actor-requires-2
+    add-result
     same-length
     returns)

@@ -3,8 +3,8 @@ use denote.Ref.{now}
 use mathlib.Core.Path.{sym}
 use lib.ListN.{List·getD-eq-default}
 use borrow.Author.Needs.{needs}
-use Rattle.position.proofs.journal.byte_or_zero.Statement.{statement}
-use Rattle.position.proofs.journal.byte_or_zero.Tie as tie
+use Rattle.sheet.proofs.field.byte_or_zero.Statement.{statement}
+use Rattle.sheet.proofs.field.byte_or_zero.Tie as tie
 
 shared-slice-read-result : tie.Need-shared-slice-read-result
 shared-slice-read-result c = search needs

@@ -1,0 +1,56 @@
+-- The four destinations of a kind and a transaction byte.
+-- Assumes nothing.
+use Prim.Native.Nat.{ℕ, _+_, _*_}
+use native.Mathlib.Nat.{add-zero}
+use mathlib.Core.Path.{_≡_, sym, ap, _∙_}
+use mathlib.Core.Bool.{Bool, false}
+use mathlib.Core.List.{List, [], _∷_}
+use lib.Bits.{bitOr}
+use lib.ListN.{getD}
+use Rattle.laws.specs.Booleans.{or-neither}
+use Rattle.laws.specs.Bits.{bit-or, no-bit}
+use Rattle.laws.specs.Gather.{gather, gather-empty}
+use Rattle.laws.specs.Mask.{bit}
+use Rattle.output.specs.Forms.Emitted.{emitted, emittedAt, opens, opensBelow, opensLast, belowBytes, lastBytes}
+
+-- four tests in a list
+four : (f : ℕ → Bool) (a b c d : Bool) (kind actor t : ℕ) → a ≡ f 0 → b ≡ f 1 → c ≡ f 2 → d ≡ f 3
+    → emittedAt (opens (a ∷ b ∷ c ∷ d ∷ [])) kind actor t ≡ emittedAt f kind actor t
+unfolding emittedAt gather opens
+four f a b c d kind actor t x y z w = rw (x, y, z, w)
+
+-- those of a transaction
+pub four-below : (below : List ℕ) (actor k t : ℕ) (a b c d : Bool)
+    → a ≡ bit (getD below (4 * k) 0) t → b ≡ bit (getD below (4 * k + 1) 0) t → c ≡ bit (getD below (4 * k + 2) 0) t → d ≡ bit (getD below (4 * k + 3) 0) t
+    → emittedAt (opens (a ∷ b ∷ c ∷ d ∷ [])) (k + 1) actor t ≡ belowBytes below actor k t
+unfolding belowBytes opensBelow
+four-below below actor k t a b c d x y z w =
+    four (opensBelow below k t) a b c d (k + 1) actor t (x ∙ ap (λ i. bit (getD below i 0) t) (sym (add-zero (4 * k)))) y z w
+
+-- those of byte 255
+pub four-last : (last actor k : ℕ) (a b c d : Bool) → a ≡ bit last (4 * k) → b ≡ bit last (4 * k + 1) → c ≡ bit last (4 * k + 2) → d ≡ bit last (4 * k + 3)
+    → emittedAt (opens (a ∷ b ∷ c ∷ d ∷ [])) (k + 1) actor 255 ≡ lastBytes last actor k
+unfolding lastBytes opensLast
+four-last last actor k a b c d x y z w = four (opensLast last k) a b c d (k + 1) actor 255 (x ∙ ap (bit last) (sym (add-zero (4 * k)))) y z w
+
+none-at : (f : ℕ → Bool) (kind actor t : ℕ) → f 0 ≡ false → f 1 ≡ false → f 2 ≡ false → f 3 ≡ false → emittedAt f kind actor t ≡ []
+unfolding emittedAt gather emitted
+none-at f kind actor t x y z w = rw (x, y, z, w)
+
+-- masks that have no bit together have none each
+no-bits : (a b c d i : ℕ) → bitOr (bitOr (bitOr a b) c) d ≡ 0 → (bit a i ≡ false) × (bit b i ≡ false) × (bit c i ≡ false) × (bit d i ≡ false)
+no-bits a b c d i e =
+    let x = or-neither (bit (bitOr (bitOr a b) c) i) (bit d i) (sym (bit-or (bitOr (bitOr a b) c) d i) ∙ ap (λ m. bit m i) e ∙ no-bit i) in
+    let w = or-neither (bit (bitOr a b) i) (bit c i) (sym (bit-or (bitOr a b) c i) ∙ x .0) in
+    let v = or-neither (bit a i) (bit b i) (sym (bit-or a b i) ∙ w .0) in
+    (v .0, v .1, w .1, x .1)
+
+-- no step of kind k + 1 where its four sets are empty
+pub none-below : (below : List ℕ) (actor k : ℕ)
+    → bitOr (bitOr (bitOr (getD below (4 * k) 0) (getD below (4 * k + 1) 0)) (getD below (4 * k + 2) 0)) (getD below (4 * k + 3) 0) ≡ 0 → gather 32 (belowBytes below actor k) ≡ []
+unfolding belowBytes opensBelow
+none-below below actor k e =
+    gather-empty (belowBytes below actor k) 32
+    (λ t.
+    let w = no-bits _ _ _ _ t e in
+    none-at (opensBelow below k t) (k + 1) actor t (ap (λ i. bit (getD below i 0) t) (add-zero (4 * k)) ∙ w .0) (w .1) (w .2) (w .3))

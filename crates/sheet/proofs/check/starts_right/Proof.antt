@@ -1,0 +1,60 @@
+-- Each start mask below k is right.
+use Prim.Native.Nat.{_≤_, _-_}
+use mathlib.Core.Path.{_≡_, sym, _∙_}
+use mathlib.Core.Bool.{true}
+use borrow.Author.Tests.{not-true, not-false}
+use Rattle.sheet.specs.Field.{parties, startMask}
+use Rattle.sheet.specs.Check.{within}
+use Rattle.laws.specs.Below.{allBelow, all-start, all-more, all-broken, all-done}
+use borrow.Author.Needs.{needs}
+use Rattle.sheet.proofs.check.starts_right.Statement.{statement}
+use Rattle.sheet.proofs.check.starts_right.Tie as tie
+
+abbrev Inv-loop : tie.InvT-loop
+Inv-loop sheet n k₀ k = (k ≤ n) × (allBelow k (λ i. within sheet (startMask sheet i)) ≡ true)
+
+abbrev μ-loop : tie.MeasureT-loop
+μ-loop sheet n k₀ k = n - k
+
+parties-requires : tie.Need-parties-requires Inv-loop μ-loop
+parties-requires c κs = search needs
+
+loop-holds : tie.Need-loop-holds Inv-loop μ-loop
+loop-holds c = (search needs, all-start _)
+
+start-mask-requires : tie.Need-start-mask-requires Inv-loop μ-loop
+start-mask-requires c κs = (search needs, rw (← (c .before .before .parties .ensures .is)) (c .loop-test .taken))
+
+within-requires : tie.Need-within-requires Inv-loop μ-loop
+within-requires c κs = search needs
+
+returns : tie.Need-returns Inv-loop μ-loop
+returns c = rw (← (c .before .before .before .before .before .parties .ensures .is)) (sym (all-broken _ _ _ (c .before .before .before .loop-test .taken) (rw (← (c .before .before .start-mask .ensures), ← (c .before .within .ensures)) (not-true _ (c .if1 .taken)))))
+
+add-k : tie.Need-add-k Inv-loop μ-loop
+add-k c = search needs
+
+loop-less : tie.Need-loop-less Inv-loop μ-loop
+loop-less c = search needs
+
+loop-again : tie.Need-loop-again Inv-loop μ-loop
+loop-again c = (search needs, all-more _ _ (c .before .before .before .before .loop .inv .1) (rw (← (c .before .before .start-mask .ensures), ← (c .before .within .ensures)) (not-false _ (c .if1 .left))))
+
+returns-2 : tie.Need-returns-2 Inv-loop μ-loop
+returns-2 c = rw (← (c .before .before .parties .ensures .is)) (all-done _ _ _ _ (c .before .loop .inv .0) (c .loop-test .left) (c .before .loop .inv .1))
+
+pub starts-right-spec : {M : Type 1} → statement M
+starts-right-spec =
+    tie.close
+    (tie.spec
+    Inv-loop
+    μ-loop
+    parties-requires
+    loop-holds
+    start-mask-requires
+    within-requires
+    returns
+    add-k
+    loop-less
+    loop-again
+    returns-2)
