@@ -8,12 +8,13 @@
  * for x86-64. It needs no heap, and of other code memcpy and memset alone. All its functions are proved; the macros and
  * the inline functions of this header, as swap_refusal_name, are plain C, compiled with the program that includes it.
  *
- * The slices: a contract sheet of 5 + 6n bytes for n transactions, 197 at most; a setup of 4 bytes; a journal of 4 bytes
- * for each step, 65,536 at most. Values of more than one byte are little-endian, in what is read and in what is written.
- * An output buffer overlaps no other slice of its call.
+ * The slices: a contract sheet; a setup of 4 bytes; a journal of 4 bytes for each step, 65,536 at most. A sheet of two
+ * parties, Alice and Bob, has 5 + 6n bytes for n transactions, and its first byte is n. A sheet of three, with Carol, has
+ * a first byte of 128 + n, a third start mask after Bob's and so 6 + 6n bytes, 198 at most. Values of more than one byte
+ * are little-endian, in what is read and in what is written. An output buffer overlaps no other slice of its call.
  *
- * The first refusal is answered, in this order: the sheet's 1 to 8, the setup's 9 and 10, the journal's 24, then 11 to 23
- * step by step, with 17 before 16, and 25 last. What else a call can answer, and in which order, stands with it.
+ * The first refusal is answered, in this order: the sheet's 1 to 8, the setup's 9, 32 and 10, the journal's 24, then 11 to
+ * 23 step by step, with 17 before 16, and 25 last. What else a call can answer, and in which order, stands with it.
  */
 #ifndef SWAP_H
 #define SWAP_H
@@ -32,10 +33,10 @@ extern "C" {
 /* The refusals: for each its name, its number and what it says. */
 #define SWAP_REFUSALS(X) \
     X(SWAP_ACCEPTED, 0, "no refusal") \
-    X(SWAP_SHEET_SHORT, 1, "sheet under 5 bytes") \
+    X(SWAP_SHEET_SHORT, 1, "sheet under 5 bytes, or 6 of three parties") \
     X(SWAP_SHEET_COUNT, 2, "number of transactions outside 1 to 32") \
     X(SWAP_SHEET_SIGNATURES, 3, "number of signatures outside 1 to 8, or a head mask beyond it") \
-    X(SWAP_SHEET_LENGTH, 4, "length of the sheet not 5 + 6 for each transaction") \
+    X(SWAP_SHEET_LENGTH, 4, "length of the sheet not 5, or 6 of three parties, + 6 for each transaction") \
     X(SWAP_SHEET_PARENT, 5, "parent neither 255 nor lower") \
     X(SWAP_SHEET_ENTRY, 6, "payees, needs or veil out of range") \
     X(SWAP_SHEET_LOCK, 7, "lock out of range, or since a parent that is not there") \
@@ -63,6 +64,7 @@ extern "C" {
     X(SWAP_BLOCKS_FIELD, 29, "block list not a multiple of 4, a transaction beyond the sheet, or a wrong destination") \
     X(SWAP_BLOCKS_ORDER, 30, "entries don't rise by block and then transaction, or a block outside 1 to 10,000") \
     X(SWAP_BLOCKS_LEDGER, 31, "the ledger refuses the block list") \
+    X(SWAP_SETUP_PARTIES, 32, "loose or careful conduct with a sheet of three parties") \
     X(SWAP_ENDING_FIELD, 33, "a mask beyond the sheet or with a contract transaction, or destinations that don't fit it") \
     X(SWAP_ENDING_IMPOSSIBLE, 34, "no accepted block list confirms the ending") \
     X(SWAP_COUNT_STALE, 35, "the journal has another count of steps") \
@@ -91,7 +93,7 @@ static inline const char *swap_refusal_name(uint32_t refusal)
     }
 }
 
-/* What it says, as "sheet under 5 bytes". */
+/* What it says, as "buffer too short". */
 static inline const char *swap_refusal_words(uint32_t refusal)
 {
     switch (refusal) {
@@ -110,7 +112,7 @@ static inline uint32_t swap_number(const uint8_t *bytes)
 
 /* The largest valid lengths in bytes, and the bytes of a step. */
 #define SWAP_TRANSACTIONS 32
-#define SWAP_SHEET_SIZE (5 + 6 * SWAP_TRANSACTIONS)
+#define SWAP_SHEET_SIZE (6 + 6 * SWAP_TRANSACTIONS)
 #define SWAP_SETUP_SIZE 4
 #define SWAP_STEP_SIZE 4
 #define SWAP_JOURNAL_SIZE 65536
@@ -122,11 +124,18 @@ static inline uint32_t swap_number(const uint8_t *bytes)
 /* A height that is not reached. */
 #define SWAP_NEVER 2147483647u
 
-/* Parties, byte 1 of a step. */
+/* What a sheet of three parties has in its first byte beside the number of transactions: their sum. */
+#define SWAP_THREE_PARTIES 128
+
+/* Parties but the miner, at most. */
+#define SWAP_PARTIES 3
+
+/* Parties, byte 1 of a step. Carol is one on a sheet of three. */
 enum swap_party {
     SWAP_ALICE = 0,
     SWAP_BOB = 1,
     SWAP_MINER = 2,
+    SWAP_CAROL = 3,
 };
 
 /* Destinations, byte 3 of a step and byte 1 of a report's row and of a block list's entry: a payee's party number, or the
@@ -139,6 +148,7 @@ enum swap_destination {
 enum swap_payees {
     SWAP_PAYS_ALICE = 1,
     SWAP_PAYS_BOB = 2,
+    SWAP_PAYS_CAROL = 4,
 };
 
 /* Kinds of step, byte 0. Byte 2 is the transaction; of SWAP_GIVE the signature, whose receiver is byte 3. */
@@ -166,8 +176,9 @@ enum swap_conduct {
     SWAP_CAREFUL = 2,
 };
 
-/* Bytes that are enough for every list: a transaction has at most 8 open steps, a signature 1, and 1 mines a block. */
-#define SWAP_LIST_SIZE (SWAP_STEP_SIZE * (8 * SWAP_TRANSACTIONS + 8 + 1))
+/* Bytes that are enough for every list: a transaction has at most 15 open steps, a signature 2, and 1 mines a block; of
+ * two parties 8, 1 and 1. */
+#define SWAP_LIST_SIZE (SWAP_STEP_SIZE * (15 * SWAP_TRANSACTIONS + 2 * 8 + 1))
 
 /* The bytes of a report: a row for each transaction, and 32 rows at most. */
 #define SWAP_REPORT_ROW 18
@@ -208,10 +219,10 @@ enum swap_status {
 uint32_t swap_check(const uint8_t *sheet, size_t sheet_length);
 
 /*
- * Runs a journal. Refusals 1 to 24; the count is the number of steps accepted, 0 under 1 to 10 and 24.
+ * Runs a journal. Refusals 1 to 24 and 32; the count is the number of steps accepted, 0 under 1 to 10, 24 and 32.
  *
  * The rest of the journal starts at byte 4 * count: at the refused step, or at the journal's end where none is refused.
- * Under 1 to 10 and 24 it is the whole journal.
+ * Under 1 to 10, 24 and 32 it is the whole journal.
  */
 uint32_t swap_run(const uint8_t *sheet, size_t sheet_length,
                   const uint8_t *setup, size_t setup_length,
@@ -219,11 +230,12 @@ uint32_t swap_run(const uint8_t *sheet, size_t sheet_length,
 
 /*
  * Lists the steps that are open after a journal: 4 bytes each, as in a journal. Alice's stand first, then Bob's, then
- * the miner's, each by kind, transaction and destination. Refusals 1 to 24 are the journal's; the count is the number of
- * steps written, 0 under a refusal.
+ * Carol's on a sheet of three, then the miner's, each by kind, transaction and destination. Refusals 1 to 24 and 32 are
+ * the journal's; the count is the number of steps written, 0 under a refusal.
  *
- * The output takes up 4 * count bytes, 1,060 (SWAP_LIST_SIZE) at most; an empty list needs no buffer. Refusal 25 says that
- * the buffer is shorter than that. Bytes after the output keep their values, and under a refusal all bytes do.
+ * The output takes up 4 * count bytes, 1,988 (SWAP_LIST_SIZE) at most, and 1,060 of two parties; an empty list needs no
+ * buffer. Refusal 25 says that the buffer is shorter than that. Bytes after the output keep their values, and under a
+ * refusal all bytes do.
  */
 uint32_t swap_list(const uint8_t *sheet, size_t sheet_length,
                    const uint8_t *setup, size_t setup_length,
@@ -232,10 +244,10 @@ uint32_t swap_list(const uint8_t *sheet, size_t sheet_length,
 
 /*
  * Reports the position after a journal: 18 bytes (SWAP_REPORT_ROW) for each transaction, in the sheet's order. Refusals
- * 1 to 24 are the journal's; the count is 0.
+ * 1 to 24 and 32 are the journal's; the count is 0.
  *
  *   byte 0          status: 1 in the pool, 2 in the block being filled, 4 confirmed, 8 dead, summed
- *   byte 1          payee: 0 Alice, 1 Bob, 2 contract, 255 unconfirmed
+ *   byte 1          payee: 0 Alice, 1 Bob, 2 contract, 3 Carol, 255 unconfirmed
  *   bytes 2 to 5    block in which it is confirmed, or 0
  *   bytes 6 to 9    lock height
  *   bytes 10 to 13  deadline
@@ -266,11 +278,12 @@ uint32_t swap_report(const uint8_t *sheet, size_t sheet_length,
 
 /*
  * Tells what an outage of the next `blocks` blocks can cost after a journal: 10 bytes (SWAP_OUTAGE_ROW) for each
- * transaction, in the sheet's order. Any number of blocks is taken. Refusals 1 to 24 are the journal's; the count is 0.
+ * transaction, in the sheet's order. Any number of blocks is taken. Refusals 1 to 24 and 32 are the journal's; the count
+ * is 0.
  *
  *   byte 0        verdict, a sum of SWAP_OUTAGE_..; PASSED alone: no hand-in is left to lose (stealth 0); PASSED with
  *                 COVERED: a hand-in may still save it (stealth 1), so any outage risks it
- *   byte 1        payees of the transaction and of all below it, or-ed: 1 Alice, 2 Bob
+ *   byte 1        payees of the transaction and of all below it, or-ed: 1 Alice, 2 Bob, 4 Carol
  *   bytes 2 to 5  soonest block: the first that can confirm it, or the one that did; never for a dead one
  *   bytes 6 to 9  soonest deadline: no rival that is locked later can be confirmed in this block or before
  *
@@ -289,9 +302,9 @@ uint32_t swap_outage(const uint8_t *sheet, size_t sheet_length,
 
 /*
  * Lays the report out as text: a header, then a line for each transaction, each of 72 characters and a line feed
- * (SWAP_PAGE_LINE bytes). Right-aligned columns: number in 3, status in 4, payee in 9 (Alice, Bob, contract, or a dash for
- * an unconfirmed one), block in 8, lock height in 16, deadline in 16 ("never" for never), then blanks. Refusals 1 to 24 are
- * the journal's; the count is 0.
+ * (SWAP_PAGE_LINE bytes). Right-aligned columns: number in 3, status in 4, payee in 9 (Alice, Bob, Carol, contract, or a
+ * dash for an unconfirmed one), block in 8, lock height in 16, deadline in 16 ("never" for never), then blanks. Refusals
+ * 1 to 24 and 32 are the journal's; the count is 0.
  *
  * The output takes up 73 (n + 1) bytes, 2,409 (SWAP_PAGE_SIZE) at most, without a zero at its end. Refusal 25 says that the
  * buffer is shorter than that. Bytes after the output keep their values, and under a refusal all bytes do.
@@ -304,7 +317,7 @@ uint32_t swap_page(const uint8_t *sheet, size_t sheet_length,
 /*
  * Writes the locks of the sheet's transactions as Bitcoin's own fields: 8 bytes (SWAP_TIMELOCKS_ROW) for each, in the
  * sheet's order. base is the real chain's height when the journal is empty. The transaction version must be 2, which the
- * caller sets. Refusals 1 to 10 are the sheet's and the setup's; the count is 0.
+ * caller sets. Refusals 1 to 10 and 32 are the sheet's and the setup's; the count is 0.
  *
  *   bytes 0 to 3    nLockTime: base plus the lock height for an absolute lock, else 0
  *   bytes 4 to 7    nSequence: FFFFFFFF (hexadecimal) without a lock, FFFFFFFE for an absolute one, and days * blocks per
@@ -327,8 +340,8 @@ uint32_t swap_timelocks(const uint8_t *sheet, size_t sheet_length,
  * the lengths don't add up to the bytes that follow them. It is tested after the sheet and before any setup.
  *
  * The output takes up 8 bytes (SWAP_DESK_ENTRY) for each swap, in the bundle's order: the refusal, 4 bytes, and the
- * steps accepted, 4 bytes, of swap_run on the sheet, its setup and its journal. So refusals 9 to 24 are written, each
- * for its own swap, and none of them is returned. Refusal 25, tested after 28, says that the buffer is shorter than
+ * steps accepted, 4 bytes, of swap_run on the sheet, its setup and its journal. So refusals 9 to 24 and 32 are written,
+ * each for its own swap, and none of them is returned. Refusal 25, tested after 28, says that the buffer is shorter than
  * that. Bytes after the output keep their values, and under a refusal of the call all bytes do.
  */
 uint32_t swap_desk(const uint8_t *sheet, size_t sheet_length,
@@ -339,11 +352,11 @@ uint32_t swap_desk(const uint8_t *sheet, size_t sheet_length,
  * Checks another firm's block list, what was confirmed without steps: 4 bytes for each entry, any number of them.
  *
  *   byte 0          transaction
- *   byte 1          destination: 2 for a contract transaction, a payee (0 Alice, 1 Bob) for a paying one
+ *   byte 1          destination: 2 for a contract transaction, a payee (0 Alice, 1 Bob, 3 Carol) for a paying one
  *   bytes 2 and 3   block, 1 to 10,000
  *
- * Refusals 1 to 10 of sheet and setup, then 29, 30 and 31, each over the whole list; the count is 0. An empty list is accepted.
- * Signatures and conduct are not judged.
+ * Refusals 1 to 10 and 32 of sheet and setup, then 29, 30 and 31, each over the whole list; the count is 0. An empty list is
+ * accepted. Signatures and conduct are not judged.
  */
 uint32_t swap_blocks(const uint8_t *sheet, size_t sheet_length,
                      const uint8_t *setup, size_t setup_length,
@@ -354,9 +367,9 @@ uint32_t swap_blocks(const uint8_t *sheet, size_t sheet_length,
  * their ancestors, each at its earliest block. The destinations are payees, 4 bytes for each bit set, by rising transaction number.
  * No accepted list has one of these transactions in an earlier block.
  *
- * Refusals 1 to 10 of sheet and setup, then 33, 34 and 25; the count is the number of entries written, 0 under a refusal. The output
- * takes up 4 * count bytes, 128 (SWAP_EARLIEST_SIZE) at most; an empty mask gives an empty list. Bytes after the output keep their
- * values, and under a refusal all bytes do.
+ * Refusals 1 to 10 and 32 of sheet and setup, then 33, 34 and 25; the count is the number of entries written, 0 under a refusal.
+ * The output takes up 4 * count bytes, 128 (SWAP_EARLIEST_SIZE) at most; an empty mask gives an empty list. Bytes after the output
+ * keep their values, and under a refusal all bytes do.
  */
 #define SWAP_EARLIEST_SIZE (4 * SWAP_TRANSACTIONS)
 uint32_t swap_earliest(const uint8_t *sheet, size_t sheet_length,
@@ -366,8 +379,8 @@ uint32_t swap_earliest(const uint8_t *sheet, size_t sheet_length,
                        uint8_t *output, size_t output_length);
 
 /*
- * Asks whether a step of 4 bytes would pass after a journal, and changes nothing. Refusals 1 to 24; 24 also where the
- * journal has 65,536 bytes, so no room for a step. The journal's own refusal comes first, with the count of swap_run; then
+ * Asks whether a step of 4 bytes would pass after a journal, and changes nothing. Refusals 1 to 24 and 32; 24 also where
+ * the journal has 65,536 bytes, so no room for a step. The journal's own refusal comes first, with the count of swap_run; then
  * the step's, 11 where it is not of 4 bytes, with the count of steps in the journal, as under 0.
  */
 uint32_t swap_ask(const uint8_t *sheet, size_t sheet_length,
@@ -380,7 +393,7 @@ uint32_t swap_ask(const uint8_t *sheet, size_t sheet_length,
  * stands in the 4 bytes after them, and `size` + 4 is the journal's new length. The count is the one that swap_ask gave; the
  * answer's own count is 0.
  *
- * In this order: 1 to 10; 24, also where `size` is beyond the buffer or at 65,536; the journal's own 11 to 23; 35 where the
+ * In this order: 1 to 10 and 32; 24, also where `size` is beyond the buffer or at 65,536; the journal's own 11 to 23; 35 where the
  * count is not the number of the journal's steps; the step's own 11 to 23; 25 where the buffer has no 4 bytes left. All
  * other bytes keep their values, and under a refusal all bytes do. After a commit that passed, a second one with the same
  * count and the new length is refused.

@@ -8,7 +8,8 @@ void print_else(FILE *to, const struct position *position, uint8_t t, uint32_t b
     uint8_t rival = later_rival(position, t);
 
     fprintf(to, "else %s, pays %s, from %s", transaction_label(position->swap, rival).text,
-            payees_name(can_pay(position, rival)), height_label(base, soonest_deadline_of(position, t) + 1).text);
+            payees_name(position->swap, can_pay(position, rival)),
+            height_label(base, soonest_deadline_of(position, t) + 1).text);
 }
 
 void print_if(FILE *to, const char *words, const struct position *position, uint8_t t, uint32_t base)

@@ -16,8 +16,8 @@ const char help[] =
     "--days D       the same in days of each swap's setup; left out: 1\n"
     "--from BLOCK   the first block of the outage; left out: the next one\n"
     "--margin N     blocks to spare after the outage; left out: 0\n"
-    "--side SIDE    alice or bob; left out: what the file `side` in the swap's folder\n"
-    "               says, else both\n"
+    "--side SIDE    alice, bob or carol; left out: what the file `side` in the swap's\n"
+    "               folder says, else every party\n"
     "--base HEIGHT  the real chain's height before block 1 of the swaps: heights are\n"
     "               printed, and --from is read, as the real chain's\n"
     "--full         for each swap the position, the steps that each party could take\n"
@@ -59,11 +59,11 @@ static const struct {
 
 uint8_t side_named(const char *name)
 {
-    static const char *const names[] = {"alice", "bob"};
+    static const char *const names[] = {"alice", "bob", "carol"}; /* in the order of their bits among payees */
 
-    for (unsigned party = 0; party < sizeof names / sizeof names[0]; party++) {
-        if (strcmp(name, names[party]) == 0) {
-            return (uint8_t)(1u << party);
+    for (unsigned bit = 0; bit < sizeof names / sizeof names[0]; bit++) {
+        if (strcmp(name, names[bit]) == 0) {
+            return (uint8_t)(1u << bit);
         }
     }
     return 0;
@@ -126,7 +126,7 @@ static bool read_values(const char *const values[ARGUMENTS], struct question *qu
     }
     if (values[SIDE] != NULL) {
         question->sides = side_named(values[SIDE]);
-        return question->sides != 0 || wrong("--side", values[SIDE], "neither alice nor bob");
+        return question->sides != 0 || wrong("--side", values[SIDE], "not alice, bob or carol");
     }
     return true;
 }

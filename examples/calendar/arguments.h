@@ -23,7 +23,7 @@ struct question {
 extern const char usage[];
 extern const char help[];
 
-/* The mask of a side's name; 0 where it is none. */
+/* The mask of a party's name; 0 where it is none. */
 uint8_t side_named(const char *name);
 
 /* Reads the arguments; false, with a message, where one is wrong. */

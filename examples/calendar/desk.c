@@ -16,6 +16,11 @@ bool is_sound(const struct entry *entry)
     return entry->fault.file == NULL && SWAP_REFUSAL(entry->answer) == SWAP_ACCEPTED;
 }
 
+bool is_shown(const struct entry *entry, uint8_t side)
+{
+    return is_among(entry->sides, side);
+}
+
 /* One entry more, with a name; NULL where there is no memory. */
 static struct entry *add_entry(struct desk *desk, const char *name)
 {
@@ -46,7 +51,7 @@ static bool add_folder(struct desk *desk, const char *name, const char *folder)
     }
     entry->fault = read_swap(folder, &entry->swap);
     if (entry->fault.file == NULL) {
-        entry->fault = read_side(folder, &entry->sides);
+        entry->fault = read_side(folder, &entry->swap, &entry->sides);
     }
     return true;
 }
@@ -137,9 +142,9 @@ void ask_desk(const struct question *question, struct desk *desk)
             ask_entry(question, entry);
         }
         if (question->sides != 0) {
-            entry->sides = question->sides;
+            entry->sides = question->sides & everybody(&entry->swap);
         } else if (entry->sides == 0) {
-            entry->sides = SWAP_PAYS_ALICE | SWAP_PAYS_BOB;
+            entry->sides = everybody(&entry->swap);
         }
     }
 }

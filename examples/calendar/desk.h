@@ -25,6 +25,9 @@ struct desk {
 /* Whether an entry is read and its journal accepted whole. */
 bool is_sound(const struct entry *entry);
 
+/* Whether the number is a party whose lines are shown. */
+bool is_shown(const struct entry *entry, uint8_t side);
+
 /*
  * Reads the swaps that are asked for: the embedded one; or those of the folder, which is one swap or holds one in each
  * subfolder, in the order of their names' bytes. Files and names that begin with a dot are passed over. False, with the

@@ -10,6 +10,7 @@
 #include <unistd.h>
 
 #include "arguments.h"
+#include "fields.h"
 
 /* A folder's name and a file's; a name has 255 bytes at most. */
 #define PATH_SIZE 512
@@ -111,7 +112,7 @@ bool is_swap(const char *folder)
     return false;
 }
 
-struct fault read_side(const char *folder, uint8_t *sides)
+struct fault read_side(const char *folder, const struct swap *swap, uint8_t *sides)
 {
     char text[SIDE_SIZE + 1] = "";
     char path[PATH_SIZE];
@@ -131,5 +132,8 @@ struct fault read_side(const char *folder, uint8_t *sides)
         text[--length] = '\0';
     }
     *sides = strlen(text) == length ? side_named(text) : 0;
-    return *sides != 0 ? none() : fault("side", "neither alice nor bob");
+    if ((*sides & ~everybody(swap)) != 0) {
+        return fault("side", "carol is no party of this sheet");
+    }
+    return *sides != 0 ? none() : fault("side", "not alice, bob or carol");
 }

@@ -31,7 +31,8 @@ bool is_swap(const char *folder);
 /* Reads the swap of a folder. Only plain files are read: none is waited for. */
 struct fault read_swap(const char *folder, struct swap *swap);
 
-/* Reads the file `side` of a folder: the mask of the side that it names, 0 where there is no such file. */
-struct fault read_side(const char *folder, uint8_t *sides);
+/* Reads the file `side` of a folder with this swap: the mask of the party that it names, 0 where there is no such
+ * file. */
+struct fault read_side(const char *folder, const struct swap *swap, uint8_t *sides);
 
 #endif

@@ -95,9 +95,9 @@ static void key_sides(struct json *json, const char *name, uint8_t mask)
 {
     key(json, name);
     begin(json, '[');
-    for (size_t i = 0; i < SIDES; i++) {
-        if ((mask & sides[i].bit) != 0) {
-            string(json, party_name(sides[i].party));
+    for (uint8_t side = SWAP_ALICE; side <= SWAP_CAROL; side++) {
+        if (is_among(mask, side)) {
+            string(json, party_name(side));
         }
     }
     end(json, ']');
@@ -201,10 +201,8 @@ static void key_verdicts(struct json *json, const struct entry *entry, uint8_t t
 
     key(json, "sides");
     begin(json, '[');
-    for (size_t i = 0; i < SIDES; i++) {
-        uint8_t side = sides[i].party;
-
-        if ((entry->sides & sides[i].bit) != 0) {
+    for (uint8_t side = SWAP_ALICE; side <= SWAP_CAROL; side++) {
+        if (is_shown(entry, side)) {
             begin(json, '{');
             key_string(json, "side", party_name(side));
             key_string(json, "outage", words[kind_of(position, &entry->outage, t, side)]);

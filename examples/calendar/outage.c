@@ -49,7 +49,7 @@ enum kind kind_of(const struct position *position, const struct outage *outage, 
     if (verdict == SWAP_OUTAGE_SETTLED) {
         return SETTLED;
     }
-    if ((can_pay(position, t) >> side & 1) == 0) {
+    if ((can_pay(position, t) & payee_bit(side)) == 0) {
         return OTHERS;
     }
     if (verdict == SWAP_OUTAGE_SAFE) {

@@ -48,7 +48,7 @@ void print_outlook(FILE *to, const struct question *question, const struct entry
         fprintf(to, "no deadline ahead");
         break;
     default:
-        fprintf(to, "the other side's");
+        fputs(parties_of(&entry->swap) == 2 ? "the other side's" : "another side's", to);
         return;
     }
     print_in_the_way(to, &entry->position, t, side);

@@ -85,10 +85,10 @@ static size_t lines_of(const struct desk *desk, struct line *lines)
     size_t count = 0;
 
     for (size_t i = 0; i < desk->count; i++) {
-        for (uint8_t side = SWAP_ALICE; side <= SWAP_BOB; side++) {
+        for (uint8_t side = SWAP_ALICE; side <= SWAP_CAROL; side++) {
             const struct entry *entry = desk->entries[i];
 
-            if (is_sound(entry) ? (entry->sides >> side & 1) == 1 : side == SWAP_ALICE) {
+            if (is_sound(entry) ? is_shown(entry, side) : side == SWAP_ALICE) {
                 lines[count++] = line_of(entry, i, side);
             }
         }
@@ -167,7 +167,7 @@ static void show_line(const struct question *question, const struct line *line)
 
 struct line *lines_by_urgency(const struct desk *desk, size_t *count)
 {
-    struct line *lines = malloc((2 * desk->count + 1) * sizeof *lines);
+    struct line *lines = malloc((SWAP_PARTIES * desk->count + 1) * sizeof *lines);
 
     if (lines != NULL) {
         *count = lines_of(desk, lines);

@@ -60,10 +60,8 @@ static void write_settled(FILE *page, const struct question *question, const str
 /* Whether a transaction is of this kind for all sides that are shown, or else for one of them. */
 static bool has_kind(const struct entry *entry, uint8_t t, enum kind kind, bool all)
 {
-    for (size_t i = 0; i < SIDES; i++) {
-        bool shown = (entry->sides & sides[i].bit) != 0;
-
-        if (shown && (kind_of(&entry->position, &entry->outage, t, sides[i].party) == kind) != all) {
+    for (uint8_t side = SWAP_ALICE; side <= SWAP_CAROL; side++) {
+        if (is_shown(entry, side) && (kind_of(&entry->position, &entry->outage, t, side) == kind) != all) {
             return !all;
         }
     }
@@ -110,14 +108,14 @@ static void write_row(FILE *page, const struct question *question, const struct 
     const char *class = warning ? "warning" : has_kind(entry, t, OTHERS, true) ? "others" : "calm";
 
     fprintf(page, "<tr class=\"%s\"><th>%s</th><td>%s</td><td>%s</td>", class, transaction_label(&entry->swap, t).text,
-            payees_name(can_pay(position, t)), status_label(status_of(position, t)).text);
+            payees_name(&entry->swap, can_pay(position, t)), status_label(status_of(position, t)).text);
     write_heights(page, question->base, position, t);
     fputs("<td class=\"lane\">", page);
     write_lane(page, axis, question, entry, t, warning);
     fputs("</td><td>", page);
-    for (size_t i = 0; i < SIDES; i++) {
-        if ((entry->sides & sides[i].bit) != 0) {
-            write_side(page, question, entry, t, sides[i].party);
+    for (uint8_t side = SWAP_ALICE; side <= SWAP_CAROL; side++) {
+        if (is_shown(entry, side)) {
+            write_side(page, question, entry, t, side);
         }
     }
     fputs("</td></tr>\n", page);
@@ -129,11 +127,11 @@ static void write_title(FILE *page, const struct entry *entry)
     fputs("<h2><bdi>", page);
     write_text(page, AS_HTML, entry->name);
     fputs("</bdi>", page);
-    for (size_t i = 0; i < SIDES; i++) {
-        if ((entry->sides & sides[i].bit) != 0) {
-            size_t warnings = warnings_of(entry, &sides[i]);
+    for (uint8_t side = SWAP_ALICE; side <= SWAP_CAROL; side++) {
+        if (is_shown(entry, side)) {
+            size_t warnings = warnings_of(entry, side);
 
-            fprintf(page, ", %s", party_name(sides[i].party));
+            fprintf(page, ", %s", party_name(side));
             if (warnings > 0) {
                 fprintf(page, ": <b>%lu WARNING%s</b>", (unsigned long)warnings, warnings > 1 ? "S" : "");
             }

@@ -6,11 +6,19 @@
 #include "saswap.h"
 #include "words.h"
 
+static const char *sheet_name(const struct swap *swap)
+{
+    if (parties_of(swap) == 3) {
+        return "three parties";
+    }
+    return is_saswap(swap) ? "SASwap" : "other";
+}
+
 static void show_inputs(const struct position *position, uint32_t base)
 {
     const struct swap *swap = position->swap;
 
-    printf("  sheet: %s, transactions %u\n", is_saswap(swap) ? "SASwap" : "other", (unsigned)count_of(swap));
+    printf("  sheet: %s, transactions %u\n", sheet_name(swap), (unsigned)count_of(swap));
     printf("  setup: blocks per day %u, conduct %s, stealth %u\n", blocks_per_day_of(swap),
            conduct_name(conduct_of(swap)), (unsigned)stealth_of(swap));
     printf("  journal: steps accepted %lu, blocks mined %lu", (unsigned long)position->steps,
@@ -146,7 +154,7 @@ static void show_kind(const struct entry *entry, uint8_t t, enum kind kind, cons
         show_no_window(&entry->position, t, question->base);
         break;
     default:
-        printf("the other side's");
+        printf(parties_of(entry->position.swap) == 2 ? "the other side's" : "another side's");
         break;
     }
 }
@@ -199,7 +207,8 @@ static void show_deadlines(const struct entry *entry, uint8_t side, const struct
         enum kind kind = kind_of(position, &entry->outage, t, side);
 
         if (kind != SETTLED) {
-            printf("    %-22s%-8s", transaction_label(position->swap, t).text, payees_name(can_pay(position, t)));
+            printf("    %-22s%-8s", transaction_label(position->swap, t).text,
+                   payees_name(position->swap, can_pay(position, t)));
             show_kind(entry, t, kind, question);
             show_standing(position, t, side, question->base);
             if (kind != OTHERS) {
@@ -249,10 +258,13 @@ static void show_position_of(const struct entry *entry, const struct question *q
     show_position(position, question->base);
     show_open_steps(position, SWAP_ALICE);
     show_open_steps(position, SWAP_BOB);
+    if (parties_of(&entry->swap) == 3) {
+        show_open_steps(position, SWAP_CAROL);
+    }
     show_open_steps(position, SWAP_MINER);
     show_payouts(position, question->base);
-    for (uint8_t side = SWAP_ALICE; side <= SWAP_BOB; side++) {
-        if ((entry->sides >> side & 1) == 1) {
+    for (uint8_t side = SWAP_ALICE; side <= SWAP_CAROL; side++) {
+        if (is_shown(entry, side)) {
             show_deadlines(entry, side, question);
         }
     }

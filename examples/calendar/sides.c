@@ -1,16 +1,11 @@
 #include "sides.h"
 
-const struct side sides[SIDES] = {
-    {SWAP_ALICE, 1},
-    {SWAP_BOB, 2},
-};
-
-size_t warnings_of(const struct entry *entry, const struct side *side)
+size_t warnings_of(const struct entry *entry, uint8_t side)
 {
     size_t warnings = 0;
 
     for (uint8_t t = 0; t < count_of(&entry->swap); t++) {
-        warnings += kind_of(&entry->position, &entry->outage, t, side->party) == WARNING;
+        warnings += kind_of(&entry->position, &entry->outage, t, side) == WARNING;
     }
     return warnings;
 }

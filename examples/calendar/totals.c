@@ -19,8 +19,8 @@ struct totals totals_of(const struct desk *desk)
         const struct entry *entry = desk->entries[i];
 
         totals.refused += !is_sound(entry);
-        for (uint8_t side = SWAP_ALICE; side <= SWAP_BOB && is_sound(entry); side++) {
-            if ((entry->sides >> side & 1) == 1) {
+        for (uint8_t side = SWAP_ALICE; side <= SWAP_CAROL && is_sound(entry); side++) {
+            if (is_shown(entry, side)) {
                 add(&totals, entry, side);
             }
         }

@@ -56,7 +56,7 @@ static struct label signature_label(const struct swap *swap, uint8_t number)
 
 const char *party_name(uint8_t party)
 {
-    static const char *const names[] = {"Alice", "Bob", "the miner"};
+    static const char *const names[] = {"Alice", "Bob", "the miner", "Carol"};
 
     return names[party];
 }
@@ -66,11 +66,12 @@ const char *destination_name(uint8_t destination)
     return destination == SWAP_CONTRACT ? "contract" : party_name(destination);
 }
 
-const char *payees_name(uint8_t payees)
+const char *payees_name(const struct swap *swap, uint8_t payees)
 {
-    static const char *const names[] = {"nobody", "Alice", "Bob", "either"};
+    static const char *const of_two[] = {"nobody", "Alice", "Bob", "either"};
+    static const char *const of_three[] = {"nobody", "Alice", "Bob", "A or B", "Carol", "A or C", "B or C", "anyone"};
 
-    return names[payees];
+    return parties_of(swap) == 2 ? of_two[payees] : of_three[payees];
 }
 
 const char *conduct_name(uint8_t conduct)

@@ -24,8 +24,8 @@ struct label transaction_label(const struct swap *swap, uint8_t t);
 const char *party_name(uint8_t party);
 const char *destination_name(uint8_t destination);
 
-/* Payees, as a mask. */
-const char *payees_name(uint8_t payees);
+/* Payees of a sheet, as a mask. */
+const char *payees_name(const struct swap *swap, uint8_t payees);
 
 const char *conduct_name(uint8_t conduct);
 

@@ -20,9 +20,10 @@ def blocks_mined(swap, journal):
 
 def print_rows(swap, sheet, setup, journal):
     size = swap.constant["SWAP_REPORT_ROW"]
-    output = bytearray(size * sheet[0])
+    count = sheet[0] % swap.constant["SWAP_THREE_PARTIES"]
+    output = bytearray(size * count)
     swap.call("swap_report", sheet, setup, journal, output)
-    for t in range(sheet[0]):
+    for t in range(count):
         row = output[size * t : size * (t + 1)]
         heights = (swap.number(row, "SWAP_REPORT_" + name) for name in ("BLOCK", "LOCK_HEIGHT", "DEADLINE"))
         print(t, row[swap.constant["SWAP_REPORT_STATUS"]], row[swap.constant["SWAP_REPORT_PAYEE"]], *heights)

@@ -7,13 +7,21 @@
 #include "../calendar/saswap.h"
 #include "../calendar/words.h"
 
-/* The fields of the head, as the sheet has them after the number of transactions. */
-enum { SIGNATURES, SECRETS, ALICE_HOLDS, BOB_HOLDS, HEAD_FIELDS };
+/* The fields of the head, as the sheet has them after the number of transactions; the last makes it a sheet of three. */
+enum { SIGNATURES, SECRETS, ALICE_HOLDS, BOB_HOLDS, CAROL_HOLDS, HEAD_FIELDS };
 
-static const char *const head_names[HEAD_FIELDS] = {"signatures", "secrets", "alice holds", "bob holds"};
+static const char *const head_names[HEAD_FIELDS] = {"signatures", "secrets", "alice holds", "bob holds", "carol holds"};
 
-/* By number, as payees have them. */
-static const char *const payees[] = {"nobody", "alice", "bob", "either"};
+/* The parties, in the order of their bits among payees. */
+static const char *const names[SWAP_PARTIES] = {"alice", "bob", "carol"};
+
+/* What stands for both parties of a sheet of two. */
+static const char either[] = "either";
+
+static unsigned parties(const struct draft *draft)
+{
+    return draft->has_head[CAROL_HOLDS] ? 3 : 2;
+}
 
 /* Takes the numbers of some signatures, or none. */
 static bool expect_mask(struct line *line, const struct draft *draft, uint8_t *mask)
@@ -45,6 +53,9 @@ static bool read_head(struct line *line, struct draft *draft, unsigned field)
 
     if (draft->has_head[field]) {
         return bad(line, "'%s' for the second time", head_names[field]);
+    }
+    if (field == CAROL_HOLDS && draft->count > 0) {
+        return bad(line, "'%s' must stand before the transactions", head_names[field]);
     }
     if (field == SIGNATURES) {
         if (!expect_number(line, 1, 8, &number)) {
@@ -80,18 +91,43 @@ static bool read_parent(struct line *line, uint8_t t, uint8_t *parent)
     return true;
 }
 
-static bool read_payees(struct line *line, uint8_t *mask)
+/* Takes a party that is not among the payees yet. */
+static bool read_payee(struct line *line, const struct draft *draft, uint8_t *mask)
 {
-    if (!expect(line, "pays")) {
-        return false;
-    }
-    for (uint8_t number = 0; number < 4; number++) {
-        if (take(line, payees[number])) {
-            *mask = number;
+    for (unsigned bit = 0; bit < parties(draft); bit++) {
+        if (take(line, names[bit])) {
+            if ((*mask >> bit & 1u) != 0) {
+                return bad(line, "%s stands there twice", names[bit]);
+            }
+            *mask = (uint8_t)(*mask | 1u << bit);
             return true;
         }
     }
-    return bad(line, "'%s' where 'nobody', 'alice', 'bob' or 'either' is expected", next_word(line));
+    return bad(line, parties(draft) == 2 ? "'%s' where 'nobody', 'alice', 'bob' or 'either' is expected"
+                                         : "'%s' where 'nobody', 'alice', 'bob' or 'carol' is expected",
+               next_word(line));
+}
+
+/* Takes nobody, or parties with 'or' between them; 'either' for both of two. */
+static bool read_payees(struct line *line, const struct draft *draft, uint8_t *mask)
+{
+    *mask = 0;
+    if (!expect(line, "pays")) {
+        return false;
+    }
+    if (take(line, "nobody")) {
+        return true;
+    }
+    if (parties(draft) == 2 && take(line, either)) {
+        *mask = 3;
+        return true;
+    }
+    do {
+        if (!read_payee(line, draft, mask)) {
+            return false;
+        }
+    } while (take(line, "or"));
+    return true;
 }
 
 static bool read_needs(struct line *line, const struct draft *draft, uint8_t *mask)
@@ -134,7 +170,8 @@ static bool read_transaction(struct line *line, struct draft *draft)
         return bad(line, "transaction %u where transaction %u is expected", number, (unsigned)t);
     }
     entry = draft->first[t];
-    if (!read_parent(line, t, &entry[0]) || !read_payees(line, &entry[1]) || !read_needs(line, draft, &entry[2])) {
+    if (!read_parent(line, t, &entry[0]) || !read_payees(line, draft, &entry[1]) ||
+        !read_needs(line, draft, &entry[2])) {
         return false;
     }
     entry[3] = take(line, "veiled");
@@ -184,21 +221,22 @@ static bool refuse_sheet(const struct draft *draft, struct line at, uint32_t ref
 
 bool end_sheet(const struct line *line, const struct draft *draft, struct swap *swap)
 {
+    unsigned fields = CAROL_HOLDS - 2 + parties(draft);
     uint8_t *at = swap->sheet;
     uint32_t refusal;
 
-    for (unsigned field = 0; field < HEAD_FIELDS; field++) {
+    for (unsigned field = 0; field < fields; field++) {
         if (!draft->has_head[field]) {
             return bad(line, "the sheet above has no line '%s'", head_names[field]);
         }
     }
-    *at++ = draft->count;
-    memcpy(at, draft->head, HEAD_FIELDS);
-    at += HEAD_FIELDS;
+    *at++ = (uint8_t)(draft->count + (parties(draft) == 3 ? SWAP_THREE_PARTIES : 0));
+    memcpy(at, draft->head, fields);
+    at += fields;
     memcpy(at, draft->first, 4u * draft->count);
     at += 4 * draft->count;
     memcpy(at, draft->second, 2u * draft->count);
-    swap->sheet_length = 5 + 6 * (size_t)draft->count;
+    swap->sheet_length = 1 + fields + 6 * (size_t)draft->count;
     refusal = SWAP_REFUSAL(swap_check(swap->sheet, swap->sheet_length));
     return refusal == SWAP_ACCEPTED || refuse_sheet(draft, *line, refusal);
 }
@@ -216,6 +254,22 @@ static void print_mask(const char *name, uint8_t mask)
     }
 }
 
+static void print_payees(const struct swap *swap, uint8_t mask)
+{
+    const char *between = "";
+
+    if (mask == 0 || (parties_of(swap) == 2 && mask == 3)) {
+        printf("%s", mask == 0 ? "nobody" : either);
+        return;
+    }
+    for (unsigned bit = 0; bit < SWAP_PARTIES; bit++) {
+        if ((mask >> bit & 1u) != 0) {
+            printf("%s%s", between, names[bit]);
+            between = " or ";
+        }
+    }
+}
+
 static void print_transaction(const struct swap *swap, uint8_t t)
 {
     unsigned days = days_of(swap, t);
@@ -226,9 +280,10 @@ static void print_transaction(const struct swap *swap, uint8_t t)
     } else {
         printf("spends %u", (unsigned)parent_of(swap, t));
     }
-    printf(", pays %s, ", payees[payees_of(swap, t)]);
-    print_mask("needs", needs_of(swap, t));
-    if (swap->sheet[5 + 4 * t + 3] != 0) {
+    printf(", pays ");
+    print_payees(swap, payees_of(swap, t));
+    print_mask(", needs", needs_of(swap, t));
+    if (veil_of(swap, t) != 0) {
         printf(", veiled");
     }
     if (lock_type_of(swap, t) != SWAP_UNLOCKED) {
@@ -245,7 +300,7 @@ void print_sheet(const struct swap *swap)
         return;
     }
     printf("sheet:\nsignatures: %u\n", (unsigned)swap->sheet[1]);
-    for (unsigned field = SECRETS; field < HEAD_FIELDS; field++) {
+    for (unsigned field = SECRETS; 1 + field < head_of(swap); field++) {
         printf("%s:", head_names[field]);
         print_mask("", swap->sheet[1 + field]);
         putchar('\n');

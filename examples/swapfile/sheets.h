@@ -9,8 +9,8 @@
 struct draft {
     unsigned heading; /* the line on which it starts */
     uint8_t count;
-    uint8_t head[4];    /* signatures, and the masks of secrets and of what Alice and Bob hold */
-    bool has_head[4];
+    uint8_t head[5];    /* signatures, and the masks of secrets and of what Alice, Bob and Carol hold */
+    bool has_head[5];   /* with Carol's it is a sheet of three */
     uint8_t first[SWAP_TRANSACTIONS][4];
     uint8_t second[SWAP_TRANSACTIONS][2];
     unsigned lines[SWAP_TRANSACTIONS];

@@ -24,12 +24,14 @@ static const struct {
 
 static const char first_shares[] = "makes the first shares";
 
-static const char *const parties[] = {"alice", "bob"};
+/* The parties by number. */
+static const char *const parties[] = {[SWAP_ALICE] = "alice", [SWAP_BOB] = "bob", [SWAP_CAROL] = "carol"};
 
-static bool take_party(struct line *line, uint8_t *party)
+/* Takes a party of the sheet. */
+static bool take_party(struct line *line, const struct swap *swap, uint8_t *party)
 {
-    for (uint8_t number = SWAP_ALICE; number <= SWAP_BOB; number++) {
-        if (take(line, parties[number])) {
+    for (uint8_t number = SWAP_ALICE; number <= SWAP_CAROL; number++) {
+        if (is_among(everybody(swap), number) && take(line, parties[number])) {
             *party = number;
             return true;
         }
@@ -37,9 +39,11 @@ static bool take_party(struct line *line, uint8_t *party)
     return false;
 }
 
-static bool expect_party(struct line *line, uint8_t *party)
+static bool expect_party(struct line *line, const struct swap *swap, uint8_t *party)
 {
-    return take_party(line, party) || bad(line, "'%s' where 'alice' or 'bob' is expected", next_word(line));
+    const char *expected = parties_of(swap) == 2 ? "'alice' or 'bob'" : "'alice', 'bob' or 'carol'";
+
+    return take_party(line, swap, party) || bad(line, "'%s' where %s is expected", next_word(line), expected);
 }
 
 /* Takes a name of the SASwap sheet, or WORD and a number below COUNT. */
@@ -76,17 +80,17 @@ static bool expect_signature(struct line *line, const struct swap *swap, uint8_t
 }
 
 /* Takes whom the transaction pays; the contract where nobody is named. */
-static bool expect_destination(struct line *line, uint8_t *destination)
+static bool expect_destination(struct line *line, const struct swap *swap, uint8_t *destination)
 {
     *destination = SWAP_CONTRACT;
-    return !take(line, "paying") || expect_party(line, destination);
+    return !take(line, "paying") || expect_party(line, swap, destination);
 }
 
 /* The rest of a step on a transaction, after the words before its name. */
 static bool read_named(struct line *line, const struct swap *swap, uint8_t step[4])
 {
     return expect_transaction(line, swap, &step[2]) && expect(line, phrases[step[0]].after) &&
-           (step[1] == SWAP_MINER || expect_destination(line, &step[3]));
+           (step[1] == SWAP_MINER || expect_destination(line, swap, &step[3]));
 }
 
 /* The kind from FIRST to LAST whose words come next; 0 where there is none. */
@@ -100,7 +104,7 @@ static uint8_t take_kind(struct line *line, uint8_t first, uint8_t last)
     return 0;
 }
 
-/* A step of Alice or Bob, after the name. */
+/* A step of a party, after the name. */
 static bool read_own(struct line *line, const struct swap *swap, uint8_t step[4])
 {
     if (take(line, first_shares)) {
@@ -110,7 +114,7 @@ static bool read_own(struct line *line, const struct swap *swap, uint8_t step[4]
     }
     if (take(line, "gives")) {
         step[0] = SWAP_GIVE;
-        return expect_signature(line, swap, &step[2]) && expect(line, "to") && expect_party(line, &step[3]);
+        return expect_signature(line, swap, &step[2]) && expect(line, "to") && expect_party(line, swap, &step[3]);
     }
     step[0] = take_kind(line, SWAP_SHARE, SWAP_HAND_IN);
     if (step[0] == 0) {
@@ -139,8 +143,8 @@ static bool read_miner(struct line *line, const struct swap *swap, uint8_t step[
     }
     step[0] = take_kind(line, SWAP_INCLUDE, SWAP_BUMP);
     if (step[0] == 0) {
-        return bad(line, "'%s' where a step is expected: 'alice', 'bob', 'include', 'bump' or 'mine'",
-                   next_word(line));
+        return bad(line, "'%s' where a step is expected: %s'include', 'bump' or 'mine'", next_word(line),
+                   parties_of(swap) == 2 ? "'alice', 'bob', " : "'alice', 'bob', 'carol', ");
     }
     return read_named(line, swap, step);
 }
@@ -151,7 +155,7 @@ bool read_steps(struct line *line, const struct swap *swap, uint8_t step[4], uns
 
     *times = 1;
     step[3] = SWAP_CONTRACT;
-    if (take_party(line, &step[1])) {
+    if (take_party(line, swap, &step[1])) {
         sound = read_own(line, swap, step);
     } else {
         step[1] = SWAP_MINER;

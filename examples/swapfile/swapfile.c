@@ -65,9 +65,8 @@ static int tell(const char *folder, const char *file, const char *reason)
 static int refuse(const char *folder, uint32_t answer)
 {
     uint32_t refusal = SWAP_REFUSAL(answer);
-    const char *file = refusal <= SWAP_SHEET_CHILDREN    ? "sheet.bin"
-                       : refusal <= SWAP_SETUP_CONDUCT ? "setup.bin"
-                                                       : "journal.bin";
+    bool of_setup = refusal <= SWAP_SETUP_CONDUCT || refusal == SWAP_SETUP_PARTIES;
+    const char *file = refusal <= SWAP_SHEET_CHILDREN ? "sheet.bin" : of_setup ? "setup.bin" : "journal.bin";
     char step[32] = "";
 
     if (refusal >= SWAP_STEP_FIELD && refusal <= SWAP_STEP_BLOCKS) {
@@ -86,7 +85,7 @@ static int decode(const char *folder)
     uint32_t answer;
 
     if (fault.file == NULL) {
-        fault = read_side(folder, &sides);
+        fault = read_side(folder, &swap, &sides);
     }
     if (fault.file != NULL) {
         return tell(folder, fault.file, fault.reason);
@@ -129,7 +128,7 @@ static int start(const char *sheet, const char *blocks, const char *folder, cons
     if (blocks_per_day == 0) {
         return misuse(blocks, "no number from 1 to 1000");
     }
-    if (side != NULL && side_named(side) == 0) {
+    if (side != NULL && (side_named(side) == 0 || side_named(side) == SWAP_PAYS_CAROL)) {
         return misuse(side, "neither alice nor bob");
     }
     saswap_sheet(blocks_per_day, swap.sheet);

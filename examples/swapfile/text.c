@@ -22,7 +22,7 @@ static const char *const field_names[FIELDS] = {"blocks per day", "conduct", "st
 static const char *const field_words[FIELDS][3] = {
     [CONDUCT] = {"open", "loose", "careful"},
     [STEALTH] = {"no", "yes", NULL},
-    [SIDE] = {"alice", "bob", NULL},
+    [SIDE] = {"alice", "bob", "carol"}, /* in the order of their bits among payees */
 };
 
 /* What is read of a text. */
@@ -94,9 +94,12 @@ static bool refuse(const struct reading *reading, const struct line *line, uint3
         return bad(&at, "step %lu is refused: %s (%s)", (unsigned long)count + 1, swap_refusal_words(refusal),
                    swap_refusal_name(refusal));
     }
-    at.number = refusal == SWAP_SETUP_BLOCKS    ? reading->lines[BLOCKS]
-                : refusal == SWAP_SETUP_CONDUCT ? reading->lines[CONDUCT]
-                                                : reading->draft.heading;
+    at.number = reading->draft.heading;
+    if (refusal == SWAP_SETUP_BLOCKS) {
+        at.number = reading->lines[BLOCKS];
+    } else if (refusal == SWAP_SETUP_CONDUCT || refusal == SWAP_SETUP_PARTIES) {
+        at.number = reading->lines[CONDUCT];
+    }
     return bad(&at, "refused: %s (%s)", swap_refusal_words(refusal), swap_refusal_name(refusal));
 }
 
@@ -109,6 +112,20 @@ static bool is_accepted(const struct reading *reading, const struct line *line)
     return SWAP_REFUSAL(answer) == SWAP_ACCEPTED || refuse(reading, line, answer);
 }
 
+/* The side as payees have it, or 0. */
+static uint8_t sides_of(const struct reading *reading)
+{
+    return reading->lines[SIDE] == 0 ? 0 : (uint8_t)(1u << reading->values[SIDE]);
+}
+
+static bool side_fits(const struct reading *reading, const struct line *line)
+{
+    struct line at = *line;
+
+    at.number = reading->lines[SIDE];
+    return (sides_of(reading) & ~everybody(reading->swap)) == 0 || bad(&at, "carol is no party of this sheet");
+}
+
 /* The line that starts the journal: sheet and setup stand before it. */
 static bool begin_journal(struct line *line, struct reading *reading)
 {
@@ -117,7 +134,7 @@ static bool begin_journal(struct line *line, struct reading *reading)
     }
     reading->part = JOURNAL;
     reading->swap->journal_length = 0;
-    return is_accepted(reading, line);
+    return side_fits(reading, line) && is_accepted(reading, line);
 }
 
 static bool read_head_line(struct line *line, struct reading *reading)
@@ -192,7 +209,7 @@ bool encode_text(const char *file, struct swap *swap, uint8_t *sides)
             return false;
         }
     }
-    *sides = reading.lines[SIDE] == 0 ? 0 : (uint8_t)(1u << reading.values[SIDE]);
+    *sides = sides_of(&reading);
     return reading.part == JOURNAL ? is_accepted(&reading, &line)
                                    : bad(&line, "the text ends before a line '%s'",
                                          reading.part == HEAD ? "sheet" : "journal");

@@ -4,7 +4,7 @@
 
 #include "expect.h"
 
-_Static_assert(SWAP_LIST_SIZE == 1060 && SWAP_REPORT_SIZE == 576, "the sizes that are documented");
+_Static_assert(SWAP_LIST_SIZE == 1988 && SWAP_REPORT_SIZE == 576, "the sizes that are documented");
 
 /* What every buffer holds before a call. */
 #define FILL 170

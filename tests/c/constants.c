@@ -1,4 +1,4 @@
-/* The header's constants and names against the library: a swap that is written and read by them alone. */
+/* The header's constants and names against the library: swaps that are written and read by them alone. */
 #include <string.h>
 
 #include "expect.h"
@@ -23,6 +23,24 @@ static const uint8_t journal[] = {
     SWAP_MINE, SWAP_MINER, SWAP_NONE, SWAP_CONTRACT,
     SWAP_MINE, SWAP_MINER, SWAP_NONE, SWAP_CONTRACT,
     SWAP_HAND_IN, SWAP_BOB, 2, SWAP_BOB,
+    SWAP_MINE, SWAP_MINER, SWAP_NONE, SWAP_CONTRACT,
+};
+
+/* Two signatures, Alice's and Carol's. A coin of Alice's, which Bob or Carol gets with Carol's. */
+static const uint8_t ring[] = {
+    SWAP_THREE_PARTIES + 2, 2, 0, 1, 0, 2,       /* transactions, signatures, secrets, held by Alice, by Bob, by Carol */
+    SWAP_NONE, 0, 1, 0,                          /* an opening */
+    0, SWAP_PAYS_BOB | SWAP_PAYS_CAROL, 2, 0,    /* pays Bob or Carol */
+    SWAP_UNLOCKED, 0, SWAP_UNLOCKED, 0,
+};
+
+static const uint8_t ring_journal[] = {
+    SWAP_GIVE, SWAP_CAROL, 1, SWAP_BOB,
+    SWAP_SEND, SWAP_ALICE, 0, SWAP_CONTRACT,
+    SWAP_INCLUDE, SWAP_MINER, 0, SWAP_CONTRACT,
+    SWAP_MINE, SWAP_MINER, SWAP_NONE, SWAP_CONTRACT,
+    SWAP_SEND, SWAP_CAROL, 1, SWAP_CAROL,
+    SWAP_INCLUDE, SWAP_MINER, 1, SWAP_CONTRACT,
     SWAP_MINE, SWAP_MINER, SWAP_NONE, SWAP_CONTRACT,
 };
 
@@ -60,6 +78,25 @@ static void expect_reports(void)
     expect_row("confirmed", 0, SWAP_CONFIRMED, SWAP_CONTRACT, 1, 0, SWAP_NEVER);
     expect_row("dead", 1, SWAP_DEAD, SWAP_NONE, 0, 2, SWAP_NEVER);
     expect_row("paid", 2, SWAP_CONFIRMED, SWAP_BOB, 3, 2, SWAP_NEVER);
+}
+
+/* A sheet of three: Carol gives, and is paid. */
+static void expect_ring(void)
+{
+    const uint8_t careful[SWAP_SETUP_SIZE] = {1, 0, SWAP_CAREFUL, 1};
+    uint8_t output[SWAP_OUTAGE_SIZE];
+
+    expect_answer("three parties", swap_report(ring, sizeof ring, setup, sizeof setup, ring_journal, sizeof ring_journal,
+                                               report, sizeof report),
+                  SWAP_ACCEPTED, 0);
+    expect_row("to Carol", 1, SWAP_CONFIRMED, SWAP_CAROL, 2, 0, SWAP_NEVER);
+    expect_answer("their outage", swap_outage(ring, sizeof ring, setup, sizeof setup, NULL, 0, 1, output, sizeof output),
+                  SWAP_ACCEPTED, 0);
+    expect("their payees", output[SWAP_OUTAGE_PAYEES] == (SWAP_PAYS_BOB | SWAP_PAYS_CAROL));
+    expect_answer("three careful parties", swap_run(ring, sizeof ring, careful, sizeof careful, NULL, 0),
+                  SWAP_SETUP_PARTIES, 0);
+    expect_answer("Carol on a sheet of two", swap_run(sheet, sizeof sheet, setup, sizeof setup, ring_journal, STEPS(1)),
+                  SWAP_STEP_FIELD, 0);
 }
 
 /* The outage's rows before anything is confirmed: the second payout can oust the first. */
@@ -108,12 +145,12 @@ static void expect_desk(void)
 static void expect_sizes(void)
 {
     static uint8_t large[SWAP_JOURNAL_SIZE + SWAP_STEP_SIZE];
-    uint8_t wide[SWAP_SHEET_SIZE + 1] = {SWAP_TRANSACTIONS, 1, 0, 1, 0};
+    uint8_t wide[SWAP_SHEET_SIZE + 1] = {SWAP_THREE_PARTIES + SWAP_TRANSACTIONS, 1, 0, 1, 0, 0};
 
     for (size_t t = 0; t < SWAP_TRANSACTIONS; t++) {
-        wide[5 + 4 * t] = SWAP_NONE;
-        wide[6 + 4 * t] = SWAP_PAYS_ALICE;
-        wide[7 + 4 * t] = 1;
+        wide[6 + 4 * t] = SWAP_NONE;
+        wide[7 + 4 * t] = SWAP_PAYS_ALICE;
+        wide[8 + 4 * t] = 1;
     }
     expect_answer("the largest sheet", swap_check(wide, SWAP_SHEET_SIZE), SWAP_ACCEPTED, 0);
     expect_answer("a larger one", swap_check(wide, SWAP_SHEET_SIZE + 1), SWAP_SHEET_LENGTH, 0);
@@ -128,7 +165,8 @@ static void expect_sizes(void)
 static void expect_names(void)
 {
     expect("a name", strcmp(swap_refusal_name(SWAP_REFUSAL(swap_check(NULL, 0))), "SWAP_SHEET_SHORT") == 0);
-    expect("its words", strcmp(swap_refusal_words(1), "sheet under 5 bytes") == 0);
+    expect("its words", strcmp(swap_refusal_words(1), "sheet under 5 bytes, or 6 of three parties") == 0);
+    expect("the name of 32", strcmp(swap_refusal_name(32), "SWAP_SETUP_PARTIES") == 0);
     expect("the last name", strcmp(swap_refusal_name(SWAP_COUNT_STALE), "SWAP_COUNT_STALE") == 0);
     expect("no name", strcmp(swap_refusal_name(65535), "unknown") == 0);
     expect("no words", strcmp(swap_refusal_words(65535), "not in the refusal table") == 0);
@@ -137,6 +175,7 @@ static void expect_names(void)
 int main(void)
 {
     expect_reports();
+    expect_ring();
     expect_outage();
     expect_fields();
     expect_desk();

@@ -37,9 +37,12 @@ fn written(length: usize, call: impl Fn(&mut [u8]) -> u32) -> String {
     )
 }
 
-/// The fact about one case.
+/// The fact about one case; each fourth one has a sheet of three.
 fn fact(number: usize, random: &mut Random) -> (String, u32) {
-    let (sheet, setup, journal) = random::case(random, STEPS);
+    let (sheet, setup, journal) = match number % 4 {
+        3 => random::ring_case(random, STEPS),
+        _ => random::case(random, STEPS),
+    };
     let run = calls::run_number(&sheet, &setup, &journal);
     let lists = |length| {
         written(length, |out| {
@@ -98,7 +101,7 @@ fn main() -> std::io::Result<()> {
     )?;
     std::fs::write(folder.join("specs/Agrees.antt"), AGREES)?;
     let mut modules = "pub mod Agrees\n".to_string();
-    let mut refusals = [0; 26];
+    let mut refusals = [0; 33];
     for first in (0..count).step_by(FILE) {
         let mut text = HEAD.to_string();
         for number in first..count.min(first + FILE) {
@@ -110,6 +113,6 @@ fn main() -> std::io::Result<()> {
         std::fs::write(folder.join(format!("specs/Cases{first}.antt")), text)?;
     }
     std::fs::write(folder.join("specs/Lib.antt"), modules)?;
-    println!("{count} cases with seed {seed}, runs by refusal 0 to 25: {refusals:?}");
+    println!("{count} cases with seed {seed}, runs by refusal 0 to 32: {refusals:?}");
     Ok(())
 }

@@ -13,10 +13,11 @@ pub use cases::{cases, Case};
 
 use crate::model::calls::{self, Run};
 use crate::model::setup::Setup;
-use crate::model::{ALICE, BOB};
+use crate::model::sheet::Head;
+use crate::model::{ALICE, BOB, CAROL};
 use crate::samples::{Files, FILES};
 use view::View;
-use words::{party_name, Names, REFUSALS};
+use words::{party_name, Names};
 
 /// The length of an outage.
 #[derive(Clone, Copy, Debug, PartialEq, Eq)]
@@ -133,13 +134,19 @@ fn totals(swaps: &[(String, Found)], question: &Question) -> Totals {
     totals
 }
 
-/// The sides that a swap's file names; None where it names none.
-fn sides(file: &Option<Vec<u8>>) -> Option<Vec<u8>> {
-    match file.as_deref() {
-        None => Some(vec![ALICE, BOB]),
-        Some(b"alice" | b"alice\n") => Some(vec![ALICE]),
-        Some(b"bob" | b"bob\n") => Some(vec![BOB]),
-        Some(_) => None,
+/// The sides that a swap's file names, every party where there is none; or what is wrong with it.
+fn sides(sheet: &[u8], file: &Option<Vec<u8>>) -> Result<Vec<u8>, &'static str> {
+    let parties = Head::of(sheet).parties;
+    let side = match file.as_deref() {
+        None => return Ok(parties.to_vec()),
+        Some(b"alice" | b"alice\n") => ALICE,
+        Some(b"bob" | b"bob\n") => BOB,
+        Some(b"carol" | b"carol\n") => CAROL,
+        Some(_) => return Err("not alice, bob or carol"),
+    };
+    match parties.contains(&side) {
+        true => Ok(vec![side]),
+        false => Err("carol is no party of this sheet"),
     }
 }
 
@@ -147,12 +154,14 @@ fn found(files: &Files, question: &Question) -> Found {
     let [Some(sheet), Some(setup), Some(journal), side] = files else {
         return Found::Faulty("UNREADABLE", missing(files));
     };
-    let Some(sides) = sides(side) else {
-        return Found::Faulty("UNREADABLE", "side: neither alice nor bob".to_string());
+    let sides = match sides(sheet, side) {
+        Ok(sides) => sides,
+        Err(reason) => return Found::Faulty("UNREADABLE", format!("side: {reason}")),
     };
     match calls::outcome(sheet, setup, journal) {
         Ok(outcome) if outcome.refusal == 0 => {
-            let sides = question.side.map_or(sides, |side| vec![side]);
+            let mut sides = question.side.map_or(sides, |side| vec![side]);
+            sides.retain(|&side| outcome.sheet.is_party(side));
             Found::Sound(Box::new(View::new(sheet, outcome)), sides)
         }
         _ => Found::Faulty(
@@ -170,7 +179,7 @@ fn missing(files: &Files) -> String {
 }
 
 fn refusal(number: u32) -> String {
-    let (name, words) = REFUSALS[number as usize - 1];
+    let (name, words) = words::refusal(number);
     format!("SWAP_{name} ({number}), {words}")
 }
 

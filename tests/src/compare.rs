@@ -18,6 +18,8 @@ const SHORT: usize = 200;
 const TRIES: usize = 6;
 /// The most blocks of one turn.
 const LEAP: usize = 2_100;
+/// The refusals are below this number; 32 is the last of the four calls'.
+const NUMBERS: usize = 33;
 
 /// The bytes that list or report has to write; 16 where it is refused.
 fn needed(call: Call, inputs: &Inputs) -> usize {
@@ -87,7 +89,7 @@ pub struct Tally {
     /// The accepted ones of those that were tried next in a position, by kind.
     pub accepted: [usize; 7],
     /// The answers of check, run, list and report by refusal.
-    pub answers: [[usize; 26]; 4],
+    pub answers: [[usize; NUMBERS]; 4],
 }
 
 /// Counts that are all zero are left out.
@@ -101,10 +103,10 @@ impl fmt::Display for Tally {
         let [check, run, list, report] = &self.answers;
         let rows: [(&str, &[usize]); 5] = [
             ("open steps tried, by kind 1 to 7", &self.accepted),
-            ("check, by refusal 0 to 25", check),
-            ("run, by refusal 0 to 25", run),
-            ("list, by refusal 0 to 25", list),
-            ("report, by refusal 0 to 25", report),
+            ("check, by refusal 0 to 32", check),
+            ("run, by refusal 0 to 32", run),
+            ("list, by refusal 0 to 32", list),
+            ("report, by refusal 0 to 32", report),
         ];
         for (name, counts) in rows {
             if counts.iter().any(|&count| count > 0) {
@@ -124,16 +126,26 @@ impl Tally {
             positions: 0,
             steps: 0,
             accepted: [0; 7],
-            answers: [[0; 26]; 4],
+            answers: [[0; NUMBERS]; 4],
         }
     }
 
-    /// Each call has answered each of its refusals, and no other.
+    /// Each call has answered each of its refusals on sheets of two, and no other.
     pub fn assert_every_refusal(&self) {
-        for (answers, last) in self.answers.iter().zip([8, 24, 25, 25]) {
-            let (own, others) = answers.split_at(last + 1);
-            assert!(own.iter().all(|&count| count > 0), "{self}");
-            assert!(others.iter().all(|&count| count == 0), "{self}");
+        self.assert_refusals(false);
+    }
+
+    /// The same on sheets of three: 32 too, by all calls but check.
+    pub fn assert_every_refusal_of_three(&self) {
+        self.assert_refusals(true);
+    }
+
+    fn assert_refusals(&self, three: bool) {
+        for (call, last) in [8, 24, 25, 25].into_iter().enumerate() {
+            for (number, &count) in self.answers[call].iter().enumerate() {
+                let own = number <= last || three && number == 32 && call > 0;
+                assert_eq!(count > 0, own, "call {call}, {number}: {self}");
+            }
         }
     }
 
@@ -276,9 +288,14 @@ impl Tally {
     }
 }
 
-/// The most open steps of a sheet: 8 of each transaction, and a gift of each signature but one.
+/// The most open steps of a sheet. Of two parties: 8 of each transaction, and a gift of each signature but one. Of three:
+/// 15 of each transaction, two gifts of each signature, and a block.
 fn most_open(sheet: &Sheet) -> usize {
-    8 * usize::from(sheet.count()) + usize::from(sheet.signatures) - 1
+    let (n, s) = (usize::from(sheet.count()), usize::from(sheet.signatures));
+    match sheet.parties.len() {
+        2 => 8 * n + s - 1,
+        _ => 15 * n + 2 * s + 1,
+    }
 }
 
 /// Demand 3 in one position: the ledger agrees with it and with its report; under careful conduct a secret is kept and

@@ -12,6 +12,7 @@ pub mod markup;
 pub mod model;
 pub mod older;
 pub mod random;
+pub mod requests;
 pub mod rounds;
 pub mod samples;
 pub mod slow;

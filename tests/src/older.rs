@@ -47,7 +47,7 @@ pub struct Answer {
 pub fn answers(game: &Game, position: &Position, slips: Slips) -> Vec<Answer> {
     let older = by(game, slips);
     let refusal = |setup: &Setup, step: &[u8; 4]| step::refusal(&game.sheet, setup, position, step);
-    let steps = (0..=2).flat_map(|party| open::candidates(&game.sheet, party));
+    let steps = open::all_candidates(&game.sheet);
     steps
         .map(|step| Answer {
             step,

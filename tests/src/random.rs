@@ -2,10 +2,12 @@
 
 mod faults;
 mod journals;
+mod requests;
 mod sheets;
 
 pub use faults::*;
 pub use journals::*;
+pub use requests::*;
 pub use sheets::*;
 
 /// The splitmix64 generator.
@@ -60,7 +62,18 @@ pub type Case = (Vec<u8>, Vec<u8>, Vec<u8>);
 
 /// Sheet, setup and journal of any sort, at times one of them damaged.
 pub fn case(random: &mut Random, most: usize) -> Case {
-    let (mut sheet, mut setup) = game(random);
+    let game = game(random);
+    case_of(random, game, most)
+}
+
+/// The same of a sheet of three.
+pub fn ring_case(random: &mut Random, most: usize) -> Case {
+    let game = ring_game(random);
+    case_of(random, game, most)
+}
+
+fn case_of(random: &mut Random, game: (Vec<u8>, Vec<u8>), most: usize) -> Case {
+    let (mut sheet, mut setup) = game;
     let manner = manner(random, most);
     let mut journal = journal(random, &sheet, &setup, manner);
     match random.below(20) {
@@ -76,7 +89,30 @@ pub fn case(random: &mut Random, most: usize) -> Case {
 /// A case that is refused with this number, 1 to 22 or 24, where the journal's
 /// walk comes by it; at times something of a later number is wrong too.
 pub fn led_case(random: &mut Random, most: usize, number: u32) -> Case {
-    let (mut sheet, mut setup) = game(random);
+    let game = game(random);
+    led_case_of(random, game, most, number)
+}
+
+/// The same of a sheet of three; with 32 the conduct is 1 or 2, and more may be wrong.
+pub fn led_ring_case(random: &mut Random, most: usize, number: u32) -> Case {
+    let game = ring_game(random);
+    let (sheet, mut setup, mut journal) = led_case_of(random, game, most, number);
+    if number == 32 {
+        setup[2] = random.between(1, 2) as u8;
+        if random.percent(50) {
+            setup[3] = random.byte();
+            damage(random, &mut journal);
+        }
+    }
+    (sheet, setup, journal)
+}
+
+fn led_case_of(
+    random: &mut Random,
+    (mut sheet, mut setup): (Vec<u8>, Vec<u8>),
+    most: usize,
+    number: u32,
+) -> Case {
     let manner = Manner {
         leap: 10,
         ..manner(random, most)

@@ -1,11 +1,12 @@
 //! The rounds of the long comparison. Each has a walk over the SASwap sheet, a walk over a random sheet, a case that is
-//! led to a refusal, a case of any sort, and a case that ends in a row of blocks.
+//! led to a refusal, a case of any sort, and a case that ends in a row of blocks; each fourth one a walk over a sheet of
+//! three.
 
 use crate::calls::Calls;
 use crate::compare::{Game, Tally};
 use crate::model::journal;
 use crate::model::step::MOST_BLOCKS;
-use crate::random::{self, Manner, Random, MINE, SHAPES};
+use crate::random::{self, Manner, Random, Shape, MINE, SHAPES};
 use crate::samples::{FIRST_SHARES, LOCK_A};
 use std::ops::Range;
 
@@ -32,6 +33,9 @@ pub fn rounds(tested: Calls, seed: u64, numbers: Range<usize>) -> Tally {
         let case = random::case(&mut random, STEPS);
         tally.case(&mut random, &case);
         row_case(&mut tally, &mut random);
+        if number % 4 == 0 {
+            ring(&mut tally, &mut random, number / 4);
+        }
     }
     tally
 }
@@ -56,10 +60,22 @@ fn saswap(tally: &mut Tally, random: &mut Random, number: usize) {
     tally.walk(random, &saswap_game(number), manner, TURNS);
 }
 
+/// A valid sheet of two or three, of so many transactions and signatures.
+type SheetOf = fn(&mut Random, u8, u8, Shape) -> Vec<u8>;
+
 fn any_sheet(tally: &mut Tally, random: &mut Random, number: usize) {
+    any_of(tally, random, number, random::sheet_of);
+}
+
+fn ring(tally: &mut Tally, random: &mut Random, number: usize) {
+    any_of(tally, random, number, random::ring_of);
+}
+
+/// A walk over a sheet with the sizes and the shape of this number.
+fn any_of(tally: &mut Tally, random: &mut Random, number: usize, sheet_of: SheetOf) {
     let (n, s) = (number % 32 + 1, number / 32 % 8 + 1);
     let shape = SHAPES[(number / 32 + number / 256) % 4];
-    let sheet = random::sheet_of(random, n as u8, s as u8, shape);
+    let sheet = sheet_of(random, n as u8, s as u8, shape);
     let blocks_per_day = random::blocks_per_day(random);
     let setup = random::setup_of(random, blocks_per_day, 0);
     let manner = manner(random);

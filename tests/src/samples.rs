@@ -138,6 +138,60 @@ fn waiting() -> Files {
     files(&WAITING, [1, 0, 0, 0], &LOCK_A)
 }
 
+/// A ring of three coins: Alice's to Bob, Bob's to Carol, Carol's to Alice. Each coin is claimed with the payee's signature
+/// and Alice's secret, or goes back to its owner: Carol's from 2 days on, Bob's from 3, Alice's from 4. So whoever sees the
+/// secret has a day to claim. The signatures are 0 Alice's, 1 Bob's, 2 Carol's and 3 the secret.
+pub const RING: [u8; 60] = [
+    137, 4, 8, 9, 2, 4, // sizes and masks
+    255, 0, 1, 0, 255, 0, 2, 0, 255, 0, 4, 0, // the coins of Alice, Bob and Carol
+    0, 2, 10, 0, 0, 1, 1, 0, // Bob claims Alice's coin, Alice takes it back
+    1, 4, 12, 0, 1, 2, 2, 0, // Carol claims Bob's, Bob takes it back
+    2, 1, 9, 0, 2, 4, 4, 0, // Alice claims Carol's, Carol takes it back
+    0, 0, 0, 0, 0, 0, 0, 0, 1, 4, 0, 0, 1, 3, 0, 0, 1, 2, // locks
+];
+
+/// The three coins are locked in blocks 1 to 3, and so many blocks are mined.
+fn ring_locked(blocks: usize) -> Steps {
+    let coins = [
+        confirmed(0, 0, 2, 1),
+        confirmed(1, 1, 2, 1),
+        confirmed(3, 2, 2, blocks - 2),
+    ];
+    coins.concat()
+}
+
+/// A ring of three at 144 blocks per day, open conduct.
+fn ring(stealth: u8, steps: &[[u8; 4]]) -> Files {
+    files(&RING, [144, 0, 0, stealth], steps)
+}
+
+/// Nobody has claimed yet: Alice has until block 288.
+fn ring_waiting() -> Files {
+    ring(0, &ring_locked(250))
+}
+
+/// Alice claimed Carol's coin in block 281 and showed her secret: Carol has until block 432, Bob until block 576.
+fn ring_claimed() -> Files {
+    ring(1, &[ring_locked(280), confirmed(0, 7, 0, 20)].concat())
+}
+
+/// Each coin went on to the next.
+fn ring_paid() -> Files {
+    let claims = [(0, 7), (3, 5), (1, 3)].map(|(party, t)| confirmed(party, t, party, 1));
+    ring(0, &[ring_locked(100), claims.concat()].concat())
+}
+
+/// Alice never claimed: the owners took their coins back, Alice hers last.
+fn ring_refunded() -> Files {
+    let steps = [
+        ring_locked(288),
+        confirmed(3, 8, 3, 144),
+        confirmed(1, 6, 1, 144),
+        confirmed(0, 4, 0, 1),
+    ];
+    ring(0, &steps.concat())
+}
+
 /// P10's sheet and a setup, and a journal that is not there.
 fn missing_journal() -> Files {
     [Some(P10.to_vec()), Some(vec![1, 0, 0, 0]), None, None]
@@ -189,14 +243,21 @@ fn named() -> Vec<Sample> {
         ("swaps/waiting", waiting()),
         ("refused/bad_conduct", files(&P10, [3, 0, 3, 0], &[])),
         ("refused/bad_field", files(&P10, [1, 0, 0, 0], &[[0; 4]])),
-        ("refused/bad_side", with_side(numbers(), "carol\n")),
+        ("refused/bad_side", with_side(numbers(), "dave\n")),
+        ("refused/careful_ring", files(&RING, [144, 0, 2, 0], &[])),
         ("refused/late_step", late_step()),
         ("refused/long_setup", long_setup()),
         ("refused/long_sheet", long_sheet()),
         ("refused/missing_journal", missing_journal()),
+        ("refused/no_party", with_side(numbers(), "carol\n")),
         ("refused/short_journal", short_journal()),
         ("refused/short_sheet", files(&P10[..16], [1, 0, 0, 0], &[])),
         ("refused/sound", numbers()),
+        ("rings/claimed", ring_claimed()),
+        ("rings/paid", ring_paid()),
+        ("rings/refunded", ring_refunded()),
+        ("rings/waiting", ring_waiting()),
+        ("rings/waiting_carol", with_side(ring_waiting(), "carol\n")),
     ];
     samples
         .map(|(name, files)| (name.to_string(), files))

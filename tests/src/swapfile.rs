@@ -3,13 +3,14 @@
 use crate::calendar::words::Names;
 use crate::model::setup::{self, Conduct, Setup};
 use crate::model::sheet::{self, Lock, Sheet};
-use crate::model::{ALICE, BOB, CONTRACT};
+use crate::model::{ALICE, BOB, CAROL, CONTRACT};
 use crate::random::{Case, MINE};
 
 fn party(party: u8) -> &'static str {
     match party {
         ALICE => "alice",
         BOB => "bob",
+        CAROL => "carol",
         _ => panic!("the miner has no name in a text"),
     }
 }
@@ -38,20 +39,33 @@ fn days(days: u8) -> String {
     format!("{days} day{}", if days == 1 { "" } else { "s" })
 }
 
+/// Both of two parties are "either"; others have their names.
+fn payees(sheet: &Sheet, t: u8) -> String {
+    let payees = sheet.payees(t);
+    match (payees.len(), sheet.parties.len()) {
+        (0, _) => "nobody".to_string(),
+        (2, 2) => "either".to_string(),
+        _ => payees
+            .iter()
+            .map(|&payee| party(payee))
+            .collect::<Vec<_>>()
+            .join(" or "),
+    }
+}
+
 fn sheet_lines(sheet: &Sheet) -> String {
-    let mut text = format!(
-        "sheet:\nsignatures: {}\nsecrets: {}\nalice holds: {}\nbob holds: {}\n",
-        sheet.signatures,
-        mask(sheet.secrets),
-        mask(sheet.held[0]),
-        mask(sheet.held[1])
-    );
+    let (signatures, secrets) = (sheet.signatures, mask(sheet.secrets));
+    let mut text = format!("sheet:\nsignatures: {signatures}\nsecrets: {secrets}\n");
+    for &number in sheet.parties {
+        let held = mask(sheet.held[usize::from(number)]);
+        text += &format!("{} holds: {held}\n", party(number));
+    }
     for (t, transaction) in sheet.transactions.iter().enumerate() {
         let parent = match transaction.parent {
             None => "opens a coin".to_string(),
             Some(parent) => format!("spends {parent}"),
         };
-        let payees = ["nobody", "alice", "bob", "either"][usize::from(transaction.payees)];
+        let payees = payees(sheet, t as u8);
         let veil = if transaction.veil { ", veiled" } else { "" };
         let lock = match transaction.lock {
             Lock::None => String::new(),

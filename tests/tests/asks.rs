@@ -67,39 +67,9 @@ fn with_room((sheet, setup, journal): &Case, room: usize) -> Case {
     (sheet.clone(), setup.clone(), buffer)
 }
 
-/// A step to try after a case's journal: an open one, one that is refused with each number equally often, or bytes of any sort and
-/// length.
-fn step(random: &mut Random, (sheet, setup, journal): &Case) -> Vec<u8> {
-    let Ok(outcome) = calls::outcome(sheet, setup, journal) else {
-        return random.bytes(4);
-    };
-    let choice = random.below(10);
-    if choice == 0 {
-        let length = random.below(7);
-        return random.bytes(length);
-    }
-    if choice == 1 {
-        return random::near_step(random, &outcome.sheet).to_vec();
-    }
-    let position = &outcome.course.position;
-    let mut found = random::by_refusal(&outcome.sheet, &outcome.setup, position);
-    let refused = found.split_off(&12);
-    let lists: Vec<Vec<[u8; 4]>> = match choice < 6 {
-        true => found.remove(&0).into_iter().collect(),
-        false => refused.into_values().collect(),
-    };
-    match lists.is_empty() {
-        true => MINE.to_vec(),
-        false => {
-            let list = &lists[random.below(lists.len())];
-            random.pick(list).to_vec()
-        }
-    }
-}
-
 /// Ask, and commits with its count and others, with lengths that are the journal's and others, in buffers of every sort.
 fn try_case(answers: &mut Answers, random: &mut Random, case: &Case) {
-    let step = step(random, case);
+    let step = random::next_step(random, case);
     let asked = answers.ask(case, &step);
     let (count, size) = (asked & 0xffff, case.2.len() as u32);
     for room in [0, 3, 4, 5, 40] {

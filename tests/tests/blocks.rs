@@ -5,8 +5,6 @@ use swap_tests::engine;
 use swap_tests::model::block_list;
 use swap_tests::model::journal;
 use swap_tests::model::ledger::Entry;
-use swap_tests::model::sheet::Sheet;
-use swap_tests::model::CONTRACT;
 use swap_tests::random::{self, Random};
 
 /// The sheet of P10.
@@ -48,45 +46,6 @@ impl Answers {
             }
         }
     }
-}
-
-/// A destination of a transaction that passes 29.
-fn destination(random: &mut Random, sheet: &Sheet, t: u8) -> u8 {
-    let payees: Vec<u8> = (0..2).filter(|&party| sheet.is_payee(t, party)).collect();
-    match payees.is_empty() {
-        true => CONTRACT,
-        false => random.pick(&payees),
-    }
-}
-
-/// Entries made one by one: mostly transactions whose parent stands already, some blocks later, at times none.
-fn made(random: &mut Random, sheet: &Sheet, blocks_per_day: u32) -> Vec<Entry> {
-    let mut entries: Vec<Entry> = Vec::new();
-    let mut block = 1;
-    for _ in 0..random.below(8) {
-        let stands = |t: u8| entries.iter().any(|entry| entry.transaction == t);
-        let ready: Vec<u8> = (0..sheet.count())
-            .filter(|&t| !sheet.rivals(t).iter().any(|&rival| stands(rival)))
-            .filter(|&t| sheet.transaction(t).parent.is_none_or(stands))
-            .collect();
-        let transaction = match ready.is_empty() || random.percent(10) {
-            true => random.below(usize::from(sheet.count())) as u8,
-            false => random.pick(&ready),
-        };
-        if random.percent(60) {
-            block += random.below(2 * blocks_per_day as usize + 2) as u32;
-        }
-        let destination = destination(random, sheet, transaction);
-        entries.push(Entry {
-            transaction,
-            destination,
-            block,
-        });
-    }
-    if random.percent(80) {
-        entries.sort_by_key(|entry| (entry.block, entry.transaction));
-    }
-    entries
 }
 
 /// A small change that often leaves a list in order: a block, an entry less, an entry twice, another destination.
@@ -197,7 +156,7 @@ fn made_lists() {
     for _ in 0..100_000 {
         let (sheet, setup) = random::any_game(&mut random);
         let (read_sheet, read_setup) = random::read(&sheet, &setup);
-        let entries = made(&mut random, &read_sheet, read_setup.blocks_per_day.min(30));
+        let entries = random::entries(&mut random, &read_sheet, read_setup.blocks_per_day.min(30));
         answers.compare_fronts(&sheet, &setup, &block_list::bytes(&entries));
     }
     println!("made lists, answers by refusal: {:?}", answers.counts);
@@ -211,7 +170,7 @@ fn damaged() {
     for _ in 0..100_000 {
         let (mut sheet, mut setup) = random::game(&mut random);
         let (read_sheet, read_setup) = random::read(&sheet, &setup);
-        let entries = made(&mut random, &read_sheet, read_setup.blocks_per_day.min(30));
+        let entries = random::entries(&mut random, &read_sheet, read_setup.blocks_per_day.min(30));
         let mut list = block_list::bytes(&entries);
         match random.below(4) {
             0 => random::damage(&mut random, &mut sheet),

@@ -10,7 +10,7 @@ use swap_tests::calendar::{self, Length, Question, Totals};
 use swap_tests::compare::Game;
 use swap_tests::model::heights::NEVER;
 use swap_tests::model::journal::{Course, MOST_BYTES};
-use swap_tests::model::{calls, outage, sheet, ALICE, BOB};
+use swap_tests::model::{calls, outage, sheet, ALICE, BOB, CAROL};
 use swap_tests::random::{self, Case, Manner, Random, MINE};
 use swap_tests::samples::{self, Files};
 
@@ -42,7 +42,7 @@ fn arguments(question: &Question) -> Vec<String> {
         );
     }
     if let Some(side) = question.side {
-        let name = ["alice", "bob"][usize::from(side)];
+        let name = ["alice", "bob", "", "carol"][usize::from(side)];
         words.extend(["--side".to_string(), name.to_string()]);
     }
     words.extend(question.full.then(|| "--full".to_string()));
@@ -151,7 +151,7 @@ fn stored_outputs() {
 #[test]
 fn examples_of_the_readme() {
     let readme = fs::read_to_string(top().join("README.md")).expect("the README");
-    for name in ["default", "standing"] {
+    for name in ["default", "standing", "ring"] {
         let path = example().join(format!("expected/{name}.txt"));
         let stored = fs::read_to_string(path).expect("an expected output");
         assert!(readme.contains(&stored), "{name}");
@@ -176,10 +176,16 @@ fn distances(files: &Files) -> Vec<u32> {
 /// Every sample at every soonest deadline D that is ahead, with D = m + BLOCKS + 1, m + BLOCKS and m + BLOCKS - 1.
 #[test]
 fn outages_around_the_deadlines() {
-    let swaps = samples::in_folder("swaps");
-    let folder = example().join("samples/swaps");
+    around_the_deadlines("swaps", &[144, 289, 1]);
+    around_the_deadlines("rings", &[38, 132, 276]);
+}
+
+/// The samples of a folder, which have these distances among others.
+fn around_the_deadlines(part: &str, some: &[u32]) {
+    let swaps = samples::in_folder(part);
+    let folder = example().join("samples").join(part);
     let distances: BTreeSet<u32> = swaps.iter().flat_map(|(_, f)| distances(f)).collect();
-    assert!(distances.contains(&144) && distances.contains(&289) && distances.contains(&1));
+    assert!(some.iter().all(|distance| distances.contains(distance)));
     let mut rises = 0;
     for &distance in &distances {
         let around = [distance - 1, distance, distance + 1];
@@ -253,8 +259,11 @@ fn random_swaps(random: &mut Random, count: usize) -> Vec<(String, Files)> {
         let (sheet, setup, journal) = match i % 4 {
             0 => random::case(random, 40),
             1 => random::led_case(random, 40, (i / 4 % 22) as u32 + 1),
-            _ => {
-                let (sheet, setup) = random::game(random);
+            kind => {
+                let (sheet, setup) = match kind {
+                    2 => random::ring_game(random),
+                    _ => random::game(random),
+                };
                 let manner = random::Manner {
                     wrong: 0,
                     leap: 10,
@@ -264,7 +273,14 @@ fn random_swaps(random: &mut Random, count: usize) -> Vec<(String, Files)> {
                 (sheet, setup, journal)
             }
         };
-        let side = random.pick(&[None, None, Some("alice\n"), Some("bob"), Some("Bob\n")]);
+        let side = random.pick(&[
+            None,
+            None,
+            Some("alice\n"),
+            Some("bob"),
+            Some("carol\n"),
+            Some("Bob\n"),
+        ]);
         let side = side.map(|name| name.as_bytes().to_vec());
         swaps.push((number(i), [Some(sheet), Some(setup), Some(journal), side]));
     }
@@ -282,6 +298,10 @@ fn questions() -> Vec<Question> {
         Question {
             side: Some(BOB),
             ..blocks(3)
+        },
+        Question {
+            side: Some(CAROL),
+            ..blocks(7)
         },
         Question {
             margin: 2,
@@ -380,7 +400,10 @@ fn later_outages() {
     let mut random = Random::new(43);
     let mut counts = [0; 3];
     for _ in 0..2_000 {
-        let game = Game::new(random::game(&mut random));
+        let game = Game::new(match random.percent(20) {
+            true => random::ring_game(&mut random),
+            false => random::game(&mut random),
+        });
         let (now, then) = now_and_then(&mut random, &game);
         let (mined, length) = (then.position.mined, random.below(20) as u32 + 1);
         let question = Question {
@@ -389,7 +412,8 @@ fn later_outages() {
         };
         let before = Outage::of(&question, &game.setup, now.position.mined);
         let begun = Outage::next(mined, length);
-        for (t, side) in (0..game.sheet.count()).flat_map(|t| [(t, ALICE), (t, BOB)]) {
+        let parties = game.sheet.parties.iter();
+        for (t, &side) in parties.flat_map(|side| (0..game.sheet.count()).map(move |t| (t, side))) {
             let told = Swap::of(&game, &now).kind(&before, t, side);
             let found = Swap::of(&game, &then).kind(&begun, t, side);
             assert!(told == Kind::Warning || found != Kind::Warning);
@@ -416,13 +440,16 @@ fn refused_swap(random: &mut Random, number: u32) -> Files {
 fn every_refusal() {
     let mut random = Random::new(42);
     let numbers = (1..=24).filter(|&number| number != 23);
-    let swaps: Vec<(String, Files)> = numbers
+    let mut swaps: Vec<(String, Files)> = numbers
         .map(|number| (format!("{number:02}"), refused_swap(&mut random, number)))
         .collect();
+    let (sheet, setup, journal) = random::led_ring_case(&mut random, 60, 32);
+    let ring = [Some(sheet), Some(setup), Some(journal), None];
+    swaps.push(("32".to_string(), ring));
     let folder = written("calendar_refusals", &swaps);
     assert_eq!(
         compare_both(&folder, &swaps, &Question::default()).refused,
-        23
+        24
     );
 }
 

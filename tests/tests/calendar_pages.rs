@@ -11,7 +11,7 @@ use std::sync::OnceLock;
 use swap_tests::calendar::{self, data, page, Length, Question};
 use swap_tests::json::{self, Value};
 use swap_tests::markup;
-use swap_tests::model::{ALICE, BOB};
+use swap_tests::model::{ALICE, BOB, CAROL};
 use swap_tests::random::{self, Random};
 use swap_tests::samples::{self, Files};
 
@@ -66,7 +66,8 @@ fn arguments(question: &Question) -> Vec<String> {
         words += &format!(" --from {from}");
     }
     if let Some(side) = question.side {
-        words += &format!(" --side {}", ["alice", "bob"][usize::from(side)]);
+        let name = ["alice", "bob", "", "carol"][usize::from(side)];
+        words += &format!(" --side {name}");
     }
     words.split(' ').map(str::to_string).collect()
 }
@@ -141,6 +142,10 @@ fn questions() -> Vec<Question> {
             ..blocks(3)
         },
         Question {
+            side: Some(CAROL),
+            ..blocks(7)
+        },
+        Question {
             from: Some(700_020),
             base: 700_000,
             margin: 7,
@@ -156,7 +161,7 @@ fn questions() -> Vec<Question> {
 
 #[test]
 fn stored_samples() {
-    for name in ["swaps", "desk", "refused"] {
+    for name in ["swaps", "desk", "rings", "refused"] {
         let swaps = samples::in_folder(name);
         let folder = written(&format!("pages_{name}"), &swaps);
         for question in questions() {
@@ -178,16 +183,46 @@ fn desk_of_forty() {
     assert!(!none.contains_key("covered") && !none.contains_key("outage"));
 }
 
+/// The ring in which Alice has claimed: Carol is warned, and each coin's two ends are named.
+#[test]
+fn claimed_ring() {
+    let swaps = samples::in_folder("rings/claimed");
+    let folder = written("pages_ring", &swaps);
+    let bars = compare(&folder, &swaps, &Question::default());
+    assert_eq!((bars["covered"], bars["window"]), (1, 4));
+    let written = fs::read_to_string(folder.with_extension("html")).expect("a page");
+    let page = markup::read(&written).expect("a page");
+    let title = page.named("h2")[0].text();
+    assert_eq!(title, "claimed, Alice, Bob, Carol: 1 WARNING");
+    let swap = &data::json(&swaps, &Question::default());
+    let swap = &swap.get("swaps").list()[0];
+    assert_eq!(swap.get("sides").list().len(), 3);
+    let pays = |t: usize| swap.get("transactions").list()[t].get("pays").clone();
+    assert_eq!(pays(5), Value::List(vec![Value::text("Carol")]));
+    let both = ["Bob", "Carol"].map(Value::text).to_vec();
+    assert_eq!(pays(1), Value::List(both));
+}
+
 fn random_swaps(random: &mut Random, count: usize) -> Vec<(String, Files)> {
     let swap = |i: usize| {
-        let (sheet, setup) = random::game(random);
+        let (sheet, setup) = match i % 3 {
+            0 => random::ring_game(random),
+            _ => random::game(random),
+        };
         let manner = random::Manner {
             wrong: if i % 8 == 0 { 30 } else { 0 },
             leap: 10,
             ..random::manner(random, 60)
         };
         let journal = random::journal(random, &sheet, &setup, manner);
-        let side = random.pick(&[None, None, Some("alice\n"), Some("bob"), Some("Bob\n")]);
+        let side = random.pick(&[
+            None,
+            None,
+            Some("alice\n"),
+            Some("bob"),
+            Some("carol\n"),
+            Some("Bob\n"),
+        ]);
         let side = side.map(|name| name.as_bytes().to_vec());
         (
             format!("{i:03}"),

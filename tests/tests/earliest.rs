@@ -4,17 +4,14 @@
 use swap_tests::engine;
 use swap_tests::model::block_list;
 use swap_tests::model::ending;
-use swap_tests::model::sheet::{self, Sheet};
-use swap_tests::random::{self, Random};
+use swap_tests::model::sheet;
+use swap_tests::random::{self, Ending, Random};
 
 /// The sheet of P10.
 const P10: [u8; 17] = [2, 2, 0, 1, 2, 255, 0, 1, 0, 0, 2, 2, 0, 0, 0, 1, 1];
 const ONE_A_DAY: [u8; 4] = [1, 0, 0, 0];
 /// What every buffer holds before a call.
 const FILL: u8 = 170;
-
-/// An ending: a mask and its destinations.
-type Ending = (u32, Vec<u8>);
 
 /// How often each refusal was answered.
 struct Answers {
@@ -66,32 +63,6 @@ fn accepted_and_earliest(sheet: &[u8], setup: &[u8], (mask, dests): &Ending) {
         let list = block_list::bytes(&earlier);
         assert_ne!(engine::blocks(sheet, setup, &list), 0, "{earlier:?}");
     }
-}
-
-/// The paying transactions of a sheet.
-fn paying(sheet: &Sheet) -> Vec<u8> {
-    (0..sheet.count())
-        .filter(|&t| !sheet.is_contract(t))
-        .collect()
-}
-
-/// A mask of some paying transactions, mostly of different coins, with a payee for each.
-fn some_ending(random: &mut Random, sheet: &Sheet) -> Ending {
-    let mut mask = 0;
-    let mut dests = Vec::new();
-    let mut coins = Vec::new();
-    let share = random.between(5, 60);
-    for t in paying(sheet) {
-        let coin = sheet.coin(t);
-        if !random.percent(share) || coins.contains(&coin) && !random.percent(8) {
-            continue;
-        }
-        coins.push(coin);
-        mask |= 1 << t;
-        let payees: Vec<u8> = (0..2).filter(|&party| sheet.is_payee(t, party)).collect();
-        dests.extend(u32::from(random.pick(&payees)).to_le_bytes());
-    }
-    (mask, dests)
 }
 
 #[test]
@@ -153,7 +124,7 @@ fn every_mask_of_saswap() {
     for per_day in [1_u16, 2, 3, 144, 1_000] {
         let bytes = sheet::saswap(per_day);
         let read = sheet::read(&bytes).expect("a sound sheet");
-        let paying = paying(&read);
+        let paying = random::paying(&read);
         let [low, high] = per_day.to_le_bytes();
         for chosen in 0..1_u32 << paying.len() {
             let named: Vec<u8> = (0..paying.len())
@@ -161,8 +132,7 @@ fn every_mask_of_saswap() {
                 .map(|i| paying[i])
                 .collect();
             let mask = named.iter().map(|t| 1 << t).sum();
-            let payee = |&t: &u8| (0..2).find(|&party| read.is_payee(t, party));
-            let payees = named.iter().map(|t| payee(t).expect("a payee"));
+            let payees = named.iter().map(|&t| read.payees(t)[0]);
             let dests = payees.flat_map(|party| u32::from(party).to_le_bytes());
             answers.compare_all(&bytes, &[low, high, 2, 1], &(mask, dests.collect()));
         }
@@ -178,7 +148,7 @@ fn random_endings() {
     for _ in 0..60_000 {
         let (sheet, setup) = random::game(&mut random);
         let (read, _) = random::read(&sheet, &setup);
-        let ending = some_ending(&mut random, &read);
+        let ending = random::ending(&mut random, &read);
         answers.compare_all(&sheet, &setup, &ending);
         let answer = answers.compare(&sheet, &setup, &ending, 128);
         longest = longest.max(answer % 65_536);
@@ -198,7 +168,7 @@ fn damaged() {
     for _ in 0..60_000 {
         let (mut sheet, mut setup) = random::game(&mut random);
         let (read, _) = random::read(&sheet, &setup);
-        let (mut mask, mut dests) = some_ending(&mut random, &read);
+        let (mut mask, mut dests) = random::ending(&mut random, &read);
         match random.below(5) {
             0 => random::damage(&mut random, &mut sheet),
             1 => random::damage(&mut random, &mut setup),

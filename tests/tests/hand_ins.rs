@@ -49,7 +49,7 @@ fn early(steps: impl IntoIterator<Item = [u8; 4]>) -> Vec<[u8; 4]> {
 
 /// Every step of these kinds that some party could name, right or wrong.
 fn candidates(game: &Game) -> Vec<[u8; 4]> {
-    early((0..=2).flat_map(|party| open::candidates(&game.sheet, party)))
+    early(open::all_candidates(&game.sheet))
 }
 
 /// The course, and up to four more steps that change the block alone: hand-ins, inclusions, bumps.

@@ -39,7 +39,7 @@ fn code() -> Names {
         .collect()
 }
 
-/// `X(SWAP_SHEET_SHORT, 1, "sheet under 5 bytes") \`
+/// `X(SWAP_SHEET_COUNT, 2, "number of transactions outside 1 to 32") \`
 fn header() -> Names {
     text("include/swap.h")
         .lines()

@@ -86,11 +86,12 @@ fn there_and_back(program: &Path, folder: &Path, case: &Case, side: Option<&str>
     printed
 }
 
-/// A sheet and a setup; at times the SASwap sheet for another number of blocks, which has no names.
+/// A sheet and a setup; at times of three parties, or the SASwap sheet for another number of blocks, which has no names.
 fn game(random: &mut Random) -> (Vec<u8>, Vec<u8>) {
-    match random.percent(10) {
-        true => (sheet::saswap(1), random::setup_of(random, 3, 0)),
-        false => random::game(random),
+    match random.below(10) {
+        0 => (sheet::saswap(1), random::setup_of(random, 3, 0)),
+        1 | 2 => random::ring_game(random),
+        _ => random::game(random),
     }
 }
 
@@ -120,19 +121,24 @@ fn random_swaps_there_and_back() {
     let folder = folder("swapfile_random");
     let mut random = Random::new(61);
     let mut kinds = BTreeMap::new();
-    let (mut named, mut steps) = (0, 0);
+    let (mut named, mut rings, mut steps) = (0, 0, 0);
     for _ in 0..900 {
         let case = accepted(&mut random, 60);
-        let side = random.pick(&[None, Some("alice"), Some("bob")]);
+        let three = case.0[0] >= sheet::THREE;
+        let sides = [None, Some("alice"), Some("bob"), Some("carol")];
+        let side = random.pick(&sides[..if three { 4 } else { 3 }]);
         let text = there_and_back(&program, &folder, &case, side);
+        rings += usize::from(three);
         named += usize::from(text.contains("\nsheet: saswap\n"));
         steps += case.2.len() / 4;
         for step in case.2.chunks(4) {
             *kinds.entry(step[0]).or_insert(0) += 1;
         }
     }
-    println!("{steps} steps of {kinds:?}, {named} swaps of 900 on the SASwap sheet");
-    assert!(named > 200 && named < 700, "{named}");
+    println!(
+        "{steps} steps of {kinds:?}, {named} swaps of 900 on the SASwap sheet, {rings} of three"
+    );
+    assert!(named > 200 && named < 700 && rings > 100, "{named} {rings}");
     assert!((1..=7).all(|kind| kinds[&kind] > 100), "{kinds:?}");
 }
 
@@ -145,6 +151,10 @@ fn stored_and_longest() {
     wide.extend([255, 3, 255, 1].repeat(32));
     wide.extend([1, 255].repeat(32));
     there_and_back(&program, &folder, &(wide, vec![232, 3, 0, 1], vec![]), None);
+    let mut ring = vec![sheet::THREE + 32, 8, 255, 255, 255, 255];
+    ring.extend([255, 7, 255, 1].repeat(32));
+    ring.extend([1, 255].repeat(32));
+    there_and_back(&program, &folder, &(ring, vec![232, 3, 0, 1], vec![]), None);
     let [sheet, setup, journal, _] = samples::revoked().map(Option::unwrap_or_default);
     let blocks = random::MINE.repeat(10_000 - 444);
     let long = (sheet, setup, [journal, blocks].concat());
@@ -231,8 +241,12 @@ fn refused_folders() {
     let program = built("swapfile", &["-O2"]);
     let folder = folder("swapfile_refused");
     let mut random = Random::new(63);
-    for number in (1..=24).filter(|&number| number != 23) {
-        let mut tries = (0..10_000).map(|_| random::led_case(&mut random, 60, number));
+    for number in (1..=24).filter(|&number| number != 23).chain([32]) {
+        let led = |random: &mut Random| match number {
+            32 => random::led_ring_case(random, 60, number),
+            _ => random::led_case(random, 60, number),
+        };
+        let mut tries = (0..10_000).map(|_| led(&mut random));
         let refusal = |case: &Case| engine::run(&case.0, &case.1, &case.2) >> 16;
         let case = tries
             .find(|case| refusal(case) == number)
@@ -244,14 +258,14 @@ fn refused_folders() {
         let message = String::from_utf8(output.stderr).expect("text");
         let file = match number {
             1..=8 => "sheet.bin: ",
-            9 | 10 => "setup.bin: ",
+            9 | 10 | 32 => "setup.bin: ",
             _ => "journal.bin: ",
         };
         assert!(
             message.contains(file) && message.contains("refused: "),
             "{message}"
         );
-        let name = swap_tests::calendar::words::REFUSALS[number as usize - 1].0;
+        let (name, _) = swap_tests::calendar::words::refusal(number);
         assert!(message.ends_with(&format!("(SWAP_{name})\n")), "{message}");
     }
 }
@@ -396,4 +410,18 @@ fn saswap_in_the_document() {
     let output = encode(&built("swapfile", &["-O2"]), &text, &folder);
     assert!(output.status.success(), "{output:?}");
     assert_eq!(samples::read(&folder)[0], Some(sheet::saswap(144)));
+}
+
+/// The ring of three in the document is the sample's.
+#[test]
+fn ring_in_the_document() {
+    let document = fs::read_to_string(top().join("docs/FORMATS.md")).expect("the document");
+    let ring = &fenced(&document)["text ring"];
+    let setup = "blocks per day: 144\nconduct: open\nstealth: no\nside: carol\nsheet:\n";
+    let folder = folder("swapfile_ring");
+    let text = folder.join("swap.txt");
+    fs::write(&text, format!("{setup}{ring}journal:\n")).expect("a file to write to");
+    let output = encode(&built("swapfile", &["-O2"]), &text, &folder);
+    assert!(output.status.success(), "{output:?}");
+    assert_eq!(samples::read(&folder)[0], Some(samples::RING.to_vec()));
 }

@@ -94,14 +94,24 @@ fn an_empty_block_counts() {
     assert_eq!(first(after).as_deref(), Some("7 0 3"));
 }
 
+/// A case; each third one has a sheet of three.
+fn any_case(random: &mut Random, number: usize) -> Case {
+    match number % 3 {
+        2 => random::ring_case(random, 60),
+        _ => random::case(random, 60),
+    }
+}
+
 #[test]
 fn random_cases() {
     let folder = Folder::new("random");
     let mut random = Random::new(31);
     let texts: Vec<String> = (0..300)
-        .map(|_| folder.compare(&random::case(&mut random, 60)))
+        .map(|number| folder.compare(&any_case(&mut random, number)))
         .collect();
     assert!(texts.iter().any(|text| text.lines().count() == 1));
+    let carol = |line: &str| line.split(' ').nth(2) == Some("3");
+    assert!(texts.iter().any(|text| text.lines().skip(1).any(carol)));
     assert!(texts.iter().any(|text| text.lines().count() > 10));
 }
 
@@ -113,12 +123,17 @@ fn too_long() {
     let mut wide = vec![32, 1, 0, 1, 1];
     wide.extend([255, 1, 1, 0].repeat(32));
     wide.extend([0; 64]);
+    let mut ring = vec![160, 1, 0, 1, 1, 1];
+    ring.extend([255, 7, 1, 0].repeat(32));
+    ring.extend([0; 64]);
     let longer = |bytes: &[u8]| [bytes, &[0]].concat();
     let blocks = |count| [journal.clone(), MINE.repeat(count)].concat();
     let full = blocks((65_536 - journal.len()) / 4);
     let cases = [
         (wide.clone(), setup.clone(), vec![], "0 0 0"),
         (longer(&wide), setup.clone(), vec![], "0 4 0"),
+        (ring.clone(), setup.clone(), vec![], "0 0 0"),
+        (longer(&ring), setup.clone(), vec![], "0 4 0"),
         (sheet.clone(), longer(&setup), vec![], "0 9 0"),
         (sheet.clone(), setup.clone(), blocks(9_998), "10004 0 10000"),
         (sheet.clone(), setup.clone(), full.clone(), "10004 23 0"),
@@ -159,8 +174,9 @@ fn pages() {
     assert_eq!(folder.compare_page(&sample()), Ok(stored));
     let mut random = Random::new(32);
     let pages: Vec<_> = (0..200)
-        .map(|_| folder.compare_page(&random::case(&mut random, 60)))
+        .map(|number| folder.compare_page(&any_case(&mut random, number)))
         .collect();
     assert!(pages.iter().any(|page| page.is_err()));
+    assert!(pages.iter().flatten().any(|page| page.contains(" Carol ")));
     assert!(pages.iter().flatten().any(|page| page.lines().count() > 10));
 }

@@ -12,7 +12,6 @@ use Rattle.sheet.specs.Field.{isParty, count, signatures}
 use Rattle.slots.specs.Destination.{carol}
 use Rattle.sheet.specs.Check.{sheetRefusal}
 use Rattle.sheet.specs.Setup.{conduct, setupRefusal}
-use Rattle.sheet.proofs.Parties.{no-third}
 use Rattle.sheet.proofs.Theorems.{sheet-checked, setup-checked}
 use Rattle.slots.specs.declared.Step.{Step}
 use Rattle.position.specs.declared.Position.{Position}
@@ -44,9 +43,9 @@ pub list-few : (s u : List ℕ) (p : Position) → count s ≤ slotCount → sig
     + pick (isParty s carol) (7 * count s + signatures s + pick (eqb (conduct u) 0) 0 1) 0
 list-few = ListSize.list-few
 
--- So it has at most 265, on every checked sheet and setup.
-pub list-size : (s u : List ℕ) (p : Position) → sheetRefusal s ≡ 0 → setupRefusal s u ≡ 0 → length (openSteps s u p) ≤ 265
-list-size s u p h k = rw (no-third s) at (ListSize.list-size s u p (sheet-checked s h) (setup-checked s u k))
+-- So it has at most 265 on every checked sheet of two parties with its setup, and 497 on one of three.
+pub list-size : (s u : List ℕ) (p : Position) → sheetRefusal s ≡ 0 → setupRefusal s u ≡ 0 → length (openSteps s u p) ≤ pick (isParty s carol) 497 265
+list-size s u p h k = ListSize.list-size s u p (sheet-checked s h) (setup-checked s u k)
 
 -- The empty journal's position is well formed on a checked sheet.
 pub wellformed-start : (s : List ℕ) → sheetRefusal s ≡ 0 → Wellformed s (start s)

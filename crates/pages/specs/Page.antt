@@ -21,7 +21,7 @@ aliceText = 65 ∷ 108 ∷ 105 ∷ 99 ∷ 101 ∷ []
 abbrev pub bobText : List ℕ
 bobText = 66 ∷ 111 ∷ 98 ∷ []
 
--- a third party's name
+-- document 02, Slip 10: "on the page she is Carol"
 abbrev pub carolText : List ℕ
 carolText = 67 ∷ 97 ∷ 114 ∷ 111 ∷ 108 ∷ []
 

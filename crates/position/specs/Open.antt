@@ -19,8 +19,8 @@ use Rattle.steps.specs.Decode.{decode, stepBytes, noTransaction}
 use Rattle.position.specs.StepRefusal.{stepRefusal}
 use Rattle.position.specs.Play.{FourBytes, journalSteps}
 
--- "List writes Alice's steps first, then Bob's in the part that follows, then the miner's": the sheet's parties by place,
--- then the miner
+-- "List writes Alice's steps first, then Bob's in the part that follows, then the miner's"; document 02, Slip 10: "In the open list Carol stands
+-- after Bob and before the miner": the sheet's parties by place, then the miner
 unfoldable pub actorAt : List ℕ → ℕ → ℕ
 actorAt s k = pick (ltb k (parties s)) (partyAt k) miner
 

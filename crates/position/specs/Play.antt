@@ -81,11 +81,11 @@ runFrom s u (b ∷ bs) c p =
 unfoldable pub journalRight : List ℕ → Bool
 journalRight j = eqb (length j % 4) 0 && leb (length j) 65536
 
--- "Checks go by rising number, except that 24 stands right after 10, before any step"
+-- "Checks go by rising number, except that 24 stands right after 10, before any step"; document 02, Slip 10: 32 is "tested before 10"
 unfoldable pub callTests : List ℕ → List ℕ → List ℕ → List (ℕ × Bool)
 callTests s u j = sheetTests s ++ (setupTests s u ++ ((journalLength, journalRight j) ∷ []))
 
--- "run a journal": "the number (0 if none) and steps accepted"; "Under 1 to 10 and 24 the count is 0"
+-- "run a journal": "the number (0 if none) and steps accepted"; "Under 1 to 10 and 24 the count is 0", under 32 "as under 10"
 unfoldable pub run : List ℕ → List ℕ → List ℕ → Ran
 run s u j =
     let number = firstFailing (callTests s u j) in

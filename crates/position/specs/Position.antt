@@ -20,7 +20,7 @@ use Rattle.position.specs.declared.Position.{Position}
 abbrev pub slotCount : ℕ
 slotCount = 32
 
--- "the masks held at the start by Alice and Bob", by party number; nothing at other numbers
+-- "the masks held at the start by Alice and Bob", document 02, Slip 10: "a third start mask after Bob's", by party number; nothing at other numbers
 unfoldable pub startHeld : List ℕ → List ℕ
 startHeld s = startKeys s alice ∷ startKeys s bob ∷ 0 ∷ startKeys s carol ∷ 0 ∷ 0 ∷ []
 

@@ -16,8 +16,9 @@ use Rattle.sheet.specs.Refusal.{accepted}
 use Rattle.slots.specs.declared.Step.{Step}
 use Rattle.slots.specs.declared.Step.the-variants.{Share, Give, SendToPool, HandToMiner, Include, Mine, Bump}
 use Rattle.slots.specs.Destination.{alice, bob, carol, miner, destinations}
-use Rattle.sheet.specs.Field.{parties, partyAt, isParty}
-use Rattle.sheet.proofs.Parties.{parties-two, no-third}
+use Rattle.sheet.specs.Field.{parties, place, partyAt, isParty}
+use Rattle.sheet.proofs.Parties.{parties-some, parties-few}
+use borrow.Author.Tests.{eqb-true, eqb-false}
 use Rattle.steps.specs.declared.Decoded.{Decoded}
 use Rattle.steps.specs.declared.Decoded.the-variants.{Read, Refused}
 use Rattle.steps.specs.Decode.{noTransaction, fieldsRight, decode, stepBytes}
@@ -153,8 +154,23 @@ module _ (s u : List ℕ) (p : Position) where
   unfolding openSteps actorAt partyAt gather
   two-actors e n = rw (e, n) (append-assoc (actorSteps s u p alice) (actorSteps s u p bob) (actorSteps s u p miner))
 
+  three-actors : parties s ≡ 3 → openSteps s u p ≡ actorSteps s u p alice ++ (actorSteps s u p bob ++ (actorSteps s u p carol ++ actorSteps s u p miner))
+  unfolding openSteps actorAt partyAt gather
+  three-actors e =
+      rw e
+      (append-assoc (actorSteps s u p alice ++ actorSteps s u p bob) (actorSteps s u p carol) (actorSteps s u p miner)
+      ∙ append-assoc (actorSteps s u p alice) (actorSteps s u p bob) (actorSteps s u p carol ++ actorSteps s u p miner))
+
+  -- Carol is no party of a sheet of two
+  not-third : parties s ≡ 2 → isParty s carol ≡ false
+  unfolding isParty place
+  not-third e = rw e
+
   pub by-actors : openSteps s u p ≡ actorSteps s u p alice ++ (actorSteps s u p bob ++ (actorSteps s u p carol ++ actorSteps s u p miner))
-  by-actors = two-actors (parties-two s) (no-steps carol (no-third s) refl)
+  by-actors =
+      split (eqb (parties s) 2)
+      (λ e. let q = eqb-true (parties s) 2 e in two-actors q (no-steps carol (not-third q) refl))
+      (λ e. three-actors (omega (arith, eqb-false (parties s) 2 e, parties-some s, parties-few s)))
 
   pub list-bytes : (b₀ b₁ b₂ b₃ : List ℕ) (l₀ l₁ l₂ l₃ : ℕ) → Opens s u p alice b₀ l₀ → Opens s u p bob b₁ l₁ → Opens s u p carol b₂ l₂ → Opens s u p miner b₃ l₃
       → listBytes s u p ≡ actorBytes b₀ l₀ alice ++ (actorBytes b₁ l₁ bob ++ (actorBytes b₂ l₂ carol ++ actorBytes b₃ l₃ miner))

@@ -11,20 +11,22 @@ use borrow.Author.Tests.{eqb-true, eqb-false, ne-eqb, eq-eqb, ltb-true, ltb-fals
 use Rattle.laws.specs.Booleans.{split, and-parts}
 use Rattle.sheet.specs.Field.{byte, parties, arrays, miner, place, partyAt, isParty, startMask, startKeys}
 
--- two on every sheet. What rests on this number takes it as at least two and at most three
-pub parties-two : (s : List ℕ) → parties s ≡ 2
-unfolding parties
-parties-two s = refl
-
+-- two or three
 pub parties-some : (s : List ℕ) → 2 ≤ parties s
 unfolding parties
-parties-some s = lit≤ tt
+parties-some s = split (ltb (byte s 0) 128) (λ e. rw e (lit≤ tt)) (λ e. rw e (lit≤ tt))
 
 pub parties-few : (s : List ℕ) → parties s ≤ 3
 unfolding parties
-parties-few s = lit≤ tt
+parties-few s = split (ltb (byte s 0) 128) (λ e. rw e (lit≤ tt)) (λ e. rw e (lit≤ tt))
 
--- a sheet without bytes has no start mask
+-- a sheet without bytes has two
+pub parties-empty : (s : List ℕ) → length s ≡ 0 → parties s ≡ 2
+unfolding parties
+parties-empty [] h = refl
+parties-empty (x ∷ l) h = omega (arith, h)
+
+-- and no start mask
 pub start-empty : (s : List ℕ) (x : ℕ) → length s ≡ 0 → startKeys s x ≡ 0
 unfolding startKeys
 start-empty [] x h = split (isParty [] x) (λ e. rw e refl) (λ e. rw e refl)
@@ -91,11 +93,6 @@ module _ (s : List ℕ) where
   pub party-miner : isParty s 2 ≡ false
   unfolding isParty
   party-miner = refl
-
-  -- there is no third
-  pub no-third : isParty s 3 ≡ false
-  unfolding isParty place
-  no-third = rw (parties-two s)
 
   pub party-past : (x : ℕ) → 4 ≤ x → isParty s x ≡ false
   unfolding isParty place

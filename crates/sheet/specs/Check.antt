@@ -11,7 +11,7 @@ use Rattle.laws.specs.Failing.{firstFailing}
 use Rattle.sheet.specs.Refusal.{sheetShort, sheetCount, sheetSignatures, sheetLength, sheetParent, sheetEntry, sheetLock, sheetChildren}
 use Rattle.sheet.specs.Field.{parties, count, arrays, signatures, secrets, startMask, parent, payees, required, veil, lockType, days, opening}
 
--- 1 "sheet under 5 bytes"
+-- 1 "sheet under 5 bytes"; document 02, Slip 10: "1 then means under 6 bytes"
 unfoldable pub headRight : List ℕ → Bool
 headRight s = leb (arrays s) (length s)
 
@@ -31,7 +31,7 @@ masksRight s = within s (secrets s) && allBelow (parties s) (λ k. within s (sta
 unfoldable pub signaturesRight : List ℕ → Bool
 signaturesRight s = leb 1 (signatures s) && (leb (signatures s) 8 && masksRight s)
 
--- 4 "length not 5 + 6n"
+-- 4 "length not 5 + 6n"; Slip 10: "its length is 6 + 6n"
 unfoldable pub lengthRight : List ℕ → Bool
 lengthRight s = eqb (length s) (arrays s + 6 * count s)
 

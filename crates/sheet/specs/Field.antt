@@ -1,6 +1,6 @@
 -- The fields of a sheet, in the order of document 01's first section. A sheet is a list of bytes.
 -- Assumes nothing.
-use Prim.Native.Nat.{ℕ, _+_, _*_, _-_, _≤_, _<_}
+use Prim.Native.Nat.{ℕ, _+_, _*_, _-_, _%_, _≤_, _<_}
 use mathlib.Core.Path.{_≡_}
 use mathlib.Core.Bool.{Bool, not, _&&_}
 use mathlib.Core.List.{List}
@@ -12,15 +12,15 @@ use Rattle.laws.specs.Booleans.{pick}
 abbrev pub byte : List ℕ → ℕ → ℕ
 byte s i = getD s i 0
 
--- the number of parties of a sheet: Alice and Bob
+-- the number of parties: Alice and Bob. Document 02, Slip 10: "A first byte of 128 or more .. announces a sheet with a third start mask": with Carol
 unfoldable pub parties : List ℕ → ℕ
-parties s = 2
+parties s = pick (ltb (byte s 0) 128) 2 3
 
--- "byte 0 n transactions"
+-- "byte 0 n transactions"; Slip 10: "A first byte of 128 or more is 128 + n"
 unfoldable pub count : List ℕ → ℕ
-count s = byte s 0
+count s = byte s 0 % 128
 
--- where the two parallel arrays start, behind the head: "Length is exactly 5 + 6n": three bytes and the start masks
+-- where the two parallel arrays start, behind the head: "Length is exactly 5 + 6n"; Slip 10: "its length is 6 + 6n"
 unfoldable pub arrays : List ℕ → ℕ
 arrays s = 3 + parties s
 
@@ -32,11 +32,11 @@ signatures s = byte s 1
 abbrev pub secrets : List ℕ → ℕ
 secrets s = byte s 2
 
--- "party (0 Alice, 1 Bob, 2 miner)"
+-- "party (0 Alice, 1 Bob, 2 miner)"; Slip 10: "Carol is party 3"
 abbrev pub miner : ℕ
 miner = 2
 
--- a party's place among the sheet's, by its number: Alice's is 0, Bob's 1; the miner's number is passed over
+-- a party's place among the sheet's, by its number: Alice's is 0, Bob's 1, Carol's 2
 unfoldable pub place : ℕ → ℕ
 place party = pick (ltb party miner) party (party - 1)
 
@@ -48,7 +48,7 @@ partyAt k = pick (ltb k miner) k (k + 1)
 unfoldable pub isParty : List ℕ → ℕ → Bool
 isParty s party = not (eqb party miner) && ltb (place party) (parties s)
 
--- "bytes 3 and 4 the masks held at the start by Alice and Bob": by place
+-- "bytes 3 and 4 the masks held at the start by Alice and Bob"; Slip 10: "a third start mask after Bob's": by place
 abbrev pub startMask : List ℕ → ℕ → ℕ
 startMask s k = byte s (3 + k)
 
@@ -68,7 +68,7 @@ lockPair s t k = byte s (arrays s + 4 * count s + 2 * t + k)
 abbrev pub parent : List ℕ → ℕ → ℕ
 parent s t = entry s t 0
 
--- "payees (1 Alice, 2 Bob, 3 either, 0 a contract transaction)": a bit for each party, by place
+-- "payees (1 Alice, 2 Bob, 3 either, 0 a contract transaction)"; Slip 10: "Carol is .. payee bit 4"
 abbrev pub payees : List ℕ → ℕ → ℕ
 payees s t = entry s t 1
 

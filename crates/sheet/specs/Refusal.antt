@@ -46,6 +46,10 @@ setupBlocks = 9
 abbrev pub setupConduct : ℕ
 setupConduct = 10
 
+-- Document 02, Slip 10: "32 when a three-party sheet comes with conduct 1 or 2"
+abbrev pub setupParties : ℕ
+setupParties = 32
+
 -- "step field out of range for its kind"
 abbrev pub stepField : ℕ
 stepField = 11

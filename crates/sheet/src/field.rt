@@ -22,12 +22,15 @@ fn byte_or_zero(bytes: &[u8], i: usize) -> u8
     0
 }
 
-// The number of parties of a sheet.
+// The number of parties: a first byte of 128 or more announces a third.
 pub fn parties(sheet: &[u8]) -> usize
     requires { ⌜ 1 ≤ length (now sheet) ⌝ }
     ensures { λ r. ⌜ Few (parties (now (sheet .entry))) r ⌝ }
 {
-    2
+    if sheet[0] < 128 {
+        return 2;
+    }
+    3
 }
 
 // The number of transactions.
@@ -35,7 +38,7 @@ pub fn count(sheet: &[u8]) -> usize
     requires { ⌜ 5 ≤ length (now sheet) ⌝ }
     ensures { λ r. ⌜ Wide (count (now (sheet .entry))) r ⌝ }
 {
-    wide(sheet[0])
+    wide(sheet[0] % 128)
 }
 
 // Where the two parallel arrays start.

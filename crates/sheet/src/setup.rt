@@ -1,11 +1,14 @@
-// The setup: its fields, and the checks 9 and 10.
+// The setup: its fields, and the checks 9, 32 and 10.
+use crate::field;
 use crate::refusal;
 use crate::saswap;
 ghost use Prim.Native.Nat.{_<_};
 ghost use mathlib.Core.Path.{_≡_};
 ghost use lib.ListN.{length};
+ghost use lib.Dec.{eqb};
+ghost use Rattle.sheet.specs.Field.{parties};
 ghost use Rattle.sheet.specs.Forms.Field.{Wide};
-ghost use Rattle.sheet.specs.Setup.{perDay, conduct, stealth, blocksRight, conductRight, setupRefusal};
+ghost use Rattle.sheet.specs.Setup.{perDay, conduct, stealth, blocksRight, partiesRight, conductRight, setupRefusal};
 
 // A byte as a number of two bytes.
 fn wide16(x: u8) -> u16
@@ -49,6 +52,31 @@ fn blocks_right(setup: &[u8]) -> bool
     1 <= blocks && blocks <= 1000
 }
 
+// Whether a sheet has three parties.
+fn is_ring(sheet: &[u8]) -> bool
+    ensures { λ r. ⌜ r ≡ eqb (parties (now (sheet .entry))) 3 ⌝ }
+{
+    if sheet.len() == 0 {
+        return false;
+    }
+    field::parties(sheet) == 3
+}
+
+// 32: a sheet of three parties has neither conduct 1 nor 2.
+fn parties_right(sheet: &[u8], setup: &[u8]) -> bool
+    requires { ⌜ length (now setup) ≡ 4 ⌝ }
+    ensures { λ r. ⌜ r ≡ partiesRight (now (sheet .entry)) (now (setup .entry)) ⌝ }
+{
+    if !is_ring(sheet) {
+        return true;
+    }
+    let way = conduct(setup);
+    if way == 1 {
+        return false;
+    }
+    way != 2
+}
+
 // 10: conduct and stealth are in range, and the sheet fits the conduct.
 fn conduct_right(sheet: &[u8], setup: &[u8]) -> bool
     requires { ⌜ length (now setup) ≡ 4 ⌝ }
@@ -67,12 +95,15 @@ fn conduct_right(sheet: &[u8], setup: &[u8]) -> bool
     saswap::is_saswap(sheet, per_day(setup))
 }
 
-// The first of the checks 9 and 10 that fails, 0 where none does.
+// The first of the checks 9, 32 and 10 that fails, 0 where none does.
 pub fn setup_refusal(sheet: &[u8], setup: &[u8]) -> u32
     ensures { λ r. ⌜ r ≡ setupRefusal (now (sheet .entry)) (now (setup .entry)) ⌝ }
 {
     if !blocks_right(setup) {
         return refusal::SETUP_BLOCKS;
+    }
+    if !parties_right(sheet, setup) {
+        return refusal::SETUP_PARTIES;
     }
     if !conduct_right(sheet, setup) {
         return refusal::SETUP_CONDUCT;

@@ -20,11 +20,11 @@ bob = 1
 abbrev pub contract : ℕ
 contract = 2
 
--- a third party, Carol: the number after the miner's and the contract's. No sheet of two parties has her
+-- document 02, Slip 10: "Carol is party 3 and destination 3"
 abbrev pub carol : ℕ
 carol = 3
 
--- "its destination one of three", and a third party's: the numbers below this
+-- "its destination one of three", and Carol: the numbers below this
 abbrev pub destinations : ℕ
 destinations = 4
 
@@ -32,14 +32,14 @@ destinations = 4
 abbrev pub placeOf : ℕ → ℕ → ℕ
 placeOf k d = destinations * k + d
 
--- "destination (0 Alice, 1 Bob, 2 contract)"
+-- "destination (0 Alice, 1 Bob, 2 contract)"; Slip 10: "Carol is .. destination 3"
 unfoldable pub destinationNumber : Destination → ℕ
 destinationNumber Alice = alice
 destinationNumber Bob = bob
 destinationNumber Contract = contract
 destinationNumber Carol = carol
 
--- "payees (1 Alice, 2 Bob, 3 either ..": the number is a party's, and the bit of its place is set
+-- "payees (1 Alice, 2 Bob, 3 either ..", Slip 10: "payee bit 4" for Carol: the number is a party's, and the bit of its place is set
 unfoldable pub isPayee : List ℕ → ℕ → ℕ → Bool
 isPayee s t party = isParty s party && bit (payees s t) (place party)
 

@@ -12,7 +12,7 @@ pub mod party;
 mod siblings;
 pub mod signatures;
 
-// "destination (0 Alice, 1 Bob, 2 contract)", and 3 for a third party, Carol
+// "destination (0 Alice, 1 Bob, 2 contract)", and 3 Carol
 pub enum Destination {
     Alice,
     Bob,

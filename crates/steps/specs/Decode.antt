@@ -1,4 +1,5 @@
 -- Four bytes as a step: "kind, party (0 Alice, 1 Bob, 2 miner), transaction, destination (0 Alice, 1 Bob, 2 contract)", or refusal 11.
+-- Document 02, Slip 10: "Carol is party 3 and destination 3".
 -- Assumes nothing.
 use Prim.Native.Nat.{ℕ}
 use mathlib.Core.Bool.{Bool, not, _&&_, _||_}
@@ -29,7 +30,7 @@ unfoldable pub sharesTo : List ℕ → ℕ → ℕ → Bool
 sharesTo s t destination =
     pick (isContract s t) (eqb destination contract) (isParty s destination && isPayee s t destination)
 
--- "receiver (the destination, the other party)"
+-- "receiver (the destination, the other party)"; Slip 10: "A key may be given to either other party."
 unfoldable pub isOther : List ℕ → ℕ → ℕ → Bool
 isOther s party destination = isParty s destination && not (eqb destination party)
 
@@ -37,7 +38,7 @@ isOther s party destination = isParty s destination && not (eqb destination part
 unfoldable pub firstShareFields : List ℕ → ℕ → ℕ → Bool
 firstShareFields u t destination = eqb t noTransaction && (not (eqb (conduct u) 0) && eqb destination contract)
 
--- "Kinds 1 to 4 have party 0 or 1": one of the sheet's; "kinds 5, 6, 7 have party 2 and destination 2. Outside kind 2 a transaction is below n"
+-- "Kinds 1 to 4 have party 0 or 1", or Carol's 3 on a sheet of three; "kinds 5, 6, 7 have party 2 and destination 2. Outside kind 2 a transaction is below n"
 unfoldable pub fieldsRight : List ℕ → List ℕ → Step → Bool
 fieldsRight s u (Share party t to) =
     isParty s party && ((ltb t (count s) && sharesTo s t (destinationNumber to)) || firstShareFields u t (destinationNumber to))
@@ -60,7 +61,7 @@ ofKind kind party t to =
     (pick (eqb kind 7) (Read (Bump party t to))
     Refused))))))
 
--- "and its destination one of three", or a third party's, which the range check refuses on a sheet that has none
+-- "and its destination one of three"; Slip 10: "Carol is .. destination 3"
 unfoldable pub spelled : ℕ → ℕ → ℕ → ℕ → Decoded
 spelled kind party t destination =
     pick (eqb destination 0) (ofKind kind party t Alice)

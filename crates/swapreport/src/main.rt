@@ -82,7 +82,7 @@ fn print_page(sheet: &[u8], setup: &[u8], journal: &[u8]) {
 
 // Each file is read up to one byte more than the largest valid length, so that one that is too long is refused as such.
 fn main() {
-    let mut sheet = [0u8; 198];
+    let mut sheet = [0u8; 199];
     let sheet_file = files::read_file(b"sheet.bin", &mut sheet);
     if !sheet_file.readable {
         return;

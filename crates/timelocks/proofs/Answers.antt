@@ -142,12 +142,12 @@ module _ (s u : List ℕ) (base : ℕ) where
         (λ f. let l = leb-false (8 * count s) (length out) f in absurd (eqb-false bufferShort 0 refl (rw (answer-short z l) at h))))
         (λ e. let z = eqb-false (fieldRefusal s u base) 0 e in absurd (z (rw (answer-refused (fieldRefusal s u base) refl z) at h)))
 
-    number-below : number < 28
+    number-below : number < 33
     unfolding timelocksTests fieldTests sheetTests arrayTests setupTests limitTests
-    number-below = answer-below 28 (timelocksTests s u base out) (lit< tt) refl
+    number-below = answer-below 33 (timelocksTests s u base out) (lit< tt) refl
 
     -- the number of the call is one of the refusals to 27
-    pub timelocks-below : timelocksAnswer s u base out .refusal < 28
+    pub timelocks-below : timelocksAnswer s u base out .refusal < 33
     timelocks-below =
         split (eqb number accepted)
         (λ e. rw (answer-yes (eqb-true number accepted e)) (lit< tt))

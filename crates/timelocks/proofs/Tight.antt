@@ -6,15 +6,16 @@ use native.Mathlib.Omega.{arith}
 use mathlib.Core.Path.{_≡_, refl, sym, _∙_}
 use mathlib.Core.Bool.{Bool, true, false, true≢false}
 use mathlib.Core.List.{List}
+use mathlib.Core.Logic.{_⊎_, inl, inr}
 use lib.Dec.{eqb, leb, lit<}
 use borrow.Author.Tests.{eqb-true, eqb-false, lt-leb, le-leb, leb-false, ltb-false}
 use Rattle.laws.specs.Below.{allBelow}
-use Rattle.laws.specs.Booleans.{split}
-use Rattle.laws.specs.Failing.{firstFailing, answer-below}
+use Rattle.laws.specs.Booleans.{split, either}
+use Rattle.laws.specs.Failing.{firstFailing}
 use Rattle.sheet.specs.Field.{count, lockType, days}
 use Rattle.sheet.specs.LockHeight.{lockBlocks, lockHeight}
 use Rattle.sheet.specs.Check.{sheetRefusal}
-use Rattle.sheet.specs.Setup.{perDay, setupTests, setupRefusal}
+use Rattle.sheet.specs.Setup.{perDay, blocksRight, partiesRight, conductRight, setupTests, setupRefusal}
 use Rattle.sheet.specs.Checked.{LockPair, none, absolute, since, Fit}
 use Rattle.sheet.proofs.Theorems.{fit, sheet-refusal-below}
 use Rattle.timelocks.specs.Bitcoin.{admitted}
@@ -44,10 +45,17 @@ blocks-some : (s : List ℕ) (d t : ℕ) → 1 ≤ days s t → 1 ≤ d → 1 �
 unfolding lockBlocks
 blocks-some s d t h k = mul-le-mul {n₁ = 1} {m₁ = 1} {n₂ = days s t} {m₂ = d} h k
 
-module _ (s u : List ℕ) (base : ℕ) (big : 26 ≤ fieldRefusal s u base) where
-  setup-below : setupRefusal s u < 11
-  unfolding setupRefusal setupTests
-  setup-below = answer-below 11 (setupTests s u) (lit< tt) refl
+module _ (s u : List ℕ) (base : ℕ) (big : 26 ≤ fieldRefusal s u base) (small : fieldRefusal s u base ≤ 27) where
+  -- the setup's numbers are 9, 10 and 32
+  setup-below : (setupRefusal s u < 11) ⊎ (setupRefusal s u ≡ 32)
+  unfolding setupRefusal setupTests firstFailing
+  setup-below =
+      split (blocksRight u)
+      (λ a.
+      split (partiesRight s u)
+      (λ b. split (conductRight s u) (λ c. rw (a, b, c) (inl (lit< tt))) (λ c. rw (a, b, c) (inl (lit< tt))))
+      (λ b. rw (a, b) (inr refl)))
+      (λ a. rw a (inl (lit< tt)))
 
   sheet-zero : sheetRefusal s ≡ 0
   sheet-zero =
@@ -60,8 +68,8 @@ module _ (s u : List ℕ) (base : ℕ) (big : 26 ≤ fieldRefusal s u base) wher
       split (eqb (setupRefusal s u) 0)
       (λ e. eqb-true (setupRefusal s u) 0 e)
       (λ e.
-      absurd
-      (omega (arith, by-setup s u base (sheetRefusal s) (setupRefusal s u) refl sheet-zero refl (eqb-false (setupRefusal s u) 0 e), setup-below)))
+      let q = by-setup s u base (sheetRefusal s) (setupRefusal s u) refl sheet-zero refl (eqb-false (setupRefusal s u) 0 e) in
+      absurd (either setup-below (λ l. omega (arith, q, l)) (λ l. omega (arith, q, l))))
 
   by-limit : firstFailing (limitTests s (perDay u) base) ≡ fieldRefusal s u base
   by-limit = by-limits s u base (sheetRefusal s) (setupRefusal s u) (perDay u) _ refl sheet-zero refl setup-zero refl refl
@@ -147,14 +155,16 @@ module _ (s u : List ℕ) (base : ℕ) where
       × (SameLock s (perDay u) base t (fieldsOf s (perDay u) base t) → ⊥)
   relative-tight h =
       let big : 26 ≤ fieldRefusal s u base = omega arith in
-      let f = limit-fit s u base big in
-      let w = all-fails (count s) (relativeRight s (perDay u)) (relative-broken s (perDay u) base (by-limit s u base big ∙ h)) in
+      let small : fieldRefusal s u base ≤ 27 = omega arith in
+      let f = limit-fit s u base big small in
+      let w = all-fails (count s) (relativeRight s (perDay u)) (relative-broken s (perDay u) base (by-limit s u base big small ∙ h)) in
       (w .0, w .1, relative-false s (perDay u) base (w .0) (f .checked .entries (w .0) (w .1) .lock-pair) (f .setup .blocks-few) (w .2))
 
   pub absolute-tight : fieldRefusal s u base ≡ 27 → (t : ℕ) × (t < count s)
       × (SameLock s (perDay u) base t (fieldsOf s (perDay u) base t) → ⊥)
   absolute-tight h =
       let big : 26 ≤ fieldRefusal s u base = omega arith in
-      let f = limit-fit s u base big in
-      let w = all-fails (count s) (absoluteRight s (perDay u) base) (absolute-broken s (perDay u) base (by-limit s u base big ∙ h)) in
+      let small : fieldRefusal s u base ≤ 27 = omega arith in
+      let f = limit-fit s u base big small in
+      let w = all-fails (count s) (absoluteRight s (perDay u) base) (absolute-broken s (perDay u) base (by-limit s u base big small ∙ h)) in
       (w .0, w .1, absolute-false s (perDay u) base (w .0) (f .checked .entries (w .0) (w .1) .lock-pair) (f .setup .blocks-some) (w .2))

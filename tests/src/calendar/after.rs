@@ -20,7 +20,7 @@ impl After<'_> {
     pub fn otherwise(&self, t: u8) -> String {
         let rival = self.swap.later_rival(t).expect("a deadline");
         let name = self.names.transaction(rival);
-        let pays = payees_name(self.swap.can_pay(rival));
+        let pays = payees_name(self.swap.sheet, self.swap.can_pay(rival));
         let from = self.height(self.swap.soonest_deadline(t) + 1);
         format!("else {name}, pays {pays}, from {from}")
     }

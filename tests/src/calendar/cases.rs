@@ -1,7 +1,7 @@
 //! The cases of `examples/calendar/cases.txt`.
 
 use super::{text, Length, Question};
-use crate::model::{ALICE, BOB};
+use crate::model::{ALICE, BOB, CAROL};
 use crate::samples;
 use std::path::Path;
 
@@ -85,6 +85,7 @@ fn side(name: &str) -> Option<u8> {
     match name {
         "alice" => Some(ALICE),
         "bob" => Some(BOB),
+        "carol" => Some(CAROL),
         _ => None,
     }
 }

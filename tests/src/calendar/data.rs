@@ -9,7 +9,8 @@ use crate::json::Value;
 use crate::model::calls;
 use crate::model::heights::{self, NEVER};
 use crate::model::setup::Conduct;
-use crate::model::{report, ALICE, BOB};
+use crate::model::sheet::payee_bit;
+use crate::model::{report, ALICE, BOB, CAROL};
 use crate::samples::Files;
 
 /// "one object a swap", with what is asked and the totals before them.
@@ -105,9 +106,9 @@ fn parties(parties: &[u8]) -> Value {
 
 /// The parties of a mask.
 fn payees(mask: u8) -> Value {
-    let parties_of: Vec<u8> = [ALICE, BOB]
+    let parties_of: Vec<u8> = [ALICE, BOB, CAROL]
         .into_iter()
-        .filter(|party| mask >> party & 1 == 1)
+        .filter(|&party| mask & payee_bit(party) != 0)
         .collect();
     parties(&parties_of)
 }
@@ -275,7 +276,8 @@ fn side_words(view: &View, question: &Question, t: u8, side: u8) -> String {
         Kind::Ahead => otherwise(),
         Kind::Sent => "sent, box not needed".to_string(),
         Kind::Free => "no deadline ahead".to_string(),
-        Kind::Others => "the other side's".to_string(),
+        Kind::Others if after.swap.sheet.parties.len() == 2 => "the other side's".to_string(),
+        Kind::Others => "another side's".to_string(),
         Kind::Settled => panic!("transaction {t} is settled"),
     };
     if after.swap.kind(&outage, t, side) != Kind::Others {

@@ -111,7 +111,7 @@ fn overview_row(row: &Element) -> String {
     collapsed(&cells.join(" "))
 }
 
-/// A section for each sound swap, with the numbers that its JSON has and the model's words.
+/// A section for each sound swap with a side that is shown, with the numbers that its JSON has and the model's words.
 pub fn check_sections(
     page: &Element,
     swaps: &[(String, Files)],
@@ -124,7 +124,8 @@ pub fn check_sections(
         let id = format!("swap-{}", place + 1);
         let found: Vec<&&Element> = sections.iter().filter(|s| s.get("id") == id).collect();
         let sound = swap.get("state").as_text() == "sound";
-        assert_eq!(found.len(), usize::from(sound), "{id}");
+        let shown = sound && !swap.get("sides").list().is_empty();
+        assert_eq!(found.len(), usize::from(shown), "{id}");
         for section in found {
             check_section(section, swap, files, question);
             checked += 1;
@@ -216,13 +217,21 @@ fn is(transaction: &Value, kind: &str) -> impl Iterator<Item = bool> {
     is.into_iter()
 }
 
+/// The word for payees; two of a sheet of three go by their first letters.
+fn pays(names: &[&str], files: &Files) -> String {
+    let three = files[0].as_ref().is_some_and(|sheet| sheet[0] >= 128);
+    match names {
+        [] => "nobody".to_string(),
+        [one] => one.to_string(),
+        [a, b] if three => format!("{} or {}", &a[..1], &b[..1]),
+        [_, _] => "either".to_string(),
+        _ => "anyone".to_string(),
+    }
+}
+
 fn check_row(row: &Element, transaction: &Value, files: &Files, question: &Question) {
     let window = transaction.get("window");
-    let pays = match names(transaction.get("pays"))[..] {
-        [] => "nobody",
-        [one] => one,
-        _ => "either",
-    };
+    let pays = pays(&names(transaction.get("pays")), files);
     let status = match names(transaction.get("status"))[..] {
         [] => "-".to_string(),
         ref words => words.join("+"),
@@ -232,7 +241,7 @@ fn check_row(row: &Element, transaction: &Value, files: &Files, question: &Quest
         left => height(left),
     };
     let mut expected = vec![transaction.get("name").as_text().to_string()];
-    expected.extend([pays.to_string(), status]);
+    expected.extend([pays, status]);
     expected.extend(["lock_height", "deadline"].map(|name| height(transaction.get(name))));
     expected.extend(["from", "to"].map(|name| height(window.get(name))));
     expected.extend([left, String::new()]);

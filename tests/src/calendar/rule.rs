@@ -7,7 +7,7 @@ use crate::model::journal::Course;
 use crate::model::outage::{self, COVERED, SAFE_IN_POOL, SETTLED};
 use crate::model::position::{contains, Position};
 use crate::model::setup::{Conduct, Setup};
-use crate::model::sheet::{Lock, Sheet};
+use crate::model::sheet::{payee_bit, Lock, Sheet};
 use crate::model::BOB;
 
 /// The signature number of sigBob on the SASwap sheet.
@@ -102,7 +102,7 @@ impl Swap<'_> {
         let conduct = self.setup.conduct != Conduct::Open;
         let transaction = self.sheet.transaction(t);
         match conduct && transaction.payees != 0 && contains(transaction.needs, SIG_BOB) {
-            true => transaction.payees & 1 << BOB,
+            true => transaction.payees & payee_bit(BOB),
             false => outage::payees_below(self.sheet, t),
         }
     }
@@ -116,7 +116,7 @@ impl Swap<'_> {
         let fixed = soonest == self.deadline(t);
         if verdict == SETTLED {
             Kind::Settled
-        } else if !contains(self.can_pay(t), side) {
+        } else if self.can_pay(t) & payee_bit(side) == 0 {
             Kind::Others
         } else if verdict == SAFE_IN_POOL {
             Kind::Sent

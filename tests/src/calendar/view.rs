@@ -7,7 +7,7 @@ use super::{Question, Totals};
 use crate::model::calls::Outcome;
 use crate::model::heights::{self, NEVER};
 use crate::model::setup::Conduct;
-use crate::model::{first_open, open, report, ALICE, BOB, MINER};
+use crate::model::{first_open, open, report};
 
 /// A swap whose journal is accepted whole.
 pub struct View {
@@ -68,7 +68,7 @@ impl View {
     pub fn lines(&self, question: &Question, sides: &[u8]) -> Vec<String> {
         let mut lines = self.inputs(question.base);
         lines.extend(self.position(question.base));
-        for party in [ALICE, BOB, MINER] {
+        for party in open::actors(&self.outcome.sheet) {
             lines.extend(self.steps(party));
         }
         lines.extend(self.payouts(question.base));
@@ -85,7 +85,11 @@ impl View {
             course,
             ..
         } = &self.outcome;
-        let kind = if self.names.saswap { "SASwap" } else { "other" };
+        let kind = match (sheet.parties.len(), self.names.saswap) {
+            (3, _) => "three parties",
+            (_, true) => "SASwap",
+            (_, false) => "other",
+        };
         let conduct = match setup.conduct {
             Conduct::Open => "open",
             Conduct::Loose => "loose",
@@ -232,7 +236,8 @@ impl View {
             Kind::Sent => "sent, box not needed".to_string(),
             Kind::Free if soonest == NEVER => "no deadline".to_string(),
             Kind::Free => format!("PASSED: block {latest} was the latest"),
-            Kind::Others => "the other side's".to_string(),
+            Kind::Others if self.outcome.sheet.parties.len() == 2 => "the other side's".to_string(),
+            Kind::Others => "another side's".to_string(),
         };
         words += &self.standing(question.base, t, side);
         if kind != Kind::Others {
@@ -240,7 +245,7 @@ impl View {
         }
         let (name, pays) = (
             self.names.transaction(t),
-            payees_name(after.swap.can_pay(t)),
+            payees_name(after.swap.sheet, after.swap.can_pay(t)),
         );
         Some(format!("    {name:<22}{pays:<8}{words}"))
     }

@@ -1,7 +1,8 @@
 //! Names and words for numbers.
 
 use crate::model::heights::NEVER;
-use crate::model::{sheet, ALICE, BOB, CONTRACT};
+use crate::model::sheet::{self, Sheet};
+use crate::model::{ALICE, BOB, CAROL, CONTRACT};
 
 /// "The SASwap sheet": the names of its transactions.
 const TRANSACTIONS: [&str; 15] = [
@@ -25,8 +26,8 @@ const TRANSACTIONS: [&str; 15] = [
 const SIGNATURES: [&str; 4] = ["sigAlice", "sigBob", "secretAlice", "secretBob"];
 
 /// The names that `include/swap.h` gives the refusals, and the calendar's words for them.
-pub const REFUSALS: [(&str, &str); 24] = [
-    ("SHEET_SHORT", "sheet under 5 bytes"),
+const REFUSALS: [(&str, &str); 24] = [
+    ("SHEET_SHORT", "sheet under 5 bytes, or 6 of three parties"),
     ("SHEET_COUNT", "number of transactions outside 1 to 32"),
     (
         "SHEET_SIGNATURES",
@@ -34,7 +35,7 @@ pub const REFUSALS: [(&str, &str); 24] = [
     ),
     (
         "SHEET_LENGTH",
-        "length of the sheet not 5 + 6 for each transaction",
+        "length of the sheet not 5, or 6 of three parties, + 6 for each transaction",
     ),
     ("SHEET_PARENT", "parent neither 255 nor lower"),
     ("SHEET_ENTRY", "payees, needs or veil out of range"),
@@ -79,10 +80,25 @@ pub const REFUSALS: [(&str, &str); 24] = [
     ),
 ];
 
+/// The refusal of a sheet of three by its setup, 32, which stands between 9 and 10.
+const SETUP_PARTIES: (&str, &str) = (
+    "SETUP_PARTIES",
+    "loose or careful conduct with a sheet of three parties",
+);
+
+/// The name and the words of a refusal of a swap.
+pub fn refusal(number: u32) -> (&'static str, &'static str) {
+    match number {
+        32 => SETUP_PARTIES,
+        _ => REFUSALS[number as usize - 1],
+    }
+}
+
 pub fn party_name(party: u8) -> &'static str {
     match party {
         ALICE => "Alice",
         BOB => "Bob",
+        CAROL => "Carol",
         _ => "the miner",
     }
 }
@@ -95,8 +111,18 @@ pub fn destination_name(destination: u8) -> &'static str {
 }
 
 /// Payees, as a mask.
-pub fn payees_name(payees: u8) -> &'static str {
-    ["nobody", "Alice", "Bob", "either"][usize::from(payees)]
+pub fn payees_name(sheet: &Sheet, payees: u8) -> &'static str {
+    match (payees, sheet.parties.len()) {
+        (0, _) => "nobody",
+        (1, _) => "Alice",
+        (2, _) => "Bob",
+        (3, 2) => "either",
+        (3, _) => "A or B",
+        (4, _) => "Carol",
+        (5, _) => "A or C",
+        (6, _) => "B or C",
+        _ => "anyone",
+    }
 }
 
 /// A height of the real chain, which stood at the base before block 1; 0 is no block or no lock.

@@ -1,11 +1,24 @@
-//! A sheet and a setup: the checks 1 to 10, and what is worked out from both once.
+//! A sheet and a setup: the checks 1 to 10 and 32, and what is worked out from both once.
 
-use super::{require, Checked, MOST};
+use super::{require, Checked, ALICE, BOB, CAROL, MINER, MOST, NUMBERS};
 
 /// The parent byte of a coin's opening.
 const OPENING: u8 = 255;
-/// The bytes before the two arrays.
-const HEAD: usize = 5;
+/// "A first byte of 128 or more is 128 + n and announces a sheet with a third start mask".
+const THREE: u8 = 128;
+
+/// The number of transactions and the parties of a sheet that is not empty.
+fn head(sheet: &[u8]) -> (u8, &'static [u8]) {
+    match sheet[0] {
+        first @ THREE.. => (first - THREE, &[ALICE, BOB, CAROL]),
+        first => (first, &[ALICE, BOB]),
+    }
+}
+
+/// The bytes before the two arrays: sizes, secrets and a mask for each party.
+fn head_bytes(parties: &[u8]) -> usize {
+    3 + parties.len()
+}
 
 /// The SASwap sheet for 3 and more blocks per day: offset 0.
 const SASWAP: [u8; 95] = [
@@ -69,17 +82,18 @@ const NO_TRANSACTION: Transaction = Transaction {
     exposes: 0,
 };
 
-/// A sheet and a setup that passed the checks 1 to 10.
+/// A sheet and a setup that passed the checks 1 to 10 and 32.
 pub struct Contract {
     pub count: usize,
     pub signatures: u8,
     pub secrets: u8,
-    pub held: [u8; 2],
+    pub parties: &'static [u8],
+    pub held: [u8; NUMBERS],
     pub transactions: [Transaction; MOST],
     /// The contract transactions.
     pub contracts: u32,
-    /// The transactions that pay Alice, and those that pay Bob.
-    pub pays: [u32; 2],
+    /// The transactions that pay each party.
+    pub pays: [u32; NUMBERS],
     pub conduct: Conduct,
     pub stealth: bool,
 }
@@ -92,7 +106,8 @@ struct Row<'a> {
 
 /// The rows of a sheet whose length is right.
 fn rows(sheet: &[u8]) -> impl Iterator<Item = (usize, Row<'_>)> {
-    let (first, second) = sheet[HEAD..].split_at(4 * usize::from(sheet[0]));
+    let (n, parties) = head(sheet);
+    let (first, second) = sheet[head_bytes(parties)..].split_at(4 * usize::from(n));
     let pairs = first.chunks_exact(4).zip(second.chunks_exact(2));
     pairs.map(|(first, lock)| Row { first, lock }).enumerate()
 }
@@ -104,26 +119,40 @@ fn mask_of(byte: u8) -> u32 {
 
 /// The checks 1 to 8 of a sheet.
 pub fn check_sheet(sheet: &[u8]) -> Checked {
-    require(sheet.len() >= HEAD, 1)?;
-    let (n, s) = (sheet[0], sheet[1]);
+    require(!sheet.is_empty(), 1)?;
+    let (n, parties) = head(sheet);
+    let head = head_bytes(parties);
+    require(sheet.len() >= head, 1)?;
+    let s = sheet[1];
     require((1..=MOST as u8).contains(&n), 2)?;
     require((1..=8).contains(&s), 3)?;
     let beyond = !(255u8 >> (8 - s));
-    require((sheet[2] | sheet[3] | sheet[4]) & beyond == 0, 3)?;
-    require(sheet.len() == HEAD + 6 * usize::from(n), 4)?;
-    let parents = rows(sheet).fold(0, |all, (_, row)| all | mask_of(row.first[0]));
-    let failures = rows(sheet).filter_map(|(t, row)| check_row(t, &row, beyond, parents).err());
+    require(sheet[2..head].iter().all(|mask| mask & beyond == 0), 3)?;
+    require(sheet.len() == head + 6 * usize::from(n), 4)?;
+    let limits = Limits {
+        everybody: (1 << parties.len()) - 1,
+        beyond,
+        parents: rows(sheet).fold(0, |all, (_, row)| all | mask_of(row.first[0])),
+    };
+    let failures = rows(sheet).filter_map(|(t, row)| check_row(t, &row, &limits).err());
     failures.min().map_or(Ok(()), Err)
 }
 
+/// What the rows are held to: the payees byte that names every party, the signatures beyond s, and the parents.
+struct Limits {
+    everybody: u8,
+    beyond: u8,
+    parents: u32,
+}
+
 /// The checks 5 to 8 of one transaction. The least failure of all rows is the sheet's.
-fn check_row(t: usize, row: &Row, beyond: u8, parents: u32) -> Checked {
+fn check_row(t: usize, row: &Row, limits: &Limits) -> Checked {
     let [parent, payees, needs, veil] = row.first[..] else {
         unreachable!("a row of the first array has four bytes")
     };
     require(parent == OPENING || usize::from(parent) < t, 5)?;
     require(
-        payees <= 3 && needs != 0 && needs & beyond == 0 && veil <= 1,
+        payees <= limits.everybody && needs != 0 && needs & limits.beyond == 0 && veil <= 1,
         6,
     )?;
     let lock_right = match row.lock[0] {
@@ -133,17 +162,19 @@ fn check_row(t: usize, row: &Row, beyond: u8, parents: u32) -> Checked {
         _ => false,
     };
     require(lock_right, 7)?;
-    let has_child = parents >> t & 1 == 1;
+    let has_child = limits.parents >> t & 1 == 1;
     require((payees == 0) == has_child, 8)
 }
 
-/// The checks 9 and 10 of a setup: its blocks per day.
+/// The checks 9, 32 and 10 of a setup: its blocks per day.
 fn check_setup(sheet: &[u8], setup: &[u8]) -> Result<u16, u32> {
     let [low, high, conduct, stealth] = setup[..] else {
         return Err(9);
     };
     let per_day = u16::from_le_bytes([low, high]);
     require((1..=1000).contains(&per_day), 9)?;
+    let (_, parties) = head(sheet);
+    require(parties.len() == 2 || !(1..=2).contains(&conduct), 32)?;
     require(conduct <= 2 && stealth <= 1, 10)?;
     require(conduct == 0 || is_saswap(sheet, per_day), 10)?;
     Ok(per_day)
@@ -163,14 +194,20 @@ impl Contract {
     pub fn read(sheet: &[u8], setup: &[u8]) -> Result<Contract, u32> {
         check_sheet(sheet)?;
         let per_day = check_setup(sheet, setup)?;
+        let (n, parties) = head(sheet);
+        let mut held = [0; NUMBERS];
+        for (&party, &mask) in parties.iter().zip(&sheet[3..]) {
+            held[usize::from(party)] = mask;
+        }
         let mut contract = Contract {
-            count: usize::from(sheet[0]),
+            count: usize::from(n),
             signatures: sheet[1],
             secrets: sheet[2],
-            held: [sheet[3], sheet[4]],
+            parties,
+            held,
             transactions: [NO_TRANSACTION; MOST],
             contracts: 0,
-            pays: [0; 2],
+            pays: [0; NUMBERS],
             conduct: match setup[2] {
                 0 => Conduct::Open,
                 1 => Conduct::Loose,
@@ -203,8 +240,14 @@ impl Contract {
 
     fn note_payees(&mut self, t: usize, payees: u8) {
         self.contracts |= u32::from(payees == 0) << t;
-        self.pays[0] |= u32::from(payees & 1) << t;
-        self.pays[1] |= u32::from(payees >> 1) << t;
+        for (bit, &party) in self.parties.iter().enumerate() {
+            self.pays[usize::from(party)] |= u32::from(payees >> bit & 1) << t;
+        }
+    }
+
+    /// Whether a number is one of the parties.
+    pub fn is_party(&self, number: u8) -> bool {
+        number < MINER || number == CAROL && self.parties.len() == 3
     }
 
     /// Whether a transaction byte names a transaction of the sheet.

@@ -22,12 +22,15 @@ const NEVER: u32 = 2_147_483_647;
 /// The transaction byte of kind 6, and of the first shares under conduct.
 const ALL: u8 = 255;
 
-/// "party (0 Alice, 1 Bob, 2 miner)".
+/// "party (0 Alice, 1 Bob, 2 miner)"; Slip 10: "Carol is party 3 and destination 3".
 const ALICE: u8 = 0;
 const BOB: u8 = 1;
 const MINER: u8 = 2;
+const CAROL: u8 = 3;
 /// "destination (0 Alice, 1 Bob, 2 contract)".
 const CONTRACT: u8 = 2;
+/// The numbers of parties and destinations are below this one.
+const NUMBERS: usize = 4;
 
 /// A refusal's number, where something is refused.
 type Checked = Result<(), u32>;

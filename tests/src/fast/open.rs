@@ -4,10 +4,11 @@ use super::conduct;
 use super::contract::{Conduct, Contract};
 use super::position::Position;
 use super::step::{check_give, check_hand_in, check_include, check_mine, check_send, check_share};
-use super::{bits, Checked, ALICE, ALL, BOB, CONTRACT, MINER};
+use super::{bits, Checked, ALL, CONTRACT, MINER};
 
-/// The most open steps.
-const MOST_OPEN: usize = 265;
+/// The most open steps: with three parties 9 shares and 6 sends, hand-ins or inclusions of each transaction, 2 gifts of
+/// each signature, and a block.
+const MOST_OPEN: usize = 497;
 
 /// Open steps in their order.
 pub struct Steps {
@@ -22,7 +23,7 @@ impl Steps {
             steps: [[0; 4]; MOST_OPEN],
             count: 0,
         };
-        for party in [ALICE, BOB] {
+        for &party in contract.parties {
             steps.shares(contract, position, party);
             steps.gives(contract, position, party);
             steps.sends(contract, position, party);
@@ -58,8 +59,10 @@ impl Steps {
 
     fn gives(&mut self, contract: &Contract, position: &Position, party: u8) {
         for i in 0..contract.signatures {
-            let passed = check_give(contract, position, party, i);
-            self.add(passed, [2, party, i, 1 - party]);
+            for &to in contract.parties.iter().filter(|&&to| to != party) {
+                let passed = check_give(contract, position, party, i, to);
+                self.add(passed, [2, party, i, to]);
+            }
         }
     }
 
@@ -95,11 +98,11 @@ impl Steps {
     }
 }
 
-/// The destinations for which a transaction may be shared.
+/// The destinations for which a transaction may be shared: the contract's, or the numbers of its payees.
 fn destinations(contract: &Contract, t: usize) -> impl Iterator<Item = u8> {
-    bits(match contract.transactions[t].payees {
+    bits(match u32::from(contract.transactions[t].payees) {
         0 => 1 << CONTRACT,
-        payees => payees.into(),
+        payees => payees & 3 | (payees & 4) << 1,
     })
     .map(|to| to as u8)
 }

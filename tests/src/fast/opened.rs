@@ -2,7 +2,7 @@
 
 use super::contract::Contract;
 use super::position::Position;
-use super::{bits, ALICE, BOB, CONTRACT, MOST, NEVER};
+use super::{bits, CONTRACT, MOST, NEVER};
 
 /// The blocks mined when each transaction was first open, and those that were not yet.
 pub struct Opened {
@@ -42,7 +42,7 @@ fn is_open(contract: &Contract, position: &Position, t: usize) -> bool {
     let signed = |party: u8| {
         let to = match x.payees {
             0 => CONTRACT,
-            payees if payees >> party & 1 == 1 => party,
+            _ if contract.pays[usize::from(party)] >> t & 1 == 1 => party,
             _ => return false,
         };
         x.needs & !position.signatures(contract, party, t, to) == 0
@@ -50,5 +50,5 @@ fn is_open(contract: &Contract, position: &Position, t: usize) -> bool {
     position.confirmed & x.parent_mask == x.parent_mask
         && position.confirmed & x.rivals == 0
         && position.lock_height(x) <= position.mined
-        && (signed(ALICE) || signed(BOB))
+        && contract.parties.iter().any(|&party| signed(party))
 }

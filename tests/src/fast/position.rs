@@ -1,7 +1,7 @@
 //! The position, and the heights in it.
 
 use super::contract::{Contract, Lock, Transaction};
-use super::{bits, MOST, NEVER};
+use super::{bits, MOST, NEVER, NUMBERS};
 
 pub struct Position {
     /// The transactions in the pool, in the block being filled, and confirmed.
@@ -15,13 +15,13 @@ pub struct Position {
     /// The block of a confirmation, 0 while there is none.
     pub height: [u32; MOST],
     /// The signatures shared for each destination.
-    pub shared: [[u8; 3]; MOST],
+    pub shared: [[u8; NUMBERS]; MOST],
     /// The signatures shared of any transaction.
     pub shared_any: u8,
     /// The shares that each party has made for each destination.
-    pub made: [[u32; 3]; 2],
-    /// The keys held by Alice and Bob.
-    pub held: [u8; 2],
+    pub made: [[u32; NUMBERS]; NUMBERS],
+    /// The keys held by each party.
+    pub held: [u8; NUMBERS],
     /// The blocks mined.
     pub mined: u32,
 }
@@ -37,9 +37,9 @@ impl Position {
             block_to: [0; MOST],
             confirmed_to: [0; MOST],
             height: [0; MOST],
-            shared: [[0; 3]; MOST],
+            shared: [[0; NUMBERS]; MOST],
             shared_any: 0,
-            made: [[0; 3]; 2],
+            made: [[0; NUMBERS]; NUMBERS],
             held: contract.held,
             mined: 0,
         }

@@ -3,7 +3,7 @@
 use super::conduct;
 use super::contract::{Conduct, Contract};
 use super::position::Position;
-use super::{bits, require, Checked, ALICE, ALL, BOB, CONTRACT, MINER};
+use super::{bits, require, Checked, ALL, CONTRACT, MINER};
 
 /// "10,000 blocks mined".
 const MOST_BLOCKS: u32 = 10_000;
@@ -25,20 +25,16 @@ pub fn take(contract: &Contract, position: &mut Position, step: [u8; 4]) -> Chec
     }
 }
 
-fn is_party(party: u8) -> bool {
-    party == ALICE || party == BOB
-}
-
 /// Whether a party is a payee of a transaction.
 fn is_payee(contract: &Contract, t: usize, party: u8) -> bool {
-    is_party(party) && contract.pays[usize::from(party)] >> t & 1 == 1
+    contract.is_party(party) && contract.pays[usize::from(party)] >> t & 1 == 1
 }
 
 // 1 Share.
 
 #[inline(always)]
 fn take_share(contract: &Contract, position: &mut Position, party: u8, t: u8, to: u8) -> Checked {
-    require(is_party(party) && shares_to(contract, t, to), 11)?;
+    require(contract.is_party(party) && shares_to(contract, t, to), 11)?;
     check_share(contract, position, party, t, to)?;
     for t in shared_by(party, t) {
         let signatures = share_set(contract, position, party, t);
@@ -85,17 +81,17 @@ fn share_set(contract: &Contract, position: &Position, party: u8, t: usize) -> u
 
 #[inline(always)]
 fn take_give(contract: &Contract, position: &mut Position, party: u8, i: u8, to: u8) -> Checked {
-    require(is_party(party) && is_party(to) && party != to, 11)?;
-    require(i < contract.signatures, 11)?;
-    check_give(contract, position, party, i)?;
+    let parties = contract.is_party(party) && contract.is_party(to) && party != to;
+    require(parties && i < contract.signatures, 11)?;
+    check_give(contract, position, party, i, to)?;
     position.held[usize::from(to)] |= 1 << i;
     Ok(())
 }
 
-/// 13 for a give to the other party.
-pub fn check_give(contract: &Contract, position: &Position, party: u8, i: u8) -> Checked {
+/// 13 for a give to another party.
+pub fn check_give(contract: &Contract, position: &Position, party: u8, i: u8, to: u8) -> Checked {
     require(conduct::may_give(contract, position, party, i), 13)?;
-    let [giver, receiver] = [party, 1 - party].map(|p| position.held[usize::from(p)]);
+    let [giver, receiver] = [party, to].map(|p| position.held[usize::from(p)]);
     require((giver & !receiver) >> i & 1 == 1, 13)
 }
 
@@ -103,7 +99,7 @@ pub fn check_give(contract: &Contract, position: &Position, party: u8, i: u8) ->
 
 /// 11 for a send.
 fn sends_to(contract: &Contract, party: u8, t: u8, to: u8) -> bool {
-    is_party(party)
+    contract.is_party(party)
         && contract.has(t)
         && match contract.is_contract(t.into()) {
             true => to == CONTRACT,

@@ -32,7 +32,8 @@ pub struct Outcome {
     pub course: Course,
 }
 
-/// Sheet, setup and journal, or the refusal before any step: 1 to 10, then 24.
+/// Sheet, setup and journal, or the refusal before any step: 1 to 10 with 32 among
+/// them, then 24.
 pub fn outcome(sheet: &[u8], setup: &[u8], journal: &[u8]) -> Result<Outcome, u32> {
     let read_sheet = sheet::read(sheet)?;
     let read_setup = setup::read(sheet, setup)?;
@@ -93,7 +94,7 @@ pub fn check(sheet: &[u8]) -> u32 {
 }
 
 /// Run a journal. "Under 1 to 10 and 24 the count is 0 and the part is the whole
-/// journal."
+/// journal."; 32 comes "with count and part as under 10".
 pub fn run<'a>(sheet: &[u8], setup: &[u8], journal: &'a [u8]) -> Run<'a> {
     let (refusal, accepted) = match outcome(sheet, setup, journal) {
         Err(number) => (number, 0),

@@ -2,7 +2,7 @@
 //! positions that a journal goes through.
 
 use super::heights::{self, NEVER};
-use super::position::{contains, within, Position};
+use super::position::{within, Position};
 use super::setup::Setup;
 use super::sheet::Sheet;
 use super::{step, CONTRACT};
@@ -23,12 +23,12 @@ pub fn is_open(sheet: &Sheet, setup: &Setup, position: &Position, t: u8) -> bool
     };
     let signed_by = |party: u8| match transaction.payees {
         0 => at_hand(party, CONTRACT),
-        payees => contains(payees, party) && at_hand(party, party),
+        _ => sheet.is_payee(t, party) && at_hand(party, party),
     };
     parent_there
         && !rivals.any(|&rival| position.is_confirmed(rival))
         && heights::lock_height(sheet, setup, position, t) <= position.mined
-        && (0..position.held.len() as u8).any(signed_by)
+        && sheet.parties.iter().copied().any(signed_by)
 }
 
 /// "the empty journal's position and .. that after each accepted step".

@@ -30,10 +30,12 @@ pub mod step;
 pub mod swapreport;
 pub mod timelocks;
 
-/// The parties by number: "0 Alice, 1 Bob, 2 miner".
+/// The parties by number: "0 Alice, 1 Bob, 2 miner"; Slip 10: "Carol is party 3
+/// and destination 3".
 pub const ALICE: u8 = 0;
 pub const BOB: u8 = 1;
 pub const MINER: u8 = 2;
+pub const CAROL: u8 = 3;
 
 /// The destination of a contract transaction: "0 Alice, 1 Bob, 2 contract".
 pub const CONTRACT: u8 = 2;

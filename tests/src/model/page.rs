@@ -3,7 +3,7 @@
 use super::calls;
 use super::heights::NEVER;
 use super::report::ROW;
-use super::{ALICE, BOB, CONTRACT};
+use super::{ALICE, BOB, CAROL, CONTRACT};
 
 /// "lines of exactly 72 characters and a line feed".
 pub const LINE: usize = 73;
@@ -17,12 +17,13 @@ fn line(texts: [&str; 6]) -> String {
     format!("{columns:<72}\n")
 }
 
-/// "payee ... as Alice, Bob, contract or a dash".
+/// "payee ... as Alice, Bob, contract or a dash"; Slip 10: "on the page she is Carol".
 fn payee(destination: u8) -> &'static str {
     match destination {
         ALICE => "Alice",
         BOB => "Bob",
         CONTRACT => "contract",
+        CAROL => "Carol",
         _ => "-",
     }
 }

@@ -25,8 +25,8 @@ pub struct Position {
     pub shared: BTreeMap<(u8, u8), u8>,
     /// The blocks mined.
     pub mined: u32,
-    /// The masks of keys held by Alice and Bob.
-    pub held: [u8; 2],
+    /// The masks of keys held, by party number; the miner, number 2, holds none.
+    pub held: [u8; 4],
     /// The shares made: party, transaction, destination.
     pub shares: BTreeSet<(u8, u8, u8)>,
 }
@@ -57,7 +57,7 @@ impl Position {
         self.confirmed.contains_key(&t)
     }
 
-    /// Whether a party, 0 Alice or 1 Bob, holds the key of this number.
+    /// Whether a party, by its number, holds the key of this number.
     pub fn holds(&self, party: u8, signature: u8) -> bool {
         contains(self.held[usize::from(party)], signature)
     }

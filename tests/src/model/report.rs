@@ -6,6 +6,7 @@ use super::journal::Course;
 use super::position::Position;
 use super::setup::Setup;
 use super::sheet::Sheet;
+use super::CONTRACT;
 use std::collections::BTreeMap;
 
 /// "Report writes 14 bytes for each transaction."
@@ -16,7 +17,7 @@ pub const ROW: usize = OLDER_ROW + 4;
 pub const UNCONFIRMED: u8 = 255;
 
 /// For each coin, named by its opening, the destination that holds it: 0 Alice,
-/// 1 Bob, 2 contract, or nobody.
+/// 1 Bob, 2 contract, 3 Carol, or nobody.
 pub type Holders = BTreeMap<u8, Option<u8>>;
 
 /// "status (1 pool, 2 block, 4 confirmed, 8 dead, summed)".
@@ -99,5 +100,5 @@ pub fn holders_from_report(sheet: &Sheet, report: &[u8]) -> Holders {
 /// "A payout is a coin whose holder is a party": the coin and the party.
 pub fn payouts(holders: &Holders) -> BTreeMap<u8, u8> {
     let held = holders.iter().filter_map(|(&coin, &h)| Some((coin, h?)));
-    held.filter(|&(_, holder)| holder < 2).collect()
+    held.filter(|&(_, holder)| holder != CONTRACT).collect()
 }

@@ -1,7 +1,7 @@
-//! The setup: blocks per day, conduct, stealth; checks 9 and 10.
+//! The setup: blocks per day, conduct, stealth; checks 9, 32 and 10.
 
 use super::faults::Faults;
-use super::sheet;
+use super::sheet::{self, Head};
 use super::slips::Slips;
 
 /// "conduct (0 open, 1 loose, 2 careful)".
@@ -12,7 +12,7 @@ pub enum Conduct {
     Careful,
 }
 
-/// A setup that passed checks 9 and 10.
+/// A setup that passed checks 9, 32 and 10.
 #[derive(Clone, Copy, Debug, PartialEq, Eq)]
 pub struct Setup {
     pub blocks_per_day: u32,
@@ -35,6 +35,11 @@ fn length_or_blocks_wrong(bytes: &[u8]) -> bool {
     bytes.len() != 4 || !(1..=1000).contains(&blocks_per_day(bytes))
 }
 
+/// 32: "when a three-party sheet comes with conduct 1 or 2; tested before 10".
+fn conduct_of_three(sheet_bytes: &[u8], bytes: &[u8]) -> bool {
+    Head::of(sheet_bytes).parties.len() == 3 && (bytes[2] == 1 || bytes[2] == 2)
+}
+
 /// 10: "conduct or stealth, or sheet unfit for it".
 fn conduct_or_stealth_wrong(sheet_bytes: &[u8], bytes: &[u8]) -> bool {
     bytes[2] > 2 || bytes[3] > 1 || unfit(sheet_bytes, bytes)
@@ -50,6 +55,8 @@ fn unfit(sheet_bytes: &[u8], bytes: &[u8]) -> bool {
 pub fn check(sheet_bytes: &[u8], bytes: &[u8]) -> u32 {
     if length_or_blocks_wrong(bytes) {
         9
+    } else if conduct_of_three(sheet_bytes, bytes) {
+        32
     } else if conduct_or_stealth_wrong(sheet_bytes, bytes) {
         10
     } else {

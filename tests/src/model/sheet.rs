@@ -1,6 +1,8 @@
-//! The sheet: its fields, the checks 1 to 8, and the SASwap sheet.
+//! The sheet: its head, its fields, the checks 1 to 8, and the SASwap sheet.
 
 use super::heights;
+use super::slips::Slips;
+use super::{ALICE, BOB, CAROL};
 use std::collections::BTreeSet;
 
 /// "n transactions (1 to 32)".
@@ -9,8 +11,67 @@ pub const MOST_TRANSACTIONS: u8 = 32;
 pub const MOST_SIGNATURES: u8 = 8;
 /// "255 for a coin's opening".
 pub const OPENING: u8 = 255;
-/// Byte 0 to byte 4.
-const HEAD: usize = 5;
+/// "A first byte of 128 or more is 128 + n and announces a sheet with a third
+/// start mask".
+pub const THREE: u8 = 128;
+
+/// What the first byte of a sheet announces.
+#[derive(Clone, Copy, Debug, PartialEq, Eq)]
+pub struct Head {
+    /// n, the number of transactions.
+    pub count: u8,
+    /// The parties by number, in the order of their start masks.
+    pub parties: &'static [u8],
+}
+
+impl Head {
+    /// The head of any bytes; an empty sheet announces nothing.
+    pub fn of(bytes: &[u8]) -> Head {
+        Head::by(Slips::ALL, bytes)
+    }
+
+    /// The same by these slips.
+    fn by(slips: Slips, bytes: &[u8]) -> Head {
+        let first = bytes.first().copied().unwrap_or(0);
+        match slips.three_parties && first >= THREE {
+            true => Head {
+                count: first - THREE,
+                parties: &[ALICE, BOB, CAROL],
+            },
+            false => Head {
+                count: first,
+                parties: &[ALICE, BOB],
+            },
+        }
+    }
+
+    /// The bytes before the two arrays: both sizes, the mask of the secrets and a
+    /// start mask for each party. "Byte 0 n transactions .., bytes 3 and 4 the masks
+    /// held at the start by Alice and Bob"; Slip 10: "a third start mask after Bob's".
+    pub fn bytes(&self) -> usize {
+        3 + self.parties.len()
+    }
+
+    /// "Length is exactly 5 + 6n."; Slip 10: "so its length is 6 + 6n".
+    pub fn length(&self) -> usize {
+        self.bytes() + 6 * usize::from(self.count)
+    }
+
+    /// The payees byte that names every party: 3, and 7 with Carol.
+    pub fn everybody(&self) -> u8 {
+        self.parties.iter().map(|&party| payee_bit(party)).sum()
+    }
+}
+
+/// "payees (1 Alice, 2 Bob, ..)"; Slip 10: "Carol is .. payee bit 4". Others have none.
+pub fn payee_bit(party: u8) -> u8 {
+    match party {
+        ALICE => 1,
+        BOB => 2,
+        CAROL => 4,
+        _ => 0,
+    }
+}
 
 /// "lock type (0 none, 1 absolute, 2 since the parent) and days".
 #[derive(Clone, Copy, Debug, PartialEq, Eq)]
@@ -25,7 +86,7 @@ pub enum Lock {
 pub struct Transaction {
     /// None for a coin's opening.
     pub parent: Option<u8>,
-    /// "1 Alice, 2 Bob, 3 either, 0 a contract transaction".
+    /// "1 Alice, 2 Bob, 3 either, 0 a contract transaction"; 4 Carol, summed.
     pub payees: u8,
     /// "mask of required signatures".
     pub needs: u8,
@@ -37,12 +98,14 @@ pub struct Transaction {
 /// A sheet that passed checks 1 to 8, with the sets that follow from it.
 #[derive(Clone, Debug, PartialEq, Eq)]
 pub struct Sheet {
+    /// The parties by number, in list order.
+    pub parties: &'static [u8],
     /// s, the number of signatures.
     pub signatures: u8,
     /// The mask of the signatures that are secrets.
     pub secrets: u8,
-    /// The masks held at the start by Alice and Bob.
-    pub held: [u8; 2],
+    /// The masks held at the start, by party number; the miner, number 2, has none.
+    pub held: [u8; 4],
     pub transactions: Vec<Transaction>,
     /// For each transaction, the transactions of its parent.
     pub rivals: Vec<BTreeSet<u8>>,
@@ -79,12 +142,22 @@ impl Sheet {
         self.transaction(number).payees == 0
     }
 
-    /// Whether a party, 0 Alice or 1 Bob, is among the payees.
+    /// Whether a party, by its number, is among the payees.
     pub fn is_payee(&self, number: u8, party: u8) -> bool {
-        matches!(
-            (self.transaction(number).payees, party),
-            (1, 0) | (2, 1) | (3, 0) | (3, 1)
-        )
+        self.transaction(number).payees & payee_bit(party) != 0
+    }
+
+    /// The payees of a transaction, by number; none of a contract transaction.
+    pub fn payees(&self, number: u8) -> Vec<u8> {
+        let parties = self.parties.iter().copied();
+        parties
+            .filter(|&party| self.is_payee(number, party))
+            .collect()
+    }
+
+    /// Whether a number is one of the parties.
+    pub fn is_party(&self, number: u8) -> bool {
+        self.parties.contains(&number)
     }
 
     /// The openings, one for each coin.
@@ -114,9 +187,9 @@ struct Row {
 }
 
 /// The rows of a sheet that passed checks 1 to 4.
-fn rows(bytes: &[u8]) -> impl Iterator<Item = (u8, Row)> + '_ {
-    let n = usize::from(bytes[0]);
-    let (first, second) = bytes[HEAD..].split_at(4 * n);
+fn rows(head: Head, bytes: &[u8]) -> impl Iterator<Item = (u8, Row)> + '_ {
+    let n = usize::from(head.count);
+    let (first, second) = bytes[head.bytes()..].split_at(4 * n);
     let pairs = first.chunks_exact(4).zip(second.chunks_exact(2));
     pairs.enumerate().map(|(t, (a, b))| {
         let row = Row {
@@ -136,42 +209,45 @@ fn beyond(mask: u8, s: u8) -> bool {
     (s..8).any(|number| mask >> number & 1 == 1)
 }
 
-/// 1: "sheet under 5 bytes".
-fn head_missing(bytes: &[u8]) -> bool {
-    bytes.len() < HEAD
+/// 1: "sheet under 5 bytes"; Slip 10: "1 then means under 6 bytes".
+fn head_missing(head: Head, bytes: &[u8]) -> bool {
+    bytes.len() < head.bytes()
 }
 
 /// 2: "n outside 1 to 32".
-fn count_out_of_range(bytes: &[u8]) -> bool {
-    !(1..=MOST_TRANSACTIONS).contains(&bytes[0])
+fn count_out_of_range(head: Head, _: &[u8]) -> bool {
+    !(1..=MOST_TRANSACTIONS).contains(&head.count)
 }
 
 /// 3: "s outside 1 to 8, or a head mask beyond s".
-fn head_out_of_range(bytes: &[u8]) -> bool {
+fn head_out_of_range(head: Head, bytes: &[u8]) -> bool {
     let s = bytes[1];
-    !(1..=MOST_SIGNATURES).contains(&s) || bytes[2..HEAD].iter().any(|&mask| beyond(mask, s))
+    let masks = &bytes[2..head.bytes()];
+    !(1..=MOST_SIGNATURES).contains(&s) || masks.iter().any(|&mask| beyond(mask, s))
 }
 
-/// 4: "length not 5 + 6n".
-fn length_wrong(bytes: &[u8]) -> bool {
-    bytes.len() != HEAD + 6 * usize::from(bytes[0])
+/// 4: "length not 5 + 6n"; Slip 10: "6 + 6n".
+fn length_wrong(head: Head, bytes: &[u8]) -> bool {
+    bytes.len() != head.length()
 }
 
 /// 5: "parent neither 255 nor lower".
-fn parent_wrong(bytes: &[u8]) -> bool {
-    rows(bytes).any(|(t, row)| row.parent != OPENING && row.parent >= t)
+fn parent_wrong(head: Head, bytes: &[u8]) -> bool {
+    rows(head, bytes).any(|(t, row)| row.parent != OPENING && row.parent >= t)
 }
 
 /// 6: "payees, needs (zero too) or veil out of range".
-fn fields_out_of_range(bytes: &[u8]) -> bool {
+fn fields_out_of_range(head: Head, bytes: &[u8]) -> bool {
     let s = bytes[1];
-    rows(bytes)
-        .any(|(_, row)| row.payees > 3 || row.needs == 0 || beyond(row.needs, s) || row.veil > 1)
+    let out_of_range = |row: &Row| {
+        row.payees > head.everybody() || row.needs == 0 || beyond(row.needs, s) || row.veil > 1
+    };
+    rows(head, bytes).any(|(_, row)| out_of_range(&row))
 }
 
 /// 7: "lock pair out of range, or type 2 without parent".
-fn lock_wrong(bytes: &[u8]) -> bool {
-    rows(bytes).any(|(_, row)| match row.lock_type {
+fn lock_wrong(head: Head, bytes: &[u8]) -> bool {
+    rows(head, bytes).any(|(_, row)| match row.lock_type {
         0 => row.days != 0,
         1 => row.days == 0,
         2 => row.days == 0 || row.parent == OPENING,
@@ -180,13 +256,13 @@ fn lock_wrong(bytes: &[u8]) -> bool {
 }
 
 /// 8: "payees 0 without child, or payees with child".
-fn payees_wrong(bytes: &[u8]) -> bool {
-    let parents: BTreeSet<u8> = rows(bytes).map(|(_, row)| row.parent).collect();
-    rows(bytes).any(|(t, row)| (row.payees == 0) != parents.contains(&t))
+fn payees_wrong(head: Head, bytes: &[u8]) -> bool {
+    let parents: BTreeSet<u8> = rows(head, bytes).map(|(_, row)| row.parent).collect();
+    rows(head, bytes).any(|(t, row)| (row.payees == 0) != parents.contains(&t))
 }
 
 /// The number of a check and whether bytes that passed the earlier ones fail it.
-type Check = (u32, fn(&[u8]) -> bool);
+type Check = (u32, fn(Head, &[u8]) -> bool);
 
 /// "Checks go by rising number": each over the whole sheet before the next.
 const CHECKS: [Check; 8] = [
@@ -202,30 +278,46 @@ const CHECKS: [Check; 8] = [
 
 /// The number of the first check that the sheet fails, 0 if none.
 pub fn check(bytes: &[u8]) -> u32 {
+    check_by(Slips::ALL, bytes)
+}
+
+/// The same by these slips.
+pub fn check_by(slips: Slips, bytes: &[u8]) -> u32 {
+    let head = Head::by(slips, bytes);
     CHECKS
         .iter()
-        .find(|(_, fails)| fails(bytes))
+        .find(|(_, fails)| fails(head, bytes))
         .map_or(0, |(number, _)| *number)
 }
 
 /// The sheet that the bytes stand for, or the number of the check they fail.
 pub fn read(bytes: &[u8]) -> Result<Sheet, u32> {
-    match check(bytes) {
-        0 => Ok(fields(bytes)),
+    read_by(Slips::ALL, bytes)
+}
+
+/// The same by these slips.
+pub fn read_by(slips: Slips, bytes: &[u8]) -> Result<Sheet, u32> {
+    match check_by(slips, bytes) {
+        0 => Ok(fields(Head::by(slips, bytes), bytes)),
         number => Err(number),
     }
 }
 
-fn fields(bytes: &[u8]) -> Sheet {
-    let transactions: Vec<Transaction> = rows(bytes).map(|(_, row)| transaction(&row)).collect();
-    let numbers = 0..bytes[0];
+fn fields(head: Head, bytes: &[u8]) -> Sheet {
+    let rows = rows(head, bytes);
+    let transactions: Vec<Transaction> = rows.map(|(_, row)| transaction(&row)).collect();
     let each = |of: fn(&[Transaction], u8) -> BTreeSet<u8>| -> Vec<BTreeSet<u8>> {
-        numbers.clone().map(|t| of(&transactions, t)).collect()
+        (0..head.count).map(|t| of(&transactions, t)).collect()
     };
+    let mut held = [0; 4];
+    for (&party, &mask) in head.parties.iter().zip(&bytes[3..]) {
+        held[usize::from(party)] = mask;
+    }
     Sheet {
+        parties: head.parties,
         signatures: bytes[1],
         secrets: bytes[2],
-        held: [bytes[3], bytes[4]],
+        held,
         rivals: each(heights::rivals),
         lines: each(heights::line),
         children: each(heights::children),

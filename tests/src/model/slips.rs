@@ -15,6 +15,9 @@ pub struct Slips {
     /// Slip 9: "Each transaction's bytes in the report gain this count at their
     /// end"; before it a row had 14 bytes.
     pub first_open_in_report: bool,
+    /// Slip 10: "Three-way swaps."; before it the first byte of a sheet is n, and
+    /// the parties are Alice and Bob.
+    pub three_parties: bool,
 }
 
 impl Slips {
@@ -23,5 +26,6 @@ impl Slips {
         lock_before_signature: true,
         alice_sends_in_phase_2: true,
         first_open_in_report: true,
+        three_parties: true,
     };
 }

@@ -82,20 +82,24 @@ pub fn decode(sheet: &Sheet, setup: &Setup, bytes: &[u8; 4]) -> Result<Step, u32
         transaction: bytes[2],
         destination: bytes[3],
     };
-    let in_range = party_in_range(&step)
+    let in_range = party_in_range(sheet, setup.slips, &step)
         && transaction_in_range(sheet, setup, &step)
-        && destination_in_range(sheet, &step);
+        && destination_in_range(sheet, setup.slips, &step);
     match in_range {
         true => Ok(step),
         false => Err(11),
     }
 }
 
-/// "Kinds 1 to 4 have party 0 or 1; kinds 5, 6, 7 have party 2."
-fn party_in_range(step: &Step) -> bool {
+/// "Kinds 1 to 4 have party 0 or 1; kinds 5, 6, 7 have party 2." Slip 10: "Carol is
+/// party 3" on a sheet of three.
+fn party_in_range(sheet: &Sheet, slips: Slips, step: &Step) -> bool {
     match step.kind {
         Kind::Share | Kind::Give | Kind::SendToPool | Kind::HandToMiner => {
-            step.party == ALICE || step.party == BOB
+            match slips.three_parties {
+                true => sheet.is_party(step.party),
+                false => step.party == ALICE || step.party == BOB,
+            }
         }
         Kind::Include | Kind::Mine | Kind::Bump => step.party == MINER,
     }
@@ -116,13 +120,17 @@ fn transaction_in_range(sheet: &Sheet, setup: &Setup, step: &Step) -> bool {
 
 /// "A step whose destination breaks a rule above, or isn't 2 beside 255, gets
 /// 11."
-fn destination_in_range(sheet: &Sheet, step: &Step) -> bool {
+fn destination_in_range(sheet: &Sheet, slips: Slips, step: &Step) -> bool {
     let (t, destination) = (step.transaction, step.destination);
     match step.kind {
         Kind::Share if t == ALL => destination == CONTRACT,
         // "A paying one names one of its payees."
         Kind::Share if !sheet.is_contract(t) => sheet.is_payee(t, destination),
-        // "receiver (the destination, the other party)".
+        // "receiver (the destination, the other party)"; Slip 10: "A key may be
+        // given to either other party."
+        Kind::Give if slips.three_parties => {
+            sheet.is_party(destination) && destination != step.party
+        }
         Kind::Give => destination == other(step.party),
         // "paying ones only to the sender, who must be a payee".
         Kind::SendToPool | Kind::HandToMiner if !sheet.is_contract(t) => {
@@ -133,7 +141,7 @@ fn destination_in_range(sheet: &Sheet, step: &Step) -> bool {
     }
 }
 
-/// The other of Alice and Bob.
+/// Document 01: the other of Alice and Bob.
 pub fn other(party: u8) -> u8 {
     match party {
         ALICE => BOB,

@@ -1,7 +1,7 @@
 //! Random damage: any bytes changed, or one rule of a sheet broken.
 
 use super::Random;
-use crate::model::sheet::{MOST_SIGNATURES, OPENING};
+use crate::model::sheet::{Head, MOST_SIGNATURES, OPENING, THREE};
 
 /// Changes so many bytes, each to another value; an empty string stays.
 pub fn damage_bytes(random: &mut Random, bytes: &mut [u8], times: usize) {
@@ -48,17 +48,25 @@ pub fn damage(random: &mut Random, bytes: &mut Vec<u8>) {
 /// Breaks a valid sheet so that it fails the check of this number, 1 to 8. As a
 /// byte, 256 is 0.
 pub fn break_sheet(random: &mut Random, bytes: &mut Vec<u8>, number: u32) {
-    let s = bytes[1];
+    let (s, head) = (bytes[1], Head::of(bytes).bytes());
     match number {
-        1 => bytes.truncate(random.below(5)),
-        2 => bytes[0] = random.between(33, 256) as u8,
+        1 => bytes.truncate(random.below(head)),
+        2 => bytes[0] = no_count(random.between(33, 256) as u8),
         3 if s < MOST_SIGNATURES && random.percent(60) => {
-            bytes[random.between(2, 4)] |= beyond(random, s);
+            bytes[random.between(2, head - 1)] |= beyond(random, s);
         }
         3 => bytes[1] = random.between(9, 256) as u8,
-        4 if random.percent(50) => bytes.truncate(random.between(5, bytes.len() - 1)),
+        4 if random.percent(50) => bytes.truncate(random.between(head, bytes.len() - 1)),
         4 => extend(random, bytes),
         _ => break_row(random, bytes, number),
+    }
+}
+
+/// A first byte with which n is out of range, whatever it announces.
+fn no_count(first: u8) -> u8 {
+    match first.checked_sub(THREE) {
+        Some(1..=32) => first - 32,
+        _ => first,
     }
 }
 
@@ -69,13 +77,15 @@ fn beyond(random: &mut Random, s: u8) -> u8 {
 
 /// The same for one transaction of the sheet, checks 5 to 8.
 fn break_row(random: &mut Random, bytes: &mut [u8], number: u32) {
-    let (n, s) = (usize::from(bytes[0]), bytes[1]);
+    let Head { count, parties } = Head::of(bytes);
+    let (n, s) = (usize::from(count), bytes[1]);
     let t = random.below(n);
-    let (head, lock) = (5 + 4 * t, 5 + 4 * n + 2 * t);
+    let start = 3 + parties.len();
+    let (head, lock) = (start + 4 * t, start + 4 * n + 2 * t);
     let opening = bytes[head] == OPENING;
     match (number, random.below(4)) {
         (5, _) => bytes[head] = random.between(t, 254) as u8,
-        (6, 0) => bytes[head + 1] = random.between(4, 255) as u8,
+        (6, 0) => bytes[head + 1] = random.between(1 << parties.len(), 255) as u8,
         (6, 1) => bytes[head + 3] = random.between(2, 255) as u8,
         (6, 2) if s < MOST_SIGNATURES => bytes[head + 2] |= beyond(random, s),
         (6, _) => bytes[head + 2] = 0,

@@ -62,7 +62,7 @@ pub fn by_refusal(
     position: &Position,
 ) -> BTreeMap<u32, Vec<[u8; 4]>> {
     let mut found: BTreeMap<u32, Vec<[u8; 4]>> = BTreeMap::new();
-    for bytes in (0..=2).flat_map(|party| open::candidates(sheet, party)) {
+    for bytes in open::all_candidates(sheet) {
         let number = step::refusal(sheet, setup, position, &bytes);
         found.entry(number).or_default().push(bytes);
     }
@@ -90,12 +90,10 @@ pub fn near_step(random: &mut Random, sheet: &Sheet) -> [u8; 4] {
         false => random.below(usize::from(sheet.count()) + 1) as u8,
     };
     let kind = random.below(9) as u8;
-    [
-        kind,
-        random.below(4) as u8,
-        transaction,
-        random.below(4) as u8,
-    ]
+    // the numbers of the parties, of the miner or the contract, and one more
+    let numbers = sheet.parties.len() + 2;
+    let party = random.below(numbers) as u8;
+    [kind, party, transaction, random.below(numbers) as u8]
 }
 
 /// Four bytes that are mostly no open step.

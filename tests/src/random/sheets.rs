@@ -1,7 +1,7 @@
 //! Random sheets and setups that are valid.
 
 use super::Random;
-use crate::model::sheet::{self, MOST_SIGNATURES, MOST_TRANSACTIONS, OPENING};
+use crate::model::sheet::{self, MOST_SIGNATURES, MOST_TRANSACTIONS, OPENING, THREE};
 
 /// How the parents of a sheet are chosen.
 #[derive(Clone, Copy, Debug, PartialEq, Eq)]
@@ -18,30 +18,60 @@ pub enum Shape {
 
 pub const SHAPES: [Shape; 4] = [Shape::Any, Shape::Deep, Shape::Wide, Shape::Coins];
 
-/// A valid sheet of any size.
-pub fn sheet(random: &mut Random) -> Vec<u8> {
+/// Sizes of any sort: transactions, signatures and the shape.
+fn sizes(random: &mut Random) -> (u8, u8, Shape) {
     let n = random.between(1, usize::from(MOST_TRANSACTIONS)) as u8;
     let s = random.between(1, usize::from(MOST_SIGNATURES)) as u8;
-    let shape = random.pick(&SHAPES);
+    (n, s, random.pick(&SHAPES))
+}
+
+/// A valid sheet of two, of any size.
+pub fn sheet(random: &mut Random) -> Vec<u8> {
+    let (n, s, shape) = sizes(random);
     sheet_of(random, n, s, shape)
 }
 
-/// A valid sheet of n transactions and s signatures.
+/// A valid sheet of three, of any size.
+pub fn ring(random: &mut Random) -> Vec<u8> {
+    let (n, s, shape) = sizes(random);
+    ring_of(random, n, s, shape)
+}
+
+/// A valid sheet of two, of n transactions and s signatures.
 pub fn sheet_of(random: &mut Random, n: u8, s: u8, shape: Shape) -> Vec<u8> {
-    let all = (1u16 << s).wrapping_sub(1) as u8;
-    let alice = random.byte() & all;
-    // Mostly somebody holds each signature.
-    let bob = match random.percent(80) {
-        true => (all & !alice) | (random.byte() & random.byte() & all),
+    bytes_of(random, 2, n, s, shape)
+}
+
+/// A valid sheet of three, likewise.
+pub fn ring_of(random: &mut Random, n: u8, s: u8, shape: Shape) -> Vec<u8> {
+    let mut bytes = bytes_of(random, 3, n, s, shape);
+    bytes[0] += THREE;
+    bytes
+}
+
+/// The start masks of so many parties: any, and mostly somebody holds each signature.
+fn held(random: &mut Random, parties: usize, all: u8) -> Vec<u8> {
+    let mut masks: Vec<u8> = (1..parties).map(|_| random.byte() & all).collect();
+    let others = masks.iter().fold(0, |masks, mask| masks | mask);
+    masks.push(match random.percent(80) {
+        true => (all & !others) | (random.byte() & random.byte() & all),
         false => random.byte() & all,
-    };
+    });
+    masks
+}
+
+/// Head and rows of a valid sheet of so many parties, with n as the first byte.
+fn bytes_of(random: &mut Random, parties: usize, n: u8, s: u8, shape: Shape) -> Vec<u8> {
+    let all = (1u16 << s).wrapping_sub(1) as u8;
+    let held = held(random, parties, all);
     let secrets = random.byte() & random.byte() & all;
     let parents: Vec<u8> = (0..n).map(|t| parent(random, t, shape)).collect();
-    let mut bytes = vec![n, s, secrets, alice, bob];
+    let mut bytes = vec![n, s, secrets];
+    bytes.extend(held);
     for t in 0..n {
         let payees = match parents.contains(&t) {
             true => 0,
-            false => random.between(1, 3) as u8,
+            false => random.between(1, (1 << parties) - 1) as u8,
         };
         let veil = u8::from(random.percent(20));
         let needs = needs(random, s, all);
@@ -108,6 +138,13 @@ pub fn setup_of(random: &mut Random, blocks_per_day: u16, conduct: u8) -> Vec<u8
 /// A valid random sheet with a setup of open conduct.
 pub fn any_game(random: &mut Random) -> (Vec<u8>, Vec<u8>) {
     let sheet = sheet(random);
+    let blocks = blocks_per_day(random);
+    (sheet, setup_of(random, blocks, 0))
+}
+
+/// The same of three parties.
+pub fn ring_game(random: &mut Random) -> (Vec<u8>, Vec<u8>) {
+    let sheet = ring(random);
     let blocks = blocks_per_day(random);
     (sheet, setup_of(random, blocks, 0))
 }

@@ -10,7 +10,7 @@ use Rattle.queries.specs.declared.OpenSets.{OpenSets}
 unfoldable pub twoBytes : OpenSets → ℕ → OpenSets → ℕ → List ℕ
 twoBytes x a y b = actorBytes (x .below) (x .last) a ++ actorBytes (y .below) (y .last) b
 
--- "List writes Alice's steps first, then Bob's in the part that follows, then the miner's"; a third party stands before the miner
+-- "List writes Alice's steps first, then Bob's in the part that follows, then the miner's"; document 02, Slip 10: "Carol stands after Bob and before the miner"
 unfoldable pub setsBytes : OpenSets → OpenSets → OpenSets → OpenSets → List ℕ
 setsBytes a b c m = twoBytes a alice b bob ++ twoBytes c carol m miner
 

@@ -10,7 +10,7 @@ pub record Wide (v r : ℕ) : Type 0 where
   pub is : r ≡ v
   pub small : r < 256
 
--- r is v, a number of parties
+-- r is v, which is two or three
 pub record Few (v r : ℕ) : Type 0 where
   pub is : r ≡ v
   pub some : 2 ≤ r

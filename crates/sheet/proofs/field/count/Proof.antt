@@ -1,4 +1,4 @@
--- The count is byte 0.
+-- The count is byte 0, without the mark of a third party.
 use Rattle.sheet.specs.Field.{count}
 use borrow.Author.Needs.{needs}
 use Rattle.sheet.proofs.field.count.Statement.{statement}

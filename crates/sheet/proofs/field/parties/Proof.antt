@@ -1,13 +1,20 @@
--- Two on every sheet.
-use mathlib.Core.Path.{refl}
+-- By the first byte.
+use Rattle.laws.specs.Booleans.{tests}
 use Rattle.sheet.specs.Field.{parties}
 use borrow.Author.Needs.{needs}
 use Rattle.sheet.proofs.field.parties.Statement.{statement}
 use Rattle.sheet.proofs.field.parties.Tie as tie
 
+shared-slice-read-if1 : tie.Need-shared-slice-read-if1
+shared-slice-read-if1 c = search needs
+
 returns : tie.Need-returns
 unfolding parties
-returns c = record { is = refl; some = search needs; few = search needs }
+returns c = record { is = simp (tests, c .if1 .taken); some = search needs; few = search needs }
+
+returns-2 : tie.Need-returns-2
+unfolding parties
+returns-2 c = record { is = simp (tests, c .if1 .left); some = search needs; few = search needs }
 
 pub parties-spec : {M : Type 1} → statement M
-parties-spec = tie.close (tie.spec returns)
+parties-spec = tie.close (tie.spec shared-slice-read-if1 returns returns-2)

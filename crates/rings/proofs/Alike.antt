@@ -1,0 +1,15 @@
+-- Two sheets with the same transactions and the same parties but Carol.
+-- Assumes nothing.
+use Prim.Native.Nat.{ℕ}
+use mathlib.Core.Path.{_≡_}
+use mathlib.Core.Bool.{false}
+use mathlib.Core.List.{List}
+use lib.Dec.{eqb}
+use Rattle.sheet.specs.Field.{isParty, entry}
+use Rattle.slots.specs.Destination.{carol}
+use Rattle.rings.specs.Renaming.{SameTransactions}
+
+pub record Alike (s w : List ℕ) : Type 0 where
+  pub transactions : SameTransactions s w
+  pub entries : entry w ≡ entry s
+  pub parties-same : (a : ℕ) → eqb a carol ≡ false → isParty w a ≡ isParty s a
