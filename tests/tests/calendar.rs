@@ -147,14 +147,20 @@ fn stored_outputs() {
     assert!(compared >= 35);
 }
 
-/// The README's examples are stored outputs.
+/// The examples of the README and of the calendar's page are stored outputs.
 #[test]
-fn examples_of_the_readme() {
-    let readme = fs::read_to_string(top().join("README.md")).expect("the README");
-    for name in ["default", "standing", "ring"] {
+fn examples_of_the_documents() {
+    let examples = [
+        ("README.md", "default"),
+        ("docs/CALENDAR.md", "default"),
+        ("docs/CALENDAR.md", "standing"),
+        ("docs/CALENDAR.md", "ring"),
+    ];
+    for (document, name) in examples {
+        let text = fs::read_to_string(top().join(document)).expect("a document");
         let path = example().join(format!("expected/{name}.txt"));
         let stored = fs::read_to_string(path).expect("an expected output");
-        assert!(readme.contains(&stored), "{name}");
+        assert!(text.contains(&stored), "{document}: {name}");
     }
 }
 
