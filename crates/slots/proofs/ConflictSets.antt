@@ -2,15 +2,18 @@
 -- Assumes nothing.
 use Prim.Native.Nat.{ℕ, _≤_, _<_}
 use native.Mathlib.Omega.{arith}
-use mathlib.Core.Path.{_≡_, ap, _∙_}
-use mathlib.Core.Bool.{Bool, not, _&&_, and-comm}
+use mathlib.Core.Path.{_≡_, refl, ap, _∙_}
+use mathlib.Core.Bool.{Bool, true, false, not, _&&_, and-comm}
 use mathlib.Core.List.{List}
 use lib.Dec.{eqb}
+use borrow.Author.Tests.{eqb-true}
+use Rattle.laws.specs.Booleans.{split}
 use Rattle.laws.specs.Below.{any-same}
 use Rattle.laws.specs.Mask.{bit}
 use Rattle.laws.specs.Sets.{removed, bit-removed}
 use Rattle.sheet.specs.Field.{count}
 use Rattle.slots.specs.Conflict.{conflict, conflictIn, otherConflictIn}
+use Rattle.slots.specs.Forms.Conflict.{foundIn}
 
 -- two sets with the same members
 pub conflictIn-same : (s : List ℕ) (a b : ℕ → Bool) (t : ℕ) → ((k : ℕ) → k < count s → a k ≡ b k) → conflictIn s a t ≡ conflictIn s b t
@@ -24,3 +27,11 @@ unfolding otherConflictIn
 conflictIn-removed s m t few l =
     conflictIn-same s (bit (removed m t)) (λ k. not (eqb k t) && bit m k) t
     (λ k h. bit-removed m t k (omega arith) (omega arith) ∙ and-comm (bit m k) (not (eqb k t)))
+
+-- one that is no member has another rival in the set where it has a rival there
+pub conflictIn-outside : (s : List ℕ) (member : ℕ → Bool) (others : Bool) (t : ℕ) → member t ≡ false → conflictIn s member t ≡ foundIn s member others t
+unfolding foundIn otherConflictIn
+conflictIn-outside s member true t out =
+    conflictIn-same s member (λ k. not (eqb k t) && member k) t
+    (λ k l. split (eqb k t) (λ y. rw (y, eqb-true k t y, out)) (λ y. rw y))
+conflictIn-outside s member false t out = refl

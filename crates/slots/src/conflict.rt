@@ -1,15 +1,16 @@
 // Conflicts (document 01: rivals), against a set of transactions.
 use crate::next;
-use crate::siblings;
+use sheet::parents;
 use sheet::set;
 ghost use Prim.Native.Nat.{_<_};
 ghost use mathlib.Core.Path.{_≡_};
+ghost use mathlib.Core.Bool.{false};
 ghost use Rattle.laws.specs.Mask.{bit};
 ghost use Rattle.laws.specs.Sets.{setBelow};
 ghost use Rattle.sheet.specs.Field.{count, Sized};
 ghost use Rattle.slots.specs.Conflict.{conflictIn, otherConflictIn};
 ghost use Rattle.slots.specs.Forms.Conflict.{foundIn};
-ghost use Rattle.sheet.specs.Forms.Parents.{isParentBelow};
+ghost use Rattle.sheet.specs.Forms.Parents.{isParentBelow, Parents};
 
 // Whether a child of `up` is in the set.
 fn child_in(sheet: &[u8], there: u32, up: usize) -> bool
@@ -48,32 +49,38 @@ fn other_conflict_in(sheet: &[u8], there: u32, t: usize) -> bool
     conflict_in(sheet, set::remove(there, t), t)
 }
 
-// One of the two above.
-fn found_in(sheet: &[u8], there: u32, others: bool, t: usize) -> bool
+// Whether a rival of t is in the set, t itself not being there, where `parents` are those of its members. An opening rivals only itself.
+fn conflict_by(sheet: &[u8], there: u32, parents: u32, t: usize) -> bool
     requires { ⌜ Sized (now sheet) ⌝ }
     requires { ⌜ t < count (now sheet) ⌝ }
-    ensures { λ r. ⌜ r ≡ foundIn (now (sheet .entry)) (bit there) others t ⌝ }
+    requires { ⌜ Parents (now sheet) (bit there) (count (now sheet)) parents ⌝ }
+    requires { ⌜ bit there t ≡ false ⌝ }
+    ensures { λ r. ⌜ r ≡ conflictIn (now (sheet .entry)) (bit there) t ⌝ }
 {
-    if others {
-        other_conflict_in(sheet, there, t)
-    } else {
-        conflict_in(sheet, there, t)
+    let up = sheet::field::parent(sheet, t);
+    if up < 32 {
+        return set::has(parents, up);
     }
+    if up == 255 {
+        return false;
+    }
+    conflict_in(sheet, there, t)
 }
 
-// The transactions that have a rival in the set, or with `others` a rival but themselves, each of them looked at.
-fn conflicts_among(sheet: &[u8], there: u32, others: bool) -> u32
+// Whether a rival of t, or with `others` a rival but t itself, is in the set, where `parents` are those of its members.
+fn found_by(sheet: &[u8], there: u32, parents: u32, others: bool, t: usize) -> bool
     requires { ⌜ Sized (now sheet) ⌝ }
-    ensures { λ r. ⌜ r ≡ setBelow (count (now (sheet .entry))) (foundIn (now (sheet .entry)) (bit there) others) ⌝ }
+    requires { ⌜ t < count (now sheet) ⌝ }
+    requires { ⌜ Parents (now sheet) (bit there) (count (now sheet)) parents ⌝ }
+    ensures { λ r. ⌜ r ≡ foundIn (now (sheet .entry)) (bit there) others t ⌝ }
 {
-    let n = sheet::field::count(sheet);
-    let mut found: u32 = 0;
-    let mut t: usize = 0;
-    while t < n {
-        found = set::join(found, found_in(sheet, there, others, t), t);
-        t += 1;
+    if !set::has(there, t) {
+        return conflict_by(sheet, there, parents, t);
     }
-    found
+    if others {
+        return other_conflict_in(sheet, there, t);
+    }
+    true
 }
 
 // The transactions that have a rival in the set, or with `others` a rival but themselves.
@@ -81,8 +88,13 @@ pub fn conflicts_of(sheet: &[u8], there: u32, others: bool) -> u32
     requires { ⌜ Sized (now sheet) ⌝ }
     ensures { λ r. ⌜ r ≡ setBelow (count (now (sheet .entry))) (foundIn (now (sheet .entry)) (bit there) others) ⌝ }
 {
-    if others {
-        return conflicts_among(sheet, there, others);
+    let parents = parents::parents_of(sheet, there);
+    let n = sheet::field::count(sheet);
+    let mut found: u32 = 0;
+    let mut t: usize = 0;
+    while t < n {
+        found = set::join(found, found_by(sheet, there, parents, others, t), t);
+        t += 1;
     }
-    siblings::conflicts_with(sheet, there)
+    found
 }

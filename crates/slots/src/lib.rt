@@ -9,7 +9,6 @@ pub mod deadline;
 pub mod lock_height;
 pub mod next;
 pub mod party;
-mod siblings;
 pub mod signatures;
 
 // "destination (0 Alice, 1 Bob, 2 contract)", and 3 Carol

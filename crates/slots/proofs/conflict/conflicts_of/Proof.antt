@@ -1,20 +1,59 @@
--- One by one, or by parents.
+-- The set of those below t.
+use Rattle.slots.specs.Forms.Conflict.{foundIn}
+use Rattle.laws.specs.Sets.{setBelow, set-start, set-more, set-done}
+use Rattle.laws.specs.Mask.{bit}
+use mathlib.Core.Path.{_≡_}
+use Prim.Native.Nat.{_≤_, _-_}
 use borrow.Author.Needs.{needs}
 use Rattle.slots.proofs.conflict.conflicts_of.Statement.{statement}
 use Rattle.slots.proofs.conflict.conflicts_of.Tie as tie
 
-conflicts-among-requires : tie.Need-conflicts-among-requires
-conflicts-among-requires c κs = search needs
+abbrev Inv-loop : tie.InvT-loop
+Inv-loop sheet there others parents n found₀ t₀ found t = (t ≤ n) × (found ≡ setBelow t (foundIn sheet (bit there) others))
 
-returns : tie.Need-returns
-returns c = search needs
+abbrev μ-loop : tie.MeasureT-loop
+μ-loop sheet there others parents n found₀ t₀ found t = n - t
 
-conflicts-with-requires : tie.Need-conflicts-with-requires
-conflicts-with-requires c κs = search needs
+parents-of-requires : tie.Need-parents-of-requires Inv-loop μ-loop
+parents-of-requires c κs = search needs
 
-returns-2 : tie.Need-returns-2
-returns-2 c = rw (c .before .if1 .left) (c .conflicts-with .ensures)
+count-requires : tie.Need-count-requires Inv-loop μ-loop
+count-requires c κs = search needs
+
+loop-holds : tie.Need-loop-holds Inv-loop μ-loop
+loop-holds c = (search needs, set-start _)
+
+found-by-requires : tie.Need-found-by-requires Inv-loop μ-loop
+found-by-requires c κs = search needs
+
+join-requires : tie.Need-join-requires Inv-loop μ-loop
+join-requires c κs = search needs
+
+add-t : tie.Need-add-t Inv-loop μ-loop
+add-t c = search needs
+
+loop-less : tie.Need-loop-less Inv-loop μ-loop
+loop-less c = search needs
+
+loop-again : tie.Need-loop-again Inv-loop μ-loop
+unfolding foundIn
+loop-again c = (search needs, set-more _ _ _ _ _ (c .before .before .before .loop .inv .1) (c .join .ensures) (c .before .found-by .ensures))
+
+returns : tie.Need-returns Inv-loop μ-loop
+returns c = rw (← (c .before .before .count .ensures .is)) (set-done _ _ _ _ (c .before .loop .inv .0) (c .loop-test .left) (c .before .loop .inv .1))
 
 pub conflicts-of-spec : {M : Type 1} → statement M
 conflicts-of-spec =
-    tie.close (tie.spec conflicts-among-requires returns conflicts-with-requires returns-2)
+    tie.close
+    (tie.spec
+    Inv-loop
+    μ-loop
+    parents-of-requires
+    count-requires
+    loop-holds
+    found-by-requires
+    join-requires
+    add-t
+    loop-less
+    loop-again
+    returns)

@@ -1,0 +1,35 @@
+-- A child of its parent, or for an opening none.
+use Rattle.slots.proofs.ByParents.{by-opening, answer-parent}
+use mathlib.Core.Path.{sym, _∙_}
+use borrow.Author.Needs.{needs}
+use Rattle.slots.proofs.conflict.conflict_by.Statement.{statement}
+use Rattle.slots.proofs.conflict.conflict_by.Tie as tie
+
+parent-requires : tie.Need-parent-requires
+parent-requires c κs = search needs
+
+has-requires : tie.Need-has-requires
+has-requires c κs = search needs
+
+returns : tie.Need-returns
+returns c = c .has .ensures ∙ answer-parent _ _ _ _ _ (c .before .before .before .before .pre .1 .1 .0) (c .before .before .parent .ensures .is) (c .before .if1 .taken)
+
+returns-2 : tie.Need-returns-2
+returns-2 c = by-opening _ _ _ (c .before .before .before .before .pre .1 .1 .1) (sym (c .before .before .parent .ensures .is) ∙ c .if2 .taken)
+
+conflict-in-requires : tie.Need-conflict-in-requires
+conflict-in-requires c κs = search needs
+
+returns-3 : tie.Need-returns-3
+returns-3 c = search needs
+
+pub conflict-by-spec : {M : Type 1} → statement M
+conflict-by-spec =
+    tie.close
+    (tie.spec
+    parent-requires
+    has-requires
+    returns
+    returns-2
+    conflict-in-requires
+    returns-3)
