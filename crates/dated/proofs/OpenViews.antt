@@ -30,31 +30,31 @@ use Rattle.dated.specs.Forms.Opens.{atHandIn, opensIn, firstOpenIn}
 use Rattle.dated.proofs.Conjunction.{second-fails, third-fails, fourth-fails, first-left}
 
 module _ (s u : List ℕ) (p : Position) (ok : Checked s) (t : ℕ) (l : t < count s) where
-  confirmed-bit : (k : ℕ) → k < count s → bit (viewBelow (count s) p .confirmed) k ≡ isConfirmed p k
+  confirmed-bit : (k : ℕ) → k < count s → bit (viewBelow s (count s) p .confirmed) k ≡ isConfirmed p k
   unfolding viewBelow
   confirmed-bit k m = set-bit (count s) (isConfirmed p) (ok .sized .few) k m
 
-  at-hand-view : atHandIn s (viewBelow (count s) p) (slot p t) t ≡ atHand s p t
+  at-hand-view : atHandIn s (viewBelow s (count s) p) (slot p t) t ≡ atHand s p t
   unfolding atHandIn atHand senderIn viewBelow keysIn senderHas keys sharedSecrets shared
   at-hand-view = refl
 
-  mined-view : viewBelow (count s) p .mined ≡ p .mined
+  mined-view : viewBelow s (count s) p .mined ≡ p .mined
   unfolding viewBelow
   mined-view = refl
 
-  opens-view : opensIn s (perDay u) (viewBelow (count s) p) (slot p t) (blockOf p (parent s t)) t ≡ opens s u p t
+  opens-view : opensIn s (perDay u) (viewBelow s (count s) p) (slot p t) (blockOf p (parent s t)) t ≡ opens s u p t
   unfolding opensIn opens
   opens-view =
       rw (
-        noConflict-set s (viewBelow (count s) p .confirmed) (isConfirmed p) confirmed-bit t,
-        hasParent-set s (viewBelow (count s) p .confirmed) (isConfirmed p) confirmed-bit t ok l,
+        noConflict-set s (viewBelow s (count s) p .confirmed) (isConfirmed p) confirmed-bit t,
+        hasParent-set s (viewBelow s (count s) p .confirmed) (isConfirmed p) confirmed-bit t ok l,
         lockHeight-parent s u p t,
         at-hand-view,
         mined-view,
       )
 
   -- where d, v, x and since are what the code found
-  pub first-open-view : (d : ℕ) (v : View) (x : Slot) (since c : ℕ) → length (p .slots) ≡ 32 → d ≡ perDay u → v ≡ viewBelow (count s) p
+  pub first-open-view : (d : ℕ) (v : View) (x : Slot) (since c : ℕ) → length (p .slots) ≡ 32 → d ≡ perDay u → v ≡ viewBelow s (count s) p
       → x ≡ slot p t → since ≡ sinceIn s p t → firstOpenIn s d v x since t c ≡ firstOpen s u p t c
   unfolding firstOpenIn firstOpen
   first-open-view d v x since c n ed ev ex ec = rw (ed, ev, ex, ec ∙ since-parent s p n t, opens-view, mined-view)

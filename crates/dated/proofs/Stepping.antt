@@ -49,8 +49,8 @@ module _ (s u : List ℕ) (d : Dated) (b : FourBytes) where
     taken-answer o z f = rw (taken-as o z f) (refl, refl)
 
     -- the view after an accepted one
-    pub seen-right : (v : View) → Fit s u → v ≡ viewBelow (count s) (d .position) → r .refusal ≡ 0
-        → seenAfter s v (r .position) (b .kind) (b .transaction) ≡ viewBelow (count s) (r .position)
+    pub seen-right : (v : View) → Fit s u → v ≡ viewBelow s (count s) (d .position) → r .refusal ≡ 0
+        → seenAfter s v (r .position) (b .kind) (b .transaction) ≡ viewBelow s (count s) (r .position)
     unfolding seenAfter
     seen-right v fit g z =
         split (changesMany v (b .kind) (b .transaction))

@@ -10,6 +10,7 @@ ghost use mathlib.Core.Path.{_≡_};
 ghost use lib.ListN.{length};
 ghost use Rattle.sheet.specs.Field.{count, Sized};
 ghost use Rattle.sheet.specs.Checked.{Fit};
+ghost use Rattle.slots.specs.Forms.Limited.{limitedSet};
 ghost use Rattle.position.specs.Forms.View.{viewBelow};
 ghost use Rattle.position.specs.Forms.Journal.{stepAt};
 ghost use Rattle.dated.specs.Dated.{noted, unseen, datedStart, datedStep};
@@ -41,7 +42,7 @@ pub struct DatedRun {
 // The counts once a position is seen.
 fn noted(opened: [u32; 32], position: Position, sheet: &[u8], setup: &[u8], view: View) -> [u32; 32]
     requires { ⌜ Fit (now sheet) (now setup) ⌝ }
-    requires { ⌜ view ≡ viewBelow (count (now sheet)) position ⌝ }
+    requires { ⌜ view ≡ viewBelow (now sheet) (count (now sheet)) position ⌝ }
     ensures { λ r. ⌜ r ≡ noted (now (sheet .entry)) (now (setup .entry)) position opened ⌝ }
 {
     let n = sheet::field::count(sheet);
@@ -86,10 +87,11 @@ pub fn start(sheet: &[u8], setup: &[u8]) -> Dated
 // The view of the position that an accepted step led to, from the view before it and the step's kind and transaction byte.
 fn seen_after(view: View, position: Position, sheet: &[u8], kind: u8, t: u8) -> View
     requires { ⌜ Sized (now sheet) ⌝ }
+    requires { ⌜ view .limited ≡ limitedSet (now sheet) ⌝ }
     ensures { λ r. ⌜ r ≡ seenAfter (now (sheet .entry)) view position kind t ⌝ }
 {
     if seen::changes_many(view, kind, t) {
-        return position.view(sheet);
+        return position.view_with(sheet, view.limited);
     }
     let at = seen::changed_place(kind, t);
     let x = position.slots[at];
@@ -101,11 +103,11 @@ impl Dated {
     // whole, accepted or not.
     pub fn step(self, sheet: &[u8], setup: &[u8], view: View, journal: &[u8], i: usize) -> DatedStep
         requires { ⌜ Fit (now sheet) (now setup) ⌝ }
-        requires { ⌜ view ≡ viewBelow (count (now sheet)) (self .position) ⌝ }
+        requires { ⌜ view ≡ viewBelow (now sheet) (count (now sheet)) (self .position) ⌝ }
         requires { ⌜ i + 4 ≤ length (now journal) ⌝ }
         ensures { λ r. ⌜ r .refusal ≡ datedStep (now (sheet .entry)) (now (setup .entry)) self (stepAt (now (journal .entry)) i) .refusal ⌝ }
         ensures { λ r. ⌜ r .dated ≡ datedStep (now (sheet .entry)) (now (setup .entry)) self (stepAt (now (journal .entry)) i) .dated ⌝ }
-        ensures { λ r. ⌜ r .view ≡ viewBelow (count (now (sheet .entry))) (r .dated .position) ⌝ }
+        ensures { λ r. ⌜ r .view ≡ viewBelow (now (sheet .entry)) (count (now (sheet .entry))) (r .dated .position) ⌝ }
     {
         let position = self.position;
         let stepped = journal::step_seen(position, sheet, setup, view, journal, i);

@@ -1,7 +1,7 @@
 -- Sets of the numbers below 32, as masks.
 -- Assumes nothing.
-use Prim.Native.Nat.{ℕ, zero, suc, _+_, _-_, _≤_, _<_, _^_}
-use native.Mathlib.Nat.{not-suc-le-zero, le-of-suc-le-suc, eq-or-lt-of-le, le-antisymm}
+use Prim.Native.Nat.{ℕ, zero, suc, _+_, _*_, _-_, _/_, _%_, _≤_, _<_, _^_}
+use native.Mathlib.Nat.{not-suc-le-zero, le-of-suc-le-suc, eq-or-lt-of-le, le-antisymm, div-one, pow-succ', div-div-eq-div-mul}
 use native.Mathlib.Numerals.{add-one}
 use native.Mathlib.Omega.{arith}
 use mathlib.Core.Path.{_≡_, refl, sym, ap, _∙_}
@@ -12,7 +12,7 @@ use borrow.Author.Tests.{eq-eqb, ne-eqb}
 use Rattle.laws.specs.Booleans.{pick, split, clash, either, and-parts, beq-same}
 use Rattle.laws.specs.Below.{allBelow, anyBelow, all-at, any-some, any-none}
 use Rattle.laws.specs.Mask.{bit}
-use Rattle.laws.specs.Bits.{bit-or, bit-and, no-bit}
+use Rattle.laws.specs.Bits.{digit, bit-or, bit-and, no-bit}
 
 -- the set with t too, where the test holds
 unfoldable pub joined : ℕ → Bool → ℕ → ℕ
@@ -47,6 +47,35 @@ pub bit-removed : (m t k : ℕ) → t < 32 → k < 32 → bit (removed m t) k �
 unfolding removed
 bit-removed m t k l h = bit-and m (4294967295 - 2 ^ t) k ∙ ap (λ b. bit m k && b) (power-bits t k l h .1)
 
+-- the bits of what a set leaves of a full word of n bits
+ones : ℕ → ℕ
+ones zero = 0
+ones (suc n) = 2 * ones n + 1
+
+bit-first : (m : ℕ) → bit m 0 ≡ eqb (m % 2) 1
+unfolding bit
+bit-first m = rw (div-one m)
+
+bit-half : (m k : ℕ) → bit m (suc k) ≡ bit (m / 2) k
+unfolding bit
+bit-half m k = rw (pow-succ' 2 k, ← (div-div-eq-div-mul m 2 (2 ^ k)))
+
+left-bit : (n m k : ℕ) → m ≤ ones n → k < n → bit (ones n - m) k ≡ not (bit m k)
+unfolding ones
+left-bit zero m k h l = absurd (not-suc-le-zero l)
+left-bit (suc n) m zero h l =
+    rw (bit-first (2 * ones n + 1 - m), bit-first m)
+    (either (digit (m % 2) (omega arith))
+    (λ e. let f : (2 * ones n + 1 - m) % 2 ≡ 1 = omega arith in rw (e, f))
+    (λ e. let f : (2 * ones n + 1 - m) % 2 ≡ 0 = omega arith in rw (e, f)))
+left-bit (suc n) m (suc k) h l =
+    let e : (2 * ones n + 1 - m) / 2 ≡ ones n - m / 2 = omega arith in
+    rw (bit-half (2 * ones n + 1 - m) k, bit-half m k, e) (left-bit n (m / 2) k (omega arith) (omega arith))
+
+pub bit-outside : (m k : ℕ) → m < 4294967296 → k < 32 → bit (4294967295 - m) k ≡ not (bit m k)
+unfolding ones
+bit-outside m k h l = left-bit 32 m k (omega arith) l
+
 none-above : (n : ℕ) (p : ℕ → Bool) → n ≤ 32 → (k : ℕ) → n ≤ k → k < 32 → bit (setBelow n p) k ≡ false
 unfolding setBelow
 none-above zero p l k h m = no-bit k
@@ -75,6 +104,12 @@ set-more n p m r b e h k = rw (add-one, h, e, k)
 
 pub set-done : (k n : ℕ) (p : ℕ → Bool) (m : ℕ) → k ≤ n → n ≤ k → m ≡ setBelow k p → m ≡ setBelow n p
 set-done k n p m l h e = rw (le-antisymm h l) e
+
+-- two tests that agree below n
+pub set-same : (n : ℕ) (p q : ℕ → Bool) → ((k : ℕ) → k < n → p k ≡ q k) → setBelow n p ≡ setBelow n q
+unfolding setBelow
+set-same zero p q h = refl
+set-same (suc n) p q h = rw (set-same n p q (λ k l. h k (omega arith)), h n (omega arith))
 
 none-set : (n : ℕ) (p : ℕ → Bool) → ((k : ℕ) → k < n → p k ≡ false) → setBelow n p ≡ 0
 unfolding setBelow joined

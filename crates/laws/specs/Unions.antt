@@ -12,7 +12,7 @@ use borrow.Author.Tests.{ne-eqb}
 use Rattle.laws.specs.Booleans.{pick, either, clash}
 use Rattle.laws.specs.Bits.{digit}
 use Rattle.laws.specs.Mask.{unionBelow}
-use Rattle.laws.specs.Sets.{joined, setBelow}
+use Rattle.laws.specs.Sets.{joined, setBelow, set-same}
 
 or-digits : (x y z : ℕ) → x < 2 → y < 2 → z < 2 → max (bitOr x y) z ≡ max x (bitOr y z)
 or-digits x y z h k l =
@@ -55,11 +55,6 @@ unfolding unionBelow
 union-same zero f g h = refl
 union-same (suc n) f g h = rw (union-same n f g (λ k l. h k (omega arith)), h n (omega arith)) refl
 
-set-same : (n : ℕ) (f g : ℕ → Bool) → ((k : ℕ) → k < n → g k ≡ f k) → setBelow n g ≡ setBelow n f
-unfolding setBelow
-set-same zero f g h = refl
-set-same (suc n) f g h = rw (set-same n f g (λ k l. h k (omega arith)), h n (omega arith)) refl
-
 joined-again : (m t : ℕ) (a b : Bool) → (a ≡ true → b ≡ true) → joined (joined m a t) b t ≡ joined m b t
 unfolding joined
 joined-again m t true true h = or-again m (2 ^ t)
@@ -87,5 +82,5 @@ module _ (t : ℕ) where
   set-grown zero f g l same more = absurd (not-suc-le-zero l)
   set-grown (suc n) f g l same more =
       either (eq-or-lt-of-le (le-of-suc-le-suc l))
-      (λ e. rw (← e) (joined-again (setBelow t f) t (f t) (g t) more ∙ rw (set-same t f g (λ k m. same k (ne-eqb k t (λ z. omega (arith, z))))) refl))
+      (λ e. rw (← e) (joined-again (setBelow t f) t (f t) (g t) more ∙ rw (set-same t g f (λ k m. same k (ne-eqb k t (λ z. omega (arith, z))))) refl))
       (λ m. joined-swap (setBelow n f) n t (f n) (g t) ∙ rw (set-grown n f g m same more, same n (ne-eqb n t (λ z. omega (arith, z)))) refl)

@@ -41,8 +41,8 @@ set-meets-other s e member t few l h =
     (λ k m. set-bit (count s) (foundIn s (bit e) true) few k (omega arith)
     ∙ conflictIn-same s (λ j. not (eqb j k) && bit e j) (λ j. not (eqb j k) && member j) k (λ j i. ap (λ b. not (eqb j k) && b) (h j i)))
 
-pub mined-right : (s : List ℕ) (p : Position) (b m : ℕ) → count s ≤ 32 → b ≡ viewBelow (count s) p .block
-    → m ≡ setBelow (count s) (foundIn s (bit (viewBelow (count s) p .block)) true)
+pub mined-right : (s : List ℕ) (p : Position) (b m : ℕ) → count s ≤ 32 → b ≡ viewBelow s (count s) p .block
+    → m ≡ setBelow (count s) (foundIn s (bit (viewBelow s (count s) p .block)) true)
     → rewriteFirst (count s) (minedSlot s (p .mined + 1) b m) (p .slots) ≡ rewriteFirst (count s) (mineSlot s p) (p .slots)
 unfolding minedSlot mineSlot leavesPool viewBelow
 mined-right s p b m few f e =
@@ -51,15 +51,15 @@ mined-right s p b m few f e =
 
 -- those that enter
 enters-bit : (s : List ℕ) (p : Position) (t k : ℕ) → count s ≤ 32 → t < count s → k < count s
-    → bit (setBelow (count s) (entersIn (viewBelow (count s) p) (lineSet s t))) k ≡ enters s p t k
+    → bit (setBelow (count s) (entersIn (viewBelow s (count s) p) (lineSet s t))) k ≡ enters s p t k
 unfolding entersIn viewBelow enters waiting
 enters-bit s p t k few l m =
-    set-bit (count s) (entersIn (viewBelow (count s) p) (lineSet s t)) few k m
+    set-bit (count s) (entersIn (viewBelow s (count s) p) (lineSet s t)) few k m
     ∙ rw (set-bit (count s) (inPool p) few k m, set-bit (count s) (inBlock p) few k m, line-bit s t k (omega arith) (omega arith))
     (sym (and-assoc (inPool p k) (not (inBlock p k)) (isSelfOrAncestor s k t)))
 
 pub bumped-right : (s : List ℕ) (p : Position) (t e m : ℕ) → count s ≤ 32 → t < count s
-    → e ≡ setBelow (count s) (entersIn (viewBelow (count s) p) (lineSet s t)) → m ≡ setBelow (count s) (foundIn s (bit e) false)
+    → e ≡ setBelow (count s) (entersIn (viewBelow s (count s) p) (lineSet s t)) → m ≡ setBelow (count s) (foundIn s (bit e) false)
     → rewriteFirst (count s) (bumpedSlot s e m) (p .slots) ≡ rewriteFirst (count s) (bumpSlot s p t) (p .slots)
 unfolding bumpedSlot bumpSlot leavesBlock
 bumped-right s p t e m few l f g =

@@ -1,16 +1,13 @@
 -- A mined block with nothing in it alters nothing but the number of blocks.
 -- Assumes nothing.
 use Prim.Native.Nat.{ℕ, _+_, _≤_, _<_}
-use mathlib.Core.Path.{_≡_, sym, ap, _∙_}
-use mathlib.Core.Bool.{true, false, _||_}
+use mathlib.Core.Path.{_≡_, sym, _∙_}
+use mathlib.Core.Bool.{false}
 use mathlib.Core.List.{List}
 use Rattle.laws.specs.Each.{rewrite-kept}
-use lib.Bits.{bitOr}
-use Rattle.laws.specs.Booleans.{split, clash, fails-by}
-use Rattle.laws.specs.Mask.{bit}
-use Rattle.laws.specs.Below.{any-all-false}
-use Rattle.laws.specs.Bits.{no-bit, bit-or}
-use Rattle.laws.specs.Sets.{setBelow, set-bit}
+use Rattle.laws.specs.Booleans.{clash, fails-by}
+use Rattle.laws.specs.Bits.{no-bit}
+use Rattle.laws.specs.Sets.{set-bit}
 use Rattle.sheet.specs.Field.{count}
 use Rattle.slots.specs.Slot.{emptySlot, standing}
 use Rattle.slots.specs.Ancestry.{meetsOther}
@@ -18,8 +15,7 @@ use Rattle.slots.proofs.Ancestors.{other-find}
 use Rattle.steps.specs.declared.View.{View}
 use Rattle.steps.specs.Mined.{confirmEntry}
 use Rattle.position.specs.declared.Position.{Position}
-use Rattle.position.specs.Position.{slot, inPool, inBlock}
-use Rattle.position.specs.Owed.{waiting, owed, anyOwed}
+use Rattle.position.specs.Position.{slot, inBlock}
 use Rattle.position.specs.Forms.View.{viewBelow}
 use Rattle.position.specs.Effect.{withSlots, changeSlots, leavesPool, mineSlot, withMined, afterMine}
 
@@ -42,30 +38,14 @@ module _ (s : List ℕ) (p : Position) (none : (k : ℕ) → k < count s → inB
   mine-none = rw (rewrite-kept (count s) (mineSlot s p) (p .slots) emptySlot kept)
 
 -- no transaction is in the block
-pub none-in-block : (s : List ℕ) (p : Position) → count s ≤ 32 → viewBelow (count s) p .block ≡ 0 → (k : ℕ) → k < count s → inBlock p k ≡ false
+pub none-in-block : (s : List ℕ) (p : Position) → count s ≤ 32 → viewBelow s (count s) p .block ≡ 0 → (k : ℕ) → k < count s → inBlock p k ≡ false
 unfolding viewBelow
 none-in-block s p few e k l = sym (set-bit (count s) (inBlock p) few k l) ∙ rw e (no-bit k)
 
-pub mine-empty : (s : List ℕ) (p : Position) → count s ≤ 32 → viewBelow (count s) p .block ≡ 0 → afterMine s p ≡ withMined (p .mined + 1) p
+pub mine-empty : (s : List ℕ) (p : Position) → count s ≤ 32 → viewBelow s (count s) p .block ≡ 0 → afterMine s p ≡ withMined (p .mined + 1) p
 mine-empty s p few e = mine-none s p (none-in-block s p few e)
 
 -- where v is the view that the code found
-module _ (s u : List ℕ) (p : Position) (v : View) (few : count s ≤ 32) (e : v ≡ viewBelow (count s) p) where
+module _ (s : List ℕ) (p : Position) (v : View) (few : count s ≤ 32) (e : v ≡ viewBelow s (count s) p) where
   pub answer-empty : v .block ≡ 0 → withMined (p .mined + 1) p ≡ afterMine s p
   answer-empty h = sym (mine-empty s p few (rw e at h))
-
-  -- nothing waits outside the block that has the whole pool
-  none-waits : bitOr (v .pool) (v .block) ≡ v .block → (k : ℕ) → k < count s → waiting p k ≡ false
-  unfolding viewBelow waiting
-  none-waits h k l =
-      let pool = setBelow (count s) (inPool p) in
-      let block = setBelow (count s) (inBlock p) in
-      let w : bitOr pool block ≡ block = rw e at h in
-      let b : inBlock p k ≡ (inPool p k || inBlock p k) =
-      sym (set-bit (count s) (inBlock p) few k l) ∙ ap (λ (m : ℕ). bit m k) (sym w) ∙ bit-or pool block k
-      ∙ rw (set-bit (count s) (inPool p) few k l, set-bit (count s) (inBlock p) few k l) in
-      split (inPool p k) (λ a. let c : inBlock p k ≡ true = b ∙ rw a in rw (a, c)) (λ a. rw a)
-
-  pub answer-none-owed : bitOr (v .pool) (v .block) ≡ v .block → false ≡ anyOwed s u p
-  unfolding anyOwed owed
-  answer-none-owed h = sym (any-all-false (count s) (owed s u p) (λ k l. rw (none-waits h k l)))

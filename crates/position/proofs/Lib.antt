@@ -9,6 +9,7 @@ pub mod NoEntries
 pub mod EmptyBlocks
 pub mod SendTests
 pub mod MineTests
+pub mod Due
 pub mod Fields
 pub mod Outlooks
 pub mod ShareTests

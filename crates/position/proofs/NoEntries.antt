@@ -33,7 +33,7 @@ unfolding confirmEntry standing
 confirm-none s b t x e = rw e
 
 -- where v is the view of a position
-module _ (s : List ℕ) (p : Position) (v : View) (few : count s ≤ 32) (e : v ≡ viewBelow (count s) p) where
+module _ (s : List ℕ) (p : Position) (v : View) (few : count s ≤ 32) (e : v ≡ viewBelow s (count s) p) where
   pub outside : (t : ℕ) → t < count s → bit (bitOr (v .pool) (v .block)) t ≡ false → (bit (v .pool) t ≡ false) × (slot p t .pool ≡ 0) × (slot p t .block ≡ 0)
   unfolding viewBelow inPool inBlock
   outside t l h =

@@ -67,7 +67,7 @@ module _ (s u : List ℕ) (p : Position) where
 
   -- of one transaction, and of any
   pub pays-outlook : Checked s → length (p .slots) ≡ 32 → (party t : ℕ) → t < count s
-      → paysIn (sendAllowedIn s (outlook s u p) party t) s u (viewBelow (count s) p) (slot p t) (sinceIn s p t) party t
+      → paysIn (sendAllowedIn s (outlook s u p) party t) s u (viewBelow s (count s) p) (slot p t) (sinceIn s p t) party t
       ≡ elim (isPayee s t party) [ true ↦ payingPasses s u p party t | false ↦ false ]
   unfolding paysIn payingPasses
   pays-outlook ok n party t l =
@@ -83,19 +83,19 @@ module _ (s u : List ℕ) (p : Position) where
       (λ y. rw y)
 
   pub any-pays : Checked s → length (p .slots) ≡ 32 → (party : ℕ)
-      → anyBelow (count s) (λ t. paysIn (sendAllowedIn s (outlook s u p) party t) s u (viewBelow (count s) p) (slot p t) (sinceIn s p t) party t)
+      → anyBelow (count s) (λ t. paysIn (sendAllowedIn s (outlook s u p) party t) s u (viewBelow s (count s) p) (slot p t) (sinceIn s p t) party t)
       ≡ canPay s u p party
   unfolding canPay
   any-pays ok n party =
       any-same (count s)
-      (λ t. paysIn (sendAllowedIn s (outlook s u p) party t) s u (viewBelow (count s) p) (slot p t) (sinceIn s p t) party t)
+      (λ t. paysIn (sendAllowedIn s (outlook s u p) party t) s u (viewBelow s (count s) p) (slot p t) (sinceIn s p t) party t)
       (λ t. elim (isPayee s t party) [ true ↦ payingPasses s u p party t | false ↦ false ])
       (pays-outlook ok n party)
 
   -- the outlook from its parts, where conduct is followed
   pub outlook-made : (v : View) (way ph has : ℕ) (l sends knows : Bool) → way ≡ conduct u → (way ≡ 0 → ⊥) → ph ≡ phase p → l ≡ late s u p
       → sends ≡ (standing (slot p refund1 .pool) || ltb 0 (slot p refund1 .height)) → knows ≡ bit (keys p alice) secretBob
-      → v ≡ viewBelow (count s) p → has ≡ senderIn s v (slot p success) bob contract
+      → v ≡ viewBelow s (count s) p → has ≡ senderIn s v (slot p success) bob contract
       → record { free = false; careful = eqb way 2; phase = ph; late = l; refund = sends; unshared = eqb (slot p success .contract) 0; knows = knows; bobhas = has }
       ≡ outlook s u p
   unfolding outlook isOpen isCareful successUnshared shared sharedFor sent inPool isConfirmed blockOf holds keys
@@ -114,7 +114,7 @@ module _ (s u : List ℕ) (p : Position) (v : View) (o : Outlook) (party : ℕ) 
   unfolding paysAt sinceIn
   pays-turn t up since allowed r a b c d = rw (← a, ← b, ← c) d
 
-  module _ (fit : Fit s u) (slots : length (p .slots) ≡ 32) (view : v ≡ viewBelow (count s) p) (read : o ≡ outlook s u p) where
+  module _ (fit : Fit s u) (slots : length (p .slots) ≡ 32) (view : v ≡ viewBelow s (count s) p) (read : o ≡ outlook s u p) where
     all-paid : anyBelow (count s) paysAt ≡ canPay s u p party
     unfolding paysAt
     all-paid = rw (view, read) (any-pays s u p (fit .checked) slots party)

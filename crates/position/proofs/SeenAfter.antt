@@ -53,10 +53,10 @@ same-grows : (x : Slot) → Grows x x
 same-grows x = record { pool = λ h. h; block = λ h. h; confirmed = λ h. h; shared = or-self (sharedAny x) }
 
 -- one slot grows, and the others stay as they are
-grown-view : (n t : ℕ) (p q : Position) (v : View) → v ≡ viewBelow n p → t < n → ((k : ℕ) → eqb k t ≡ false → slot q k ≡ slot p k) → Grows (slot p t) (slot q t)
-    → viewAfter v t (slot q t) (q .mined) (q .keys) ≡ viewBelow n q
+grown-view : (s : List ℕ) (n t : ℕ) (p q : Position) (v : View) → v ≡ viewBelow s n p → t < n → ((k : ℕ) → eqb k t ≡ false → slot q k ≡ slot p k) → Grows (slot p t) (slot q t)
+    → viewAfter v t (slot q t) (q .mined) (q .keys) ≡ viewBelow s n q
 unfolding viewAfter viewBelow inPool inBlock isConfirmed blockOf
-grown-view n t p q v e l same g =
+grown-view s n t p q v e l same g =
     let a = set-grown t n (inPool p) (inPool q) l (λ k o. ap (λ (x : Slot). standing (x .pool)) (same k o)) (g .pool) in
     let b = set-grown t n (inBlock p) (inBlock q) l (λ k o. ap (λ (x : Slot). standing (x .block)) (same k o)) (g .block) in
     let c = set-grown t n (isConfirmed p) (isConfirmed q) l (λ k o. ap (λ (x : Slot). ltb 0 (x .height)) (same k o)) (g .confirmed) in
@@ -74,14 +74,14 @@ one-grows t f p g =
     (λ l. rw (one-slot t f p (ltb-true t (length (p .slots)) l) t, eq-eqb t t refl) g)
     (λ l. rw (out-of-range t f p l) (same-grows (slot p t)))
 
-changed-view : (n t : ℕ) (f : Slot → Slot) (p : Position) (v : View) → v ≡ viewBelow n p → t < n → Grows (slot p t) (f (slot p t))
-    → viewAfter v t (slot (changeSlot t f p) t) (changeSlot t f p .mined) (changeSlot t f p .keys) ≡ viewBelow n (changeSlot t f p)
-changed-view n t f p v e l g = grown-view n t p (changeSlot t f p) v e l (one-other t f p) (one-grows t f p g)
+changed-view : (s : List ℕ) (n t : ℕ) (f : Slot → Slot) (p : Position) (v : View) → v ≡ viewBelow s n p → t < n → Grows (slot p t) (f (slot p t))
+    → viewAfter v t (slot (changeSlot t f p) t) (changeSlot t f p .mined) (changeSlot t f p .keys) ≡ viewBelow s n (changeSlot t f p)
+changed-view s n t f p v e l g = grown-view s n t p (changeSlot t f p) v e l (one-other t f p) (one-grows t f p g)
 
 -- the slots stay as they are
-kept-view : (n : ℕ) (p q : Position) (v : View) → v ≡ viewBelow n p → 0 < n → ((k : ℕ) → slot q k ≡ slot p k)
-    → viewAfter v 0 (slot q 0) (q .mined) (q .keys) ≡ viewBelow n q
-kept-view n p q v e l same = grown-view n 0 p q v e l (λ k o. same k) (rw (same 0) (same-grows (slot p 0)))
+kept-view : (s : List ℕ) (n : ℕ) (p q : Position) (v : View) → v ≡ viewBelow s n p → 0 < n → ((k : ℕ) → slot q k ≡ slot p k)
+    → viewAfter v 0 (slot q 0) (q .mined) (q .keys) ≡ viewBelow s n q
+kept-view s n p q v e l same = grown-view s n 0 p q v e l (λ k o. same k) (rw (same 0) (same-grows (slot p 0)))
 
 -- a share adds signatures
 picked : (b : Bool) (x m : ℕ) → bitOr x (pick b (bitOr x m) x) ≡ pick b (bitOr x m) x
@@ -119,20 +119,20 @@ unfolding withBlock sharedAny sharedFor
 block-grows entry x there = record { pool = λ h. h; block = λ h. there; confirmed = λ h. h; shared = or-self (sharedAny x) }
 
 -- the steps of each kind, where v is the view before them
-module _ (s u : List ℕ) (p : Position) (v : View) (fit : Fit s u) (e : v ≡ viewBelow (count s) p) where
+module _ (s u : List ℕ) (p : Position) (v : View) (fit : Fit s u) (e : v ≡ viewBelow s (count s) p) where
   -- v carried over a step to the position q, which may have changed the slot at this place
   abbrev Carried : Position → ℕ → Type 0
-  Carried q at = viewAfter v at (slot q at) (q .mined) (q .keys) ≡ viewBelow (count s) q
+  Carried q at = viewAfter v at (slot q at) (q .mined) (q .keys) ≡ viewBelow s (count s) q
 
   place-is : (kind t : ℕ) → eqb kind 2 ≡ false → t < count s → changedPlace kind t ≡ t
   unfolding changedPlace
   place-is kind t o l = let few = fit .checked .sized .few in rw (o, lt-ltb t 32 (omega (arith, few, l)))
 
   by-one : (q : Position) (at t : ℕ) (f : Slot → Slot) → q ≡ changeSlot t f p → at ≡ t → t < count s → Grows (slot p t) (f (slot p t)) → Carried q at
-  by-one q at t f d h l g = rw (d, h) (changed-view (count s) t f p v e l g)
+  by-one q at t f d h l g = rw (d, h) (changed-view s (count s) t f p v e l g)
 
   by-none : (q : Position) (at : ℕ) → ((k : ℕ) → slot q k ≡ slot p k) → at ≡ 0 → Carried q at
-  by-none q at same h = rw h (kept-view (count s) p q v e (fit .checked .some) same)
+  by-none q at same h = rw h (kept-view s (count s) p q v e (fit .checked .some) same)
 
   handed : (to : ℕ) → standing (entryFor to) ≡ true
   unfolding standing entryFor
@@ -173,11 +173,11 @@ module _ (s u : List ℕ) (p : Position) (v : View) (fit : Fit s u) (e : v ≡ v
   -- a step of four bytes, where r is what the code got from it
   pub seen-after : (b : FourBytes) (r : Stepped) → r ≡ step s u p b → r .refusal ≡ 0 → changesMany v (b .kind) (b .transaction) ≡ false
       → viewAfter v (changedPlace (b .kind) (b .transaction)) (slot (r .position) (changedPlace (b .kind) (b .transaction))) (r .position .mined) (r .position .keys)
-      ≡ viewBelow (count s) (r .position)
+      ≡ viewBelow s (count s) (r .position)
   unfolding decodeBytes
   seen-after b r f z o = by (step-case s u p b)
     where
-      by : StepCase s u p b → viewAfter v (changedPlace (b .kind) (b .transaction)) (slot (r .position) (changedPlace (b .kind) (b .transaction))) (r .position .mined) (r .position .keys) ≡ viewBelow (count s) (r .position)
+      by : StepCase s u p b → viewAfter v (changedPlace (b .kind) (b .transaction)) (slot (r .position) (changedPlace (b .kind) (b .transaction))) (r .position .mined) (r .position .keys) ≡ viewBelow s (count s) (r .position)
       by (taken x d h a g) =
           let w = decodes s u (b .kind) (b .party) (b .transaction) (b .destination) x d .bytes in
           let k : getD (stepBytes x) 0 0 ≡ b .kind = ap (λ (l : List ℕ). getD l 0 0) w in

@@ -48,19 +48,19 @@ module _ (s : List ℕ) (m : ℕ) (member : ℕ → Bool) (same : (k : ℕ) → 
 
 -- the view of all transactions of the sheet
 module _ (s : List ℕ) (p : Position) where
-  pub sent-bit : count s ≤ 32 → (k : ℕ) → k < count s → bit (sentSet (viewBelow (count s) p)) k ≡ sent p k
+  pub sent-bit : count s ≤ 32 → (k : ℕ) → k < count s → bit (sentSet (viewBelow s (count s) p)) k ≡ sent p k
   unfolding sentSet viewBelow sent
   sent-bit few k l =
       bit-or (setBelow (count s) (inPool p)) (setBelow (count s) (isConfirmed p)) k
       ∙ rw (set-bit (count s) (inPool p) few k l, set-bit (count s) (isConfirmed p) few k l)
 
-  pub placed-bit : count s ≤ 32 → (k : ℕ) → k < count s → bit (placedSet (viewBelow (count s) p)) k ≡ placed p k
+  pub placed-bit : count s ≤ 32 → (k : ℕ) → k < count s → bit (placedSet (viewBelow s (count s) p)) k ≡ placed p k
   unfolding placedSet viewBelow placed
   placed-bit few k l =
       bit-or (setBelow (count s) (inBlock p)) (setBelow (count s) (isConfirmed p)) k
       ∙ rw (set-bit (count s) (inBlock p) few k l, set-bit (count s) (isConfirmed p) few k l)
 
-  pub sender-view : (party t destination : ℕ) → senderIn s (viewBelow (count s) p) (slot p t) party destination ≡ senderHas s p party t destination
+  pub sender-view : (party t destination : ℕ) → senderIn s (viewBelow s (count s) p) (slot p t) party destination ≡ senderHas s p party t destination
   unfolding senderIn viewBelow keysIn senderHas keys sharedSecrets shared
   sender-view party t destination = refl
 
@@ -87,29 +87,29 @@ module _ (s u : List ℕ) (p : Position) (t : ℕ) where
 
 module _ (allowed : Bool) (s u : List ℕ) (p : Position) (ok : Checked s) (party t destination : ℕ) (l : t < count s) where
   send-tests : (m : ℕ) (member : ℕ → Bool) → ((k : ℕ) → k < count s → bit m k ≡ member k)
-      → sendTestsIn allowed s (perDay u) m (senderIn s (viewBelow (count s) p) (slot p t) party destination) (blockOf p (parent s t)) (p .mined) t
+      → sendTestsIn allowed s (perDay u) m (senderIn s (viewBelow s (count s) p) (slot p t) party destination) (blockOf p (parent s t)) (p .mined) t
       ≡ sendTests allowed s u p member party t destination
   unfolding sendTestsIn sendTests
   send-tests m member same =
       rw (noConflict-set s m member same t, hasParent-set s m member same t ok l, sender-view s p party t destination, lockHeight-parent s u p t)
 
-  pub pool-tests : poolTestsIn allowed s u (viewBelow (count s) p) (slot p t) (blockOf p (parent s t)) party t destination
+  pub pool-tests : poolTestsIn allowed s u (viewBelow s (count s) p) (slot p t) (blockOf p (parent s t)) party t destination
       ≡ poolTests allowed s u p party t destination
   unfolding poolTestsIn poolTests viewBelow
   pool-tests =
       ap (λ x. x ++ ((stepDeadline, ltb (p .mined) (deadline s (perDay u) (λ k. blockOf p (parent s t)) t)) ∷ []))
-      (send-tests (sentSet (viewBelow (count s) p)) (sent p) (sent-bit s p (ok .sized .few)))
+      (send-tests (sentSet (viewBelow s (count s) p)) (sent p) (sent-bit s p (ok .sized .few)))
       ∙ ap (λ d. sendTests allowed s u p (sent p) party t destination ++ ((stepDeadline, ltb (p .mined) d) ∷ [])) (deadline-parent s u p t)
 
-  pub miner-tests : minerTestsIn allowed s u (viewBelow (count s) p) (slot p t) (blockOf p (parent s t)) party t destination
+  pub miner-tests : minerTestsIn allowed s u (viewBelow s (count s) p) (slot p t) (blockOf p (parent s t)) party t destination
       ≡ minerTests allowed s u p party t destination
   unfolding minerTestsIn minerTests viewBelow
   miner-tests =
       ap (λ x. (stepStealth, eqb (stealth u) 1) ∷ x)
-      (send-tests (placedSet (viewBelow (count s) p)) (placed p) (placed-bit s p (ok .sized .few)))
+      (send-tests (placedSet (viewBelow s (count s) p)) (placed p) (placed-bit s p (ok .sized .few)))
 
   -- what the code answers, where v, since and a are what it found
-  module _ (v : View) (since r : ℕ) (a : Bool) (e : v ≡ viewBelow (count s) p) (f : since ≡ blockOf p (parent s t)) (g : a ≡ allowed) where
+  module _ (v : View) (since r : ℕ) (a : Bool) (e : v ≡ viewBelow s (count s) p) (f : since ≡ blockOf p (parent s t)) (g : a ≡ allowed) where
     pub pool-answer : r ≡ firstFailing (poolTestsIn a s u v (slot p t) since party t destination) → r ≡ firstFailing (poolTests allowed s u p party t destination)
     pool-answer h = (h ∙ rw (e, f, g)) ∙ ap firstFailing pool-tests
 

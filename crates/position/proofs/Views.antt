@@ -3,23 +3,31 @@
 use Prim.Native.Nat.{ℕ, _+_, _≤_}
 use native.Mathlib.Nat.{le-antisymm}
 use native.Mathlib.Numerals.{add-one}
-use mathlib.Core.Path.{_≡_, refl}
+use mathlib.Core.Path.{_≡_}
+use mathlib.Core.List.{List}
 use Rattle.laws.specs.Mask.{unionBelow}
 use Rattle.laws.specs.Sets.{setBelow}
 use Rattle.slots.specs.declared.Slot.{Slot}
+use Rattle.slots.specs.Forms.Limited.{limitedSet}
 use Rattle.position.specs.declared.Position.{Position}
 use Rattle.steps.specs.declared.View.{View}
 use Rattle.position.specs.Position.{slot, inPool, inBlock, blockOf, isConfirmed}
 use Rattle.steps.specs.Forms.View.{viewWith}
 use Rattle.position.specs.Forms.View.{viewBelow}
 
-pub view-start : (p : Position) → record { pool = 0; block = 0; confirmed = 0; mined = p .mined; shared = 0; keys = p .keys } ≡ viewBelow 0 p
+pub view-start : (s : List ℕ) (p : Position) (m : ℕ) → m ≡ limitedSet s
+    → record { pool = 0; block = 0; confirmed = 0; limited = m; mined = p .mined; shared = 0; keys = p .keys } ≡ viewBelow s 0 p
 unfolding viewBelow setBelow unionBelow
-view-start p = refl
+view-start s p m e = rw e
 
-pub view-more : (n : ℕ) (p : Position) (v w : View) (x : Slot) → v ≡ viewBelow n p → w ≡ viewWith v n x → x ≡ slot p n → w ≡ viewBelow (n + 1) p
+pub view-more : (s : List ℕ) (n : ℕ) (p : Position) (v w : View) (x : Slot) → v ≡ viewBelow s n p → w ≡ viewWith v n x → x ≡ slot p n → w ≡ viewBelow s (n + 1) p
 unfolding viewBelow viewWith setBelow unionBelow inPool inBlock isConfirmed blockOf
-view-more n p v w x e f g = rw (f, e, g, add-one)
+view-more s n p v w x e f g = rw (f, e, g, add-one)
 
-pub view-done : (k n : ℕ) (p : Position) (v : View) → k ≤ n → n ≤ k → v ≡ viewBelow k p → v ≡ viewBelow n p
-view-done k n p v l m e = rw (le-antisymm m l) e
+pub view-done : (s : List ℕ) (k n : ℕ) (p : Position) (v : View) → k ≤ n → n ≤ k → v ≡ viewBelow s k p → v ≡ viewBelow s n p
+view-done s k n p v l m e = rw (le-antisymm m l) e
+
+-- those of the sheet that can have a deadline, off any view
+pub view-limited : (s : List ℕ) (n : ℕ) (p : Position) (v : View) → v ≡ viewBelow s n p → v .limited ≡ limitedSet s
+unfolding viewBelow
+view-limited s n p v e = rw e

@@ -1,4 +1,5 @@
 pub mod View
+pub mod Owed
 pub mod FirstShares
 pub mod Outlook
 pub mod Journal

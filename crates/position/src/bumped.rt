@@ -15,7 +15,7 @@ impl Position {
     // A bump of t: it and its waiting ancestors enter the block, and who conflicts with them leaves it.
     pub fn after_bump(mut self, sheet: &[u8], view: View, t: usize) -> Position
         requires { ⌜ Sized (now sheet) ⌝ }
-        requires { ⌜ view ≡ viewBelow (count (now sheet)) self ⌝ }
+        requires { ⌜ view ≡ viewBelow (now sheet) (count (now sheet)) self ⌝ }
         requires { ⌜ t < count (now sheet) ⌝ }
         ensures { λ r. ⌜ r ≡ afterBump (now (sheet .entry)) t self ⌝ }
     {

@@ -90,7 +90,7 @@ impl Position {
     // What conduct reads off the position.
     pub fn outlook(self, sheet: &[u8], setup: &[u8], view: View) -> Outlook
         requires { ⌜ Fit (now sheet) (now setup) ⌝ }
-        requires { ⌜ view ≡ viewBelow (count (now sheet)) self ⌝ }
+        requires { ⌜ view ≡ viewBelow (now sheet) (count (now sheet)) self ⌝ }
         ensures { λ r. ⌜ r ≡ outlook (now (sheet .entry)) (now (setup .entry)) self ⌝ }
     {
         let way = sheet::setup::conduct(setup);
@@ -123,7 +123,7 @@ impl Position {
     // Whether a party can send a transaction that pays it.
     pub fn can_pay(self, sheet: &[u8], setup: &[u8], view: View, o: Outlook, party: u8) -> bool
         requires { ⌜ Fit (now sheet) (now setup) ⌝ }
-        requires { ⌜ view ≡ viewBelow (count (now sheet)) self ⌝ }
+        requires { ⌜ view ≡ viewBelow (now sheet) (count (now sheet)) self ⌝ }
         requires { ⌜ o ≡ outlook (now sheet) (now setup) self ⌝ }
         ensures { λ r. ⌜ r ≡ canPay (now (sheet .entry)) (now (setup .entry)) self party ⌝ }
     {
@@ -154,7 +154,7 @@ impl Position {
         t: usize,
     ) -> bool
         requires { ⌜ Fit (now sheet) (now setup) ⌝ }
-        requires { ⌜ view ≡ viewBelow (count (now sheet)) self ⌝ }
+        requires { ⌜ view ≡ viewBelow (now sheet) (count (now sheet)) self ⌝ }
         requires { ⌜ o ≡ outlook (now sheet) (now setup) self ⌝ }
         requires { ⌜ t < count (now sheet) ⌝ }
         ensures { λ r. ⌜ r ≡ not (payingFirst (now (sheet .entry)) (now (setup .entry)) self party t) ⌝ }
@@ -171,7 +171,7 @@ impl Position {
     // Whether conduct allows a party to send t.
     pub fn may_send(self, sheet: &[u8], setup: &[u8], view: View, party: u8, t: usize) -> bool
         requires { ⌜ Fit (now sheet) (now setup) ⌝ }
-        requires { ⌜ view ≡ viewBelow (count (now sheet)) self ⌝ }
+        requires { ⌜ view ≡ viewBelow (now sheet) (count (now sheet)) self ⌝ }
         requires { ⌜ t < count (now sheet) ⌝ }
         ensures { λ r. ⌜ r ≡ (sendAllowed (now (sheet .entry)) (now (setup .entry)) self party t && payingFirst (now (sheet .entry)) (now (setup .entry)) self party t) ⌝ }
     {

@@ -51,7 +51,7 @@ pub fn step_seen(
     i: usize,
 ) -> Stepped
     requires { ⌜ Fit (now sheet) (now setup) ⌝ }
-    requires { ⌜ view ≡ viewBelow (count (now sheet)) position ⌝ }
+    requires { ⌜ view ≡ viewBelow (now sheet) (count (now sheet)) position ⌝ }
     requires { ⌜ i + 4 ≤ length (now journal) ⌝ }
     ensures { λ r. ⌜ r ≡ step (now (sheet .entry)) (now (setup .entry)) position (stepAt (now (journal .entry)) i) ⌝ }
 {

@@ -2,6 +2,7 @@
 ghost use Prim.Native.Nat.{_<_};
 ghost use mathlib.Core.Path.{_≡_};
 ghost use Rattle.sheet.specs.Field.{count, Sized};
+ghost use Rattle.slots.specs.Forms.Limited.{limitedSet};
 ghost use Rattle.position.specs.Forms.View.{viewBelow};
 
 mod bumped;
@@ -16,6 +17,7 @@ pub mod seen;
 pub mod step;
 
 use slots::Slot;
+use slots::limited;
 use steps::View;
 
 // "A position holds, for each of 32 transactions, its pool entry, block entry, confirmation and shared knowledge; beside these the
@@ -41,10 +43,11 @@ pub struct Ran {
 }
 
 impl Position {
-    // The view of the sheet's transactions.
-    pub fn view(self, sheet: &[u8]) -> View
+    // The view of the sheet's transactions, of which `limited` can have a deadline.
+    pub fn view_with(self, sheet: &[u8], limited: u32) -> View
         requires { ⌜ Sized (now sheet) ⌝ }
-        ensures { λ r. ⌜ r ≡ viewBelow (count (now (sheet .entry))) self ⌝ }
+        requires { ⌜ limited ≡ limitedSet (now sheet) ⌝ }
+        ensures { λ r. ⌜ r ≡ viewBelow (now (sheet .entry)) (count (now (sheet .entry))) self ⌝ }
     {
         let n = sheet::field::count(sheet);
         let keys = self.keys;
@@ -52,6 +55,7 @@ impl Position {
             pool: 0,
             block: 0,
             confirmed: 0,
+            limited,
             mined: self.mined,
             shared: 0,
             keys,
@@ -64,5 +68,13 @@ impl Position {
             k += 1;
         }
         v
+    }
+
+    // The view of the sheet's transactions.
+    pub fn view(self, sheet: &[u8]) -> View
+        requires { ⌜ Sized (now sheet) ⌝ }
+        ensures { λ r. ⌜ r ≡ viewBelow (now (sheet .entry)) (count (now (sheet .entry))) self ⌝ }
+    {
+        self.view_with(sheet, limited::limited(sheet))
     }
 }

@@ -14,7 +14,7 @@ impl Position {
     // A mined block: its entries are confirmed and leave the pool, and who conflicts with another of them leaves it too.
     fn after_entries(mut self, sheet: &[u8], view: View) -> Position
         requires { ⌜ Sized (now sheet) ⌝ }
-        requires { ⌜ view ≡ viewBelow (count (now sheet)) self ⌝ }
+        requires { ⌜ view ≡ viewBelow (now sheet) (count (now sheet)) self ⌝ }
         requires { ⌜ self .mined < 10000 ⌝ }
         ensures { λ r. ⌜ r ≡ afterMine (now (sheet .entry)) self ⌝ }
     {
@@ -46,7 +46,7 @@ impl Position {
     // A mined block. An empty one changes only the blocks mined.
     pub fn after_mine(self, sheet: &[u8], view: View) -> Position
         requires { ⌜ Sized (now sheet) ⌝ }
-        requires { ⌜ view ≡ viewBelow (count (now sheet)) self ⌝ }
+        requires { ⌜ view ≡ viewBelow (now sheet) (count (now sheet)) self ⌝ }
         requires { ⌜ self .mined < 10000 ⌝ }
         ensures { λ r. ⌜ r ≡ afterMine (now (sheet .entry)) self ⌝ }
     {

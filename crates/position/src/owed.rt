@@ -1,21 +1,25 @@
 // Whether some bump is owed in a position.
 use crate::Position;
+use slots::deadline;
+use slots::lock_height;
 use slots::next;
 use steps::View;
 use steps::owed;
 use steps::parent;
 ghost use Prim.Native.Nat.{_<_};
 ghost use mathlib.Core.Path.{_≡_};
-ghost use Rattle.sheet.specs.Field.{count};
+ghost use Rattle.laws.specs.Below.{anyBelow};
+ghost use Rattle.sheet.specs.Field.{count, Sized};
 ghost use Rattle.sheet.specs.Checked.{Fit};
 ghost use Rattle.position.specs.Owed.{anyOwed, owed};
 ghost use Rattle.position.specs.Forms.View.{viewBelow};
+ghost use Rattle.position.specs.Forms.Owed.{dueIn};
 
 impl Position {
     // Whether a bump of t is owed.
     pub fn owed(self, sheet: &[u8], setup: &[u8], view: View, t: usize) -> bool
         requires { ⌜ Fit (now sheet) (now setup) ⌝ }
-        requires { ⌜ view ≡ viewBelow (count (now sheet)) self ⌝ }
+        requires { ⌜ view ≡ viewBelow (now sheet) (count (now sheet)) self ⌝ }
         requires { ⌜ t < count (now sheet) ⌝ }
         ensures { λ r. ⌜ r ≡ owed (now (sheet .entry)) (now (setup .entry)) self t ⌝ }
     {
@@ -23,36 +27,35 @@ impl Position {
         owed::owed_at(sheet, sheet::setup::per_day(setup), view, since, t)
     }
 
-    // Whether any is, each of the pool looked at.
-    fn any_owed_among(self, sheet: &[u8], setup: &[u8], view: View) -> bool
-        requires { ⌜ Fit (now sheet) (now setup) ⌝ }
-        requires { ⌜ view ≡ viewBelow (count (now sheet)) self ⌝ }
-        ensures { λ r. ⌜ r ≡ anyOwed (now (sheet .entry)) (now (setup .entry)) self ⌝ }
+    // Whether the next block is the deadline of any of a set.
+    fn any_due(self, sheet: &[u8], per_day: u16, mined: u16, among: u32) -> bool
+        requires { ⌜ Sized (now sheet) ⌝ }
+        ensures { λ r. ⌜ r ≡ anyBelow (count (now (sheet .entry))) (dueIn (now (sheet .entry)) «per_day» self mined among) ⌝ }
     {
         let n = sheet::field::count(sheet);
-        let per_day = sheet::setup::per_day(setup);
-        let mut t = next::next(view.pool, 0, n);
+        let mut t = next::next(among, 0, n);
         while t < n {
             let up = parent::slot_above(sheet, t);
             let above = self.slots[up];
             let since = parent::block_above(sheet, t, above.height);
-            if owed::owed_at(sheet, per_day, view, since, t) {
+            if lock_height::wide(mined) + 1 == deadline::deadline(sheet, per_day, since, t) {
                 return true;
             }
-            t = next::next(view.pool, t + 1, n);
+            t = next::next(among, t + 1, n);
         }
         false
     }
 
-    // Whether any is. None is where the whole pool is in the block.
+    // Whether any is. Only those outside the block that can have a deadline are looked at.
     pub fn any_owed(self, sheet: &[u8], setup: &[u8], view: View) -> bool
         requires { ⌜ Fit (now sheet) (now setup) ⌝ }
-        requires { ⌜ view ≡ viewBelow (count (now sheet)) self ⌝ }
+        requires { ⌜ view ≡ viewBelow (now sheet) (count (now sheet)) self ⌝ }
         ensures { λ r. ⌜ r ≡ anyOwed (now (sheet .entry)) (now (setup .entry)) self ⌝ }
     {
-        if view.pool | view.block == view.block {
+        let among = view.pool & !view.block & view.limited;
+        if among == 0 {
             return false;
         }
-        self.any_owed_among(sheet, setup, view)
+        self.any_due(sheet, sheet::setup::per_day(setup), view.mined, among)
     }
 }

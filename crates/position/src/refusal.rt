@@ -43,7 +43,7 @@ impl Position {
         destination: u8,
     ) -> u32
         requires { ⌜ Fit (now sheet) (now setup) ⌝ }
-        requires { ⌜ view ≡ viewBelow (count (now sheet)) self ⌝ }
+        requires { ⌜ view ≡ viewBelow (now sheet) (count (now sheet)) self ⌝ }
         requires { ⌜ shareable (now sheet) t ≡ true ⌝ }
         requires { ⌜ destination < 4 ⌝ }
         ensures { λ r. ⌜ r ≡ firstFailing (shareTests (isOpen (now (setup .entry)) || mayShare (now (sheet .entry)) (now (setup .entry)) self party t) (now (sheet .entry)) self party t destination) ⌝ }
@@ -65,7 +65,7 @@ impl Position {
         receiver: u8,
     ) -> u32
         requires { ⌜ Fit (now sheet) (now setup) ⌝ }
-        requires { ⌜ view ≡ viewBelow (count (now sheet)) self ⌝ }
+        requires { ⌜ view ≡ viewBelow (now sheet) (count (now sheet)) self ⌝ }
         requires { ⌜ i < 8 ⌝ }
         ensures { λ r. ⌜ r ≡ firstFailing (giveTests (isOpen (now (setup .entry)) || mayGive (now (sheet .entry)) (now (setup .entry)) self party i) self party i receiver) ⌝ }
     {
@@ -86,7 +86,7 @@ impl Position {
         destination: u8,
     ) -> u32
         requires { ⌜ Fit (now sheet) (now setup) ⌝ }
-        requires { ⌜ view ≡ viewBelow (count (now sheet)) self ⌝ }
+        requires { ⌜ view ≡ viewBelow (now sheet) (count (now sheet)) self ⌝ }
         requires { ⌜ t < count (now sheet) ⌝ }
         ensures { λ r. ⌜ r ≡ firstFailing (poolTests (sendAllowed (now (sheet .entry)) (now (setup .entry)) self party t && payingFirst (now (sheet .entry)) (now (setup .entry)) self party t) (now (sheet .entry)) (now (setup .entry)) self party t destination) ⌝ }
     {
@@ -107,7 +107,7 @@ impl Position {
         destination: u8,
     ) -> u32
         requires { ⌜ Fit (now sheet) (now setup) ⌝ }
-        requires { ⌜ view ≡ viewBelow (count (now sheet)) self ⌝ }
+        requires { ⌜ view ≡ viewBelow (now sheet) (count (now sheet)) self ⌝ }
         requires { ⌜ t < count (now sheet) ⌝ }
         ensures { λ r. ⌜ r ≡ firstFailing (minerTests (sendAllowed (now (sheet .entry)) (now (setup .entry)) self party t && payingFirst (now (sheet .entry)) (now (setup .entry)) self party t) (now (sheet .entry)) (now (setup .entry)) self party t destination) ⌝ }
     {
@@ -120,7 +120,7 @@ impl Position {
     // Kind 5.
     pub fn include_refusal(self, sheet: &[u8], setup: &[u8], view: View, t: usize) -> u32
         requires { ⌜ Fit (now sheet) (now setup) ⌝ }
-        requires { ⌜ view ≡ viewBelow (count (now sheet)) self ⌝ }
+        requires { ⌜ view ≡ viewBelow (now sheet) (count (now sheet)) self ⌝ }
         requires { ⌜ t < count (now sheet) ⌝ }
         ensures { λ r. ⌜ r ≡ firstFailing (includeTests (now (sheet .entry)) (now (setup .entry)) self t) ⌝ }
     {
@@ -131,7 +131,7 @@ impl Position {
     // Kind 6.
     pub fn mine_refusal(self, sheet: &[u8], setup: &[u8], view: View) -> u32
         requires { ⌜ Fit (now sheet) (now setup) ⌝ }
-        requires { ⌜ view ≡ viewBelow (count (now sheet)) self ⌝ }
+        requires { ⌜ view ≡ viewBelow (now sheet) (count (now sheet)) self ⌝ }
         ensures { λ r. ⌜ r ≡ firstFailing (mineTests (now (sheet .entry)) (now (setup .entry)) self) ⌝ }
     {
         let any = self.any_owed(sheet, setup, view);
@@ -141,7 +141,7 @@ impl Position {
     // Kind 7.
     pub fn bump_refusal(self, sheet: &[u8], setup: &[u8], view: View, t: usize) -> u32
         requires { ⌜ Fit (now sheet) (now setup) ⌝ }
-        requires { ⌜ view ≡ viewBelow (count (now sheet)) self ⌝ }
+        requires { ⌜ view ≡ viewBelow (now sheet) (count (now sheet)) self ⌝ }
         requires { ⌜ t < count (now sheet) ⌝ }
         ensures { λ r. ⌜ r ≡ firstFailing (bumpTests (now (sheet .entry)) (now (setup .entry)) self t) ⌝ }
     {

@@ -10,7 +10,7 @@ use lib.Dec.{eqb, ltb}
 use lib.ListN.{getD}
 use borrow.Author.Tests.{eqb-true, eqb-false, eq-eqb, ne-eqb, ltb-true, lt-ltb, le-ltb, not-true, not-false}
 use Rattle.laws.specs.Booleans.{split, either, clash, and-parts, or-parts, or-right}
-use Rattle.laws.specs.Sets.{joined, setBelow}
+use Rattle.laws.specs.Sets.{joined, setBelow, set-same}
 use Rattle.sheet.specs.Field.{count, signatures, parent}
 use Rattle.sheet.proofs.Parties.{party-miner}
 use Rattle.sheet.specs.Setup.{conduct}
@@ -38,12 +38,6 @@ no-party : (s : List ℕ) (a : ℕ) → a ≡ 2 → isParty s a ≡ false
 no-party s a e = rw e (party-miner s)
 
 -- ---- sets
-
--- two tests that agree below n
-pub set-same : (n : ℕ) (f g : ℕ → Bool) → ((k : ℕ) → k < n → f k ≡ g k) → setBelow n f ≡ setBelow n g
-unfolding setBelow
-set-same zero f g h = refl
-set-same (suc n) f g h = rw (set-same n f g (λ k l. h k (omega arith)), h n (omega arith))
 
 -- a test that fails from n on
 pub set-upto : (m n : ℕ) (f : ℕ → Bool) → n ≤ m → ((k : ℕ) → n ≤ k → k < m → f k ≡ false) → setBelow m f ≡ setBelow n f

@@ -165,7 +165,7 @@ module _ (s u : List ℕ) (p : Position) (o : Outlook) (actor : ℕ) where
     unfolding keptBack
     kept-if-paid b c i l f e = rw (sym i ∙ not-false c l, sym careful-read ∙ not-false (o .careful) f) e
 
-    pub sight-made : (v : View) (back any made : Bool) → v ≡ viewBelow (count s) p → back ≡ keptBack s u p actor → any ≡ anyOwed s u p
+    pub sight-made : (v : View) (back any made : Bool) → v ≡ viewBelow s (count s) p → back ≡ keptBack s u p actor → any ≡ anyOwed s u p
         → made ≡ firstSharesMade p actor → record { view = v; outlook = o; back = back; owed = any; made = made } ≡ sightOf s u p actor
     unfolding sightOf
     sight-made v back any made a b c d = rw (a, b, c, d, read)

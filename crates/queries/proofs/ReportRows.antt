@@ -41,9 +41,9 @@ payee-right p t = refl
 
 -- of a position p: its view, the set of those whose other rival is confirmed, the slot of t and its parent's block
 module _ (s u : List ℕ) (p : Position) (t struck since : ℕ) (few : count s ≤ 32) (l : t < count s)
-    (is-struck : struck ≡ setBelow (count s) (foundIn s (bit (viewBelow (count s) p .confirmed)) true))
+    (is-struck : struck ≡ setBelow (count s) (foundIn s (bit (viewBelow s (count s) p .confirmed)) true))
     (is-since : since ≡ blockOf p (parent s t)) where
-  pub status-right : statusIn s (viewBelow (count s) p) struck t ≡ status s p t
+  pub status-right : statusIn s (viewBelow s (count s) p) struck t ≡ status s p t
   unfolding statusIn status viewBelow
   status-right =
       rw (
@@ -54,7 +54,7 @@ module _ (s u : List ℕ) (p : Position) (t struck since : ℕ) (few : count s �
         set-bit (count s) (isConfirmed p) few t l,
       )
 
-  pub row-right : rowIn s (perDay u) (viewBelow (count s) p) struck (slot p t) since t
+  pub row-right : rowIn s (perDay u) (viewBelow s (count s) p) struck (slot p t) since t
       ≡ record { block = blockOf p t; lock = lockHeightIn s u p t; deadline = deadlineIn s u p t; status = status s p t; payee = payee p t }
   unfolding rowIn lockHeightIn deadlineIn blockOf
   row-right =
@@ -68,7 +68,7 @@ getD-same (x ∷ l) (suc i) a b h = getD-same l i a b (le-of-suc-le-suc h)
 
 -- what a loop over the transactions writes: the parts that it read are those of the position, the count o is that of t
 pub row-written : (s u : List ℕ) (p : Position) (counts : List ℕ) (t d struck since : ℕ) (v : View) (x : Slot) (r : Row) (o : ℕ) → count s ≤ 32
-    → length (p .slots) ≡ 32 → t < count s → d ≡ perDay u → v ≡ viewBelow (count s) p
+    → length (p .slots) ≡ 32 → t < count s → d ≡ perDay u → v ≡ viewBelow s (count s) p
     → struck ≡ setBelow (count s) (foundIn s (bit (v .confirmed)) true) → x ≡ slot p t → since ≡ sinceIn s p t
     → r ≡ rowIn s d v struck x since t → o ≡ getD counts t 0 → length counts ≡ 32
     → rowBytes (r .status) (r .payee) (r .block) (r .lock) (r .deadline) o ≡ fullRow s u p counts t

@@ -31,7 +31,7 @@ fn kept_back(
     actor: u8,
 ) -> bool
     requires { ⌜ Fit (now sheet) (now setup) ⌝ }
-    requires { ⌜ view ≡ viewBelow (count (now sheet)) position ⌝ }
+    requires { ⌜ view ≡ viewBelow (now sheet) (count (now sheet)) position ⌝ }
     requires { ⌜ o ≡ outlook (now sheet) (now setup) position ⌝ }
     ensures { λ r. ⌜ r ≡ keptBack (now (sheet .entry)) (now (setup .entry)) position actor ⌝ }
 {
@@ -55,7 +55,7 @@ fn sight(
     actor: u8,
 ) -> Sight
     requires { ⌜ Fit (now sheet) (now setup) ⌝ }
-    requires { ⌜ view ≡ viewBelow (count (now sheet)) position ⌝ }
+    requires { ⌜ view ≡ viewBelow (now sheet) (count (now sheet)) position ⌝ }
     requires { ⌜ o ≡ outlook (now sheet) (now setup) position ⌝ }
     requires { ⌜ owed ≡ anyOwed (now sheet) (now setup) position ⌝ }
     ensures { λ r. ⌜ r ≡ sightOf (now (sheet .entry)) (now (setup .entry)) position actor ⌝ }
@@ -190,7 +190,7 @@ pub fn open_sets(
     actor: u8,
 ) -> OpenSets
     requires { ⌜ Fit (now sheet) (now setup) ⌝ }
-    requires { ⌜ view ≡ viewBelow (count (now sheet)) position ⌝ }
+    requires { ⌜ view ≡ viewBelow (now sheet) (count (now sheet)) position ⌝ }
     requires { ⌜ o ≡ outlook (now sheet) (now setup) position ⌝ }
     requires { ⌜ owed ≡ anyOwed (now sheet) (now setup) position ⌝ }
     ensures { λ r. ⌜ r ≡ openSets (now (sheet .entry)) (now (setup .entry)) position actor ⌝ }

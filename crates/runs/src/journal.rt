@@ -75,7 +75,7 @@ pub fn run_from(from: Position, sheet: &[u8], setup: &[u8], journal: &[u8]) -> R
         let t = journal[4 * k + 2];
         k += 1;
         if seen::changes_many(view, kind, t) {
-            let anew = position.view(sheet);
+            let anew = position.view_with(sheet, view.limited);
             view = anew;
             continue;
         }

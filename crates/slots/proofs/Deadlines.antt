@@ -1,20 +1,25 @@
--- A deadline by the parent: the rivals are its children, and an opening has none but itself.
+-- A deadline by the parent: the rivals are its children, and an opening has none but itself. Without a lock of a rival there is none.
 -- Assumes nothing.
-use Prim.Native.Nat.{ℕ, zero, suc, _<_}
+use Prim.Native.Nat.{ℕ, zero, suc, _≤_, _<_}
 use native.Mathlib.Nat.{le-refl, min-eq-left}
 use native.Mathlib.Omega.{arith}
 use mathlib.Core.Path.{_≡_, refl, sym, _∙_}
 use mathlib.Core.Bool.{Bool, true, false, _&&_}
 use mathlib.Core.List.{List}
 use lib.Dec.{eqb, ltb}
-use borrow.Author.Tests.{ltb-true}
+use borrow.Author.Tests.{ltb-true, not-false}
 use Rattle.laws.specs.Booleans.{pick, and-parts, fails-by}
 use Rattle.laws.specs.Least.{leastBelow}
-use Rattle.sheet.specs.Field.{count, parent, opening}
+use Rattle.laws.specs.Mask.{bit}
+use Rattle.laws.specs.Sets.{setBelow, set-bit, set-same}
+use Rattle.sheet.specs.Field.{count, parent, lockType, opening}
 use Rattle.sheet.specs.LockHeight.{never, lockHeight}
-use Rattle.slots.specs.Conflict.{conflict}
+use Rattle.slots.specs.Conflict.{conflict, conflictIn}
 use Rattle.slots.specs.Deadline.{deadline}
-use Rattle.slots.proofs.Conflicts.{conflict-siblings, conflict-opening}
+use Rattle.slots.specs.Forms.Conflict.{foundIn}
+use Rattle.slots.specs.Forms.Limited.{hasLock, limitedSet}
+use Rattle.slots.proofs.Conflicts.{conflict-siblings, conflict-opening, none-in}
+use Rattle.slots.proofs.ConflictSets.{conflictIn-same}
 
 -- what a turn finds, where `up` is the parent of t
 pub rival-turn : (s : List ℕ) (d b own up k t h : ℕ) → opening s t ≡ false → up ≡ parent s t
@@ -22,10 +27,10 @@ pub rival-turn : (s : List ℕ) (d b own up k t h : ℕ) → opening s t ≡ fal
     → h ≡ pick (conflict s k t && ltb own (lockHeight s d (λ j. b) k)) (lockHeight s d (λ j. b) k) never
 rival-turn s d b own up k t h o e f = f ∙ rw (e, conflict-siblings s k t o)
 
-least-none : (n : ℕ) (p : ℕ → Bool) (f : ℕ → ℕ) (d : ℕ) → ((k : ℕ) → p k ≡ false) → leastBelow n p f d ≡ d
+least-none : (n : ℕ) (p : ℕ → Bool) (f : ℕ → ℕ) (d : ℕ) → ((k : ℕ) → k < n → p k ≡ false) → leastBelow n p f d ≡ d
 unfolding leastBelow
 least-none zero p f d h = refl
-least-none (suc n) p f d h = rw (least-none n p f d h, h n) (min-eq-left (le-refl d))
+least-none (suc n) p f d h = rw (least-none n p f d (λ k l. h k (omega arith)), h n (omega arith)) (min-eq-left (le-refl d))
 
 pub deadline-opening : (s : List ℕ) (d : ℕ) (block : ℕ → ℕ) (t : ℕ) → opening s t ≡ true → never ≡ deadline s d block t
 unfolding deadline
@@ -34,10 +39,42 @@ deadline-opening s d block t o =
     (least-none (count s)
     (λ k. conflict s k t && ltb (lockHeight s d block t) (lockHeight s d block k))
     (lockHeight s d block) never
-    (λ k.
+    (λ k i.
     fails-by (conflict s k t && ltb (lockHeight s d block t) (lockHeight s d block k))
     (λ y.
     let w = and-parts (conflict s k t) _ y in
     let l : lockHeight s d block t < lockHeight s d block t =
     ltb-true _ _ (rw (conflict-opening s k t o (w .0)) at (w .1)) in
     omega (arith, l))))
+
+-- a height of 0 is above none
+no-lock : (s : List ℕ) (d : ℕ) (block : ℕ → ℕ) (k : ℕ) → hasLock s k ≡ false → lockHeight s d block k ≡ 0
+unfolding hasLock lockHeight
+no-lock s d block k h = rw (not-false (eqb (lockType s k) 0) h)
+
+deadline-unlocked : (s : List ℕ) (d : ℕ) (block : ℕ → ℕ) (t : ℕ) → conflictIn s (hasLock s) t ≡ false → deadline s d block t ≡ never
+unfolding deadline
+deadline-unlocked s d block t none =
+    least-none (count s)
+    (λ k. conflict s k t && ltb (lockHeight s d block t) (lockHeight s d block k))
+    (lockHeight s d block) never
+    (λ k i.
+    fails-by (conflict s k t && ltb (lockHeight s d block t) (lockHeight s d block k))
+    (λ y.
+    let w = and-parts (conflict s k t) _ y in
+    let l : lockHeight s d block t < 0 =
+    ltb-true _ _ (rw (no-lock s d block k (none-in s (hasLock s) t none k i (w .0))) at (w .1)) in
+    omega (arith, l)))
+
+-- the set as the code makes it, and those outside it
+module _ (s : List ℕ) (few : count s ≤ 32) where
+  pub limited-by : setBelow (count s) (foundIn s (bit (setBelow (count s) (hasLock s))) false) ≡ limitedSet s
+  unfolding limitedSet foundIn
+  limited-by =
+      set-same (count s) (conflictIn s (bit (setBelow (count s) (hasLock s)))) (conflictIn s (hasLock s))
+      (λ t l. conflictIn-same s (bit (setBelow (count s) (hasLock s))) (hasLock s) t (set-bit (count s) (hasLock s) few))
+
+  pub deadline-unlimited : (d : ℕ) (block : ℕ → ℕ) (t : ℕ) → t < count s → bit (limitedSet s) t ≡ false → deadline s d block t ≡ never
+  unfolding limitedSet
+  deadline-unlimited d block t l h =
+      deadline-unlocked s d block t (sym (set-bit (count s) (conflictIn s (hasLock s)) few t l) ∙ h)

@@ -6,6 +6,7 @@ ghost use Rattle.slots.specs.Slot.{withPool, withBlock, withConfirmed, s
 pub mod ancestry;
 pub mod conflict;
 pub mod deadline;
+pub mod limited;
 pub mod lock_height;
 pub mod next;
 pub mod party;

@@ -24,11 +24,13 @@ pub enum Decoded {
 }
 
 // What the tests read off a position: the transactions in the pool, in the block being filled and
-// confirmed, as masks; the signatures shared of any; the blocks mined; the keys held.
+// confirmed, as masks; the signatures shared of any; the blocks mined; the keys held. And off the sheet:
+// the transactions that can have a deadline.
 pub struct View {
     pub pool: u32,
     pub block: u32,
     pub confirmed: u32,
+    pub limited: u32,
     pub mined: u16,
     pub shared: u8,
     // by party number, as in a position
@@ -72,6 +74,7 @@ impl View {
             pool: sheet::set::join(self.pool, 0 < x.pool, k),
             block: sheet::set::join(self.block, 0 < x.block, k),
             confirmed: sheet::set::join(self.confirmed, 0 < x.height, k),
+            limited: self.limited,
             mined: self.mined,
             shared: self.shared | x.shared_any(),
             keys,
@@ -88,6 +91,7 @@ impl View {
             pool: w.pool,
             block: w.block,
             confirmed: w.confirmed,
+            limited: w.limited,
             mined,
             shared: w.shared,
             keys,

@@ -9,12 +9,12 @@ use Rattle.dated.proofs.seen_after.Tie as tie
 changes-many-requires : tie.Need-changes-many-requires
 changes-many-requires c κs = search needs
 
-view-requires : tie.Need-view-requires
-view-requires c κs = search needs
+view-with-requires : tie.Need-view-with-requires
+view-with-requires c κs = search needs
 
 returns : tie.Need-returns
 unfolding seenAfter
-returns c = rw (sym (c .before .before .changes-many .ensures) ∙ c .before .if1 .taken) (c .view .ensures)
+returns c = rw (sym (c .before .before .changes-many .ensures) ∙ c .before .if1 .taken) (c .view-with .ensures)
 
 changed-place-requires : tie.Need-changed-place-requires
 changed-place-requires c κs = search needs
@@ -38,7 +38,7 @@ seen-after-spec =
     tie.close
     (tie.spec
     changes-many-requires
-    view-requires
+    view-with-requires
     returns
     changed-place-requires
     mul-x

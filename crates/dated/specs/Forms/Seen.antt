@@ -15,5 +15,5 @@ use Rattle.position.specs.Forms.Seen.{changesMany, changedPlace}
 unfoldable pub seenAfter : List ℕ → View → Position → ℕ → ℕ → View
 seenAfter s v q kind t =
     pick (changesMany v kind t)
-    (viewBelow (count s) q)
+    (viewBelow s (count s) q)
     (viewAfter v (changedPlace kind t) (slot q (changedPlace kind t)) (q .mined) (q .keys))

@@ -6,18 +6,20 @@ use Rattle.laws.specs.Mask.{unionBelow}
 use Rattle.laws.specs.Sets.{setBelow}
 use Rattle.sheet.specs.Field.{count}
 use Rattle.slots.specs.Slot.{sharedAny}
+use Rattle.slots.specs.Forms.Limited.{limitedSet}
 use Rattle.steps.specs.declared.View.{View}
 use Rattle.steps.specs.Forms.Parent.{slotAbove, blockAbove}
 use Rattle.position.specs.declared.Position.{Position}
 use Rattle.position.specs.Position.{slot, inPool, inBlock, isConfirmed}
 
--- of the transactions below n
-unfoldable pub viewBelow : ℕ → Position → View
-viewBelow n p =
+-- of the transactions below n, and those of the sheet that can have a deadline
+unfoldable pub viewBelow : List ℕ → ℕ → Position → View
+viewBelow s n p =
     record {
       pool = setBelow n (inPool p);
       block = setBelow n (inBlock p);
       confirmed = setBelow n (isConfirmed p);
+      limited = limitedSet s;
       mined = p .mined;
       shared = unionBelow n (λ k. sharedAny (slot p k));
       keys = p .keys;

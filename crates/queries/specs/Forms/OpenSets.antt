@@ -68,7 +68,7 @@ keptBack s u p actor = isParty s actor && (isCareful u && canPay s u p actor)
 unfoldable pub sightOf : List ℕ → List ℕ → Position → ℕ → Sight
 sightOf s u p actor =
     record {
-      view = viewBelow (count s) p;
+      view = viewBelow s (count s) p;
       outlook = outlook s u p;
       back = keptBack s u p actor;
       owed = anyOwed s u p;

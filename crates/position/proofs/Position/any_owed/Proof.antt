@@ -1,17 +1,25 @@
--- None where the whole pool is in the block.
-use Rattle.position.proofs.EmptyBlocks.{answer-none-owed}
+-- None where the set is empty.
+use Rattle.position.proofs.Due.{any-due-owed, none-owed}
+use Rattle.laws.specs.Each.{length-of-map}
 use borrow.Author.Needs.{needs}
 use Rattle.position.proofs.Position.any_owed.Statement.{statement}
 use Rattle.position.proofs.Position.any_owed.Tie as tie
 
 returns : tie.Need-returns
-returns c = answer-none-owed _ _ _ _ (c .before .before .before .before .before .pre .0 .checked .sized .few) (c .before .before .before .before .before .pre .1) (c .if1 .taken)
+returns c =
+    let k = c .before .before .before .before .before .before in
+    none-owed _ _ _ _ (k .pre .0 .checked .sized .few) (search (length-of-map, k .good)) (k .pre .1) (search needs) (search needs) (c .if1 .taken)
 
-any-owed-among-requires : tie.Need-any-owed-among-requires
-any-owed-among-requires c κs = search needs
+per-day-requires : tie.Need-per-day-requires
+per-day-requires c κs = search needs
+
+any-due-requires : tie.Need-any-due-requires
+any-due-requires c κs = search needs
 
 returns-2 : tie.Need-returns-2
-returns-2 c = search needs
+returns-2 c =
+    let k = c .before .before .before .before .before .before .before .before in
+    any-due-owed _ _ _ _ (k .pre .0 .checked .sized .few) (search (length-of-map, k .good)) (k .pre .1) (search needs) (search needs) _ _ (c .before .per-day .ensures) (c .any-due .ensures)
 
 pub any-owed-spec : {M : Type 1} → statement M
-any-owed-spec = tie.close (tie.spec returns any-owed-among-requires returns-2)
+any-owed-spec = tie.close (tie.spec returns per-day-requires any-due-requires returns-2)

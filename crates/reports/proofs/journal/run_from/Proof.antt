@@ -13,7 +13,7 @@ use Rattle.reports.proofs.journal.run_from.Tie as tie
 
 abbrev Inv-loop : tie.InvT-loop
 Inv-loop sheet setup journal n dated₀ view₀ k₀ dated view k =
-    (k ≤ n) × (leftFrom sheet setup journal k dated ≡ datedRunFrom sheet setup (journalSteps journal) 0 dated₀) × (view ≡ viewBelow (count sheet) (dated .position))
+    (k ≤ n) × (leftFrom sheet setup journal k dated ≡ datedRunFrom sheet setup (journalSteps journal) 0 dated₀) × (view ≡ viewBelow sheet (count sheet) (dated .position))
 
 abbrev μ-loop : tie.MeasureT-loop
 μ-loop sheet setup journal n dated₀ view₀ k₀ dated view k = n - k

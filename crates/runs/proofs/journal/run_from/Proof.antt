@@ -8,6 +8,7 @@ use Rattle.position.specs.Position.{slot}
 use Rattle.position.specs.Forms.View.{viewBelow}
 use Rattle.position.specs.Forms.Journal.{stepAt}
 use Rattle.position.proofs.SeenAfter.{seen-after}
+use Rattle.position.proofs.Views.{view-limited}
 use Rattle.runs.proofs.Runs.{leftFrom, left-all, left-on, left-stopped, left-ended}
 use borrow.Author.Needs.{needs}
 use Rattle.runs.proofs.journal.run_from.Statement.{statement}
@@ -15,7 +16,7 @@ use Rattle.runs.proofs.journal.run_from.Tie as tie
 
 abbrev Inv-loop : tie.InvT-loop
 Inv-loop sheet setup journal n position₀ view₀ k₀ position view k =
-    (k ≤ n) × (leftFrom sheet setup journal k position ≡ runFrom sheet setup (journalSteps journal) 0 position₀) × (view ≡ viewBelow (count sheet) position)
+    (k ≤ n) × (leftFrom sheet setup journal k position ≡ runFrom sheet setup (journalSteps journal) 0 position₀) × (view ≡ viewBelow sheet (count sheet) position)
 
 abbrev μ-loop : tie.MeasureT-loop
 μ-loop sheet setup journal n position₀ view₀ k₀ position view k = n - k
@@ -65,8 +66,8 @@ add-k c = search needs
 changes-many-requires : tie.Need-changes-many-requires Inv-loop μ-loop
 changes-many-requires c κs = search needs
 
-view-requires-2 : tie.Need-view-requires-2 Inv-loop μ-loop
-view-requires-2 c κs = search needs
+view-with-requires : tie.Need-view-with-requires Inv-loop μ-loop
+view-with-requires c κs = let e = view-limited _ _ _ _ (c .before .before .before .before .before .before .before .before .before .loop .inv .2) in search needs
 
 loop-less : tie.Need-loop-less Inv-loop μ-loop
 loop-less c = search needs
@@ -75,7 +76,7 @@ loop-again : tie.Need-loop-again Inv-loop μ-loop
 loop-again c = (
   omega (arith, c .before .before .before .before .before .before .before .before .before .loop-test .taken),
   left-on _ _ _ _ _ _ _ (c .before .before .before .before .before .before .before .before .before .before .loop .inv .1) (omega (arith, c .before .before .before .before .before .before .before .before .before .loop-test .taken)) (c .before .before .before .before .before .before .before .before .step-seen .ensures) (c .before .before .before .before .before .before .if2 .left),
-  c .view2 .ensures,
+  c .view-with .ensures,
 )
 
 changed-place-requires : tie.Need-changed-place-requires Inv-loop μ-loop
@@ -128,7 +129,7 @@ run-from-spec =
     shared-slice-read-t
     add-k
     changes-many-requires
-    view-requires-2
+    view-with-requires
     loop-less
     loop-again
     changed-place-requires

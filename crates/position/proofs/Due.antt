@@ -1,0 +1,97 @@
+-- The bumps that are owed are those of the pool that wait outside the block and can have a deadline.
+-- Assumes nothing.
+use Prim.Native.Nat.{ℕ, _+_, _-_, _<_, _≤_}
+use native.Mathlib.Omega.{arith}
+use mathlib.Core.Path.{_≡_, refl, sym, _∙_}
+use mathlib.Core.Bool.{Bool, true, false, _&&_, and-true, and-false}
+use mathlib.Core.List.{List}
+use lib.Bits.{bitAnd}
+use lib.Dec.{eqb}
+use lib.ListN.{length}
+use borrow.Author.Tests.{eq-eqb, ne-eqb}
+use Rattle.laws.specs.Booleans.{split}
+use Rattle.laws.specs.Below.{anyBelow, any-start, any-more, any-found, any-upto, any-same, any-all-false}
+use Rattle.laws.specs.Mask.{bit}
+use Rattle.laws.specs.Bits.{bit-and, no-bit}
+use Rattle.laws.specs.Sets.{set-bit, bit-outside}
+use Rattle.sheet.specs.Field.{count}
+use Rattle.sheet.specs.Setup.{perDay}
+use Rattle.sheet.specs.LockHeight.{never}
+use Rattle.slots.specs.Deadline.{deadline}
+use Rattle.slots.specs.Forms.Limited.{limitedSet}
+use Rattle.slots.specs.Forms.Next.{Next}
+use Rattle.slots.proofs.Deadlines.{deadline-unlimited}
+use Rattle.steps.specs.declared.View.{View}
+use Rattle.position.specs.declared.Position.{Position}
+use Rattle.position.specs.Position.{inPool, inBlock, blockOf, deadlineIn}
+use Rattle.position.specs.Owed.{waiting, owed, anyOwed}
+use Rattle.position.specs.Forms.View.{viewBelow, sinceIn}
+use Rattle.position.specs.Forms.Owed.{dueIn}
+use Rattle.position.proofs.SendTests.{deadline-parent, since-parent}
+
+-- a loop over a set: none below its first member, and none up to the next
+module _ (s : List ℕ) (d : ℕ) (p : Position) (m among : ℕ) where
+  no-member : (t : ℕ) → bit among t ≡ false → dueIn s d p m among t ≡ false
+  unfolding dueIn
+  no-member t e = rw e
+
+  pub due-first : (n t : ℕ) → Next among 0 n t → anyBelow t (dueIn s d p m among) ≡ false
+  due-first n t h = any-upto 0 t (dueIn s d p m among) (any-start (dueIn s d p m among)) (λ k l i. no-member k (h .gap k l i))
+
+  -- where h is the deadline that the code found
+  pub due-next : (n t r b h : ℕ) → Next among (t + 1) n r → anyBelow t (dueIn s d p m among) ≡ false → b ≡ sinceIn s p t
+      → h ≡ deadline s d (λ k. b) t → (m + 1 ≡ h → ⊥) → anyBelow r (dueIn s d p m among) ≡ false
+  unfolding dueIn
+  due-next n t r b h g e f a o =
+      any-upto (t + 1) r (dueIn s d p m among)
+      (any-more t (dueIn s d p m among) e
+      (rw (← f, ← a, ne-eqb (m + 1) h o) (and-false (bit among t))))
+      (λ k l i. no-member k (g .gap k l i))
+
+  pub due-found : (n t b h : ℕ) → t < n → bit among t ≡ true → b ≡ sinceIn s p t → h ≡ deadline s d (λ k. b) t → m + 1 ≡ h
+      → true ≡ anyBelow n (dueIn s d p m among)
+  unfolding dueIn
+  due-found n t b h l e f a o =
+      sym (any-found n t (dueIn s d p m among) l (rw (e, ← f, ← a, eq-eqb (m + 1) h o)))
+
+-- where v is the view that the code found
+module _ (s u : List ℕ) (p : Position) (v : View) (few : count s ≤ 32) (slots : length (p .slots) ≡ 32) (e : v ≡ viewBelow s (count s) p) (word : v .block < 4294967296) (mined : v .mined < 65536) where
+  -- the set that the code looks through
+  abbrev among : ℕ
+  among = bitAnd (bitAnd (v .pool) (4294967295 - v .block)) (v .limited)
+
+  among-bit : (t : ℕ) → t < count s → bit among t ≡ (waiting p t && bit (limitedSet s) t)
+  unfolding viewBelow waiting
+  among-bit t l =
+      rw (bit-and (bitAnd (v .pool) (4294967295 - v .block)) (v .limited) t, bit-and (v .pool) (4294967295 - v .block) t, bit-outside (v .block) t word (omega arith))
+      (rw (e, set-bit (count s) (inPool p) few t l, set-bit (count s) (inBlock p) few t l))
+
+  mined-is : v .mined ≡ p .mined
+  unfolding viewBelow
+  mined-is = rw e
+
+  -- no block is at never
+  unlimited : (t : ℕ) → t < count s → bit (limitedSet s) t ≡ false → eqb (p .mined + 1) (deadlineIn s u p t) ≡ false
+  unfolding deadlineIn
+  unlimited t l h =
+      rw (deadline-unlimited s few (perDay u) (blockOf p) t l h)
+      (ne-eqb (p .mined + 1) never (λ q. omega (arith, q, mined, mined-is)))
+
+  due-owed : (t : ℕ) → t < count s → dueIn s (perDay u) p (v .mined) among t ≡ owed s u p t
+  unfolding dueIn owed
+  due-owed t l =
+      rw (among-bit t l, since-parent s p slots t, deadline-parent s u p t, mined-is)
+      (split (bit (limitedSet s) t)
+      (λ y. rw (y, and-true (waiting p t)))
+      (λ y. rw (y, and-false (waiting p t), unlimited t l y) (sym (and-false (waiting p t)))))
+
+  pub any-due-owed : (d : ℕ) (b : Bool) → d ≡ perDay u → b ≡ anyBelow (count s) (dueIn s d p (v .mined) among) → b ≡ anyOwed s u p
+  unfolding anyOwed
+  any-due-owed d b f a = (a ∙ rw f) ∙ any-same (count s) (dueIn s (perDay u) p (v .mined) among) (owed s u p) due-owed
+
+  pub none-owed : among ≡ 0 → false ≡ anyOwed s u p
+  none-owed z =
+      any-due-owed (perDay u) false refl
+      (sym
+      (any-all-false (count s) (dueIn s (perDay u) p (v .mined) among)
+      (λ k l. no-member s (perDay u) p (v .mined) among k (rw z (no-bit k)))))

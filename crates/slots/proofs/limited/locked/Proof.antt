@@ -1,0 +1,54 @@
+-- The set of those below k.
+use Rattle.slots.specs.Forms.Limited.{hasLock}
+use Rattle.laws.specs.Sets.{setBelow, set-start, set-more, set-done}
+use mathlib.Core.Path.{_≡_}
+use Prim.Native.Nat.{_≤_, _-_}
+use borrow.Author.Needs.{needs}
+use Rattle.slots.proofs.limited.locked.Statement.{statement}
+use Rattle.slots.proofs.limited.locked.Tie as tie
+
+abbrev Inv-loop : tie.InvT-loop
+Inv-loop sheet n found₀ k₀ found k = (k ≤ n) × (found ≡ setBelow k (hasLock sheet))
+
+abbrev μ-loop : tie.MeasureT-loop
+μ-loop sheet n found₀ k₀ found k = n - k
+
+count-requires : tie.Need-count-requires Inv-loop μ-loop
+count-requires c κs = search needs
+
+loop-holds : tie.Need-loop-holds Inv-loop μ-loop
+loop-holds c = (search needs, set-start _)
+
+lock-type-requires : tie.Need-lock-type-requires Inv-loop μ-loop
+lock-type-requires c κs = search needs
+
+join-requires : tie.Need-join-requires Inv-loop μ-loop
+join-requires c κs = search needs
+
+add-k : tie.Need-add-k Inv-loop μ-loop
+add-k c = search needs
+
+loop-less : tie.Need-loop-less Inv-loop μ-loop
+loop-less c = search needs
+
+loop-again : tie.Need-loop-again Inv-loop μ-loop
+unfolding hasLock
+loop-again c = (search needs, set-more _ _ _ _ _ (c .before .before .before .loop .inv .1) (c .join .ensures) (rw (c .before .lock-type .ensures)))
+
+returns : tie.Need-returns Inv-loop μ-loop
+returns c = rw (← (c .before .before .count .ensures .is)) (set-done _ _ _ _ (c .before .loop .inv .0) (c .loop-test .left) (c .before .loop .inv .1))
+
+pub locked-spec : {M : Type 1} → statement M
+locked-spec =
+    tie.close
+    (tie.spec
+    Inv-loop
+    μ-loop
+    count-requires
+    loop-holds
+    lock-type-requires
+    join-requires
+    add-k
+    loop-less
+    loop-again
+    returns)

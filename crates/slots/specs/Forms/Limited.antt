@@ -1,0 +1,17 @@
+-- The transactions that can have a deadline.
+-- Assumes nothing.
+use Prim.Native.Nat.{ℕ}
+use mathlib.Core.Bool.{Bool, not}
+use mathlib.Core.List.{List}
+use lib.Dec.{eqb}
+use Rattle.laws.specs.Sets.{setBelow}
+use Rattle.sheet.specs.Field.{count, lockType}
+use Rattle.slots.specs.Conflict.{conflictIn}
+
+-- "lock type (0 none, 1 absolute, 2 since the parent)": k has a lock
+unfoldable pub hasLock : List ℕ → ℕ → Bool
+hasLock s k = not (eqb (lockType s k) 0)
+
+-- "Deadline: the least rival lock height above one's own, else never": those of which some rival has a lock
+unfoldable pub limitedSet : List ℕ → ℕ
+limitedSet s = setBelow (count s) (conflictIn s (hasLock s))
