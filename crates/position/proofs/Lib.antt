@@ -11,6 +11,7 @@ pub mod SendTests
 pub mod MineTests
 pub mod Due
 pub mod Fields
+pub mod Outcomes
 pub mod Outlooks
 pub mod ShareTests
 pub mod FirstSets

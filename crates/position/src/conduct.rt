@@ -18,7 +18,7 @@ ghost use Rattle.sheet.specs.Checked.{Fit};
 ghost use Rattle.slots.specs.Slot.{standing};
 ghost use Rattle.position.specs.FirstShares.{firstSharesMade};
 ghost use Rattle.position.specs.Forms.FirstShares.{firstSet};
-ghost use Rattle.position.specs.Conduct.{phase, late, canPay, payingFirst, sendAllowed};
+ghost use Rattle.position.specs.Conduct.{isOpen, phase, late, mayShare, mayGive, canPay, payingFirst, sendAllowed};
 ghost use Rattle.position.specs.Forms.Outlook.{outlook};
 ghost use Rattle.position.specs.Forms.View.{viewBelow};
 
@@ -180,5 +180,25 @@ impl Position {
             return false;
         }
         !self.held_back(sheet, setup, view, o, party, t)
+    }
+
+    // Whether conduct allows a party to share t, or with 255 its first shares.
+    pub fn may_share(self, sheet: &[u8], setup: &[u8], view: View, party: u8, t: u8) -> bool
+        requires { ⌜ Fit (now sheet) (now setup) ⌝ }
+        requires { ⌜ view ≡ viewBelow (now sheet) (count (now sheet)) self ⌝ }
+        ensures { λ r. ⌜ r ≡ (isOpen (now (setup .entry)) || mayShare (now (sheet .entry)) (now (setup .entry)) self party t) ⌝ }
+    {
+        let o = self.outlook(sheet, setup, view);
+        o.share_allowed(party, t)
+    }
+
+    // Whether conduct allows a party to give signature i.
+    pub fn may_give(self, sheet: &[u8], setup: &[u8], view: View, party: u8, i: u8) -> bool
+        requires { ⌜ Fit (now sheet) (now setup) ⌝ }
+        requires { ⌜ view ≡ viewBelow (now sheet) (count (now sheet)) self ⌝ }
+        ensures { λ r. ⌜ r ≡ (isOpen (now (setup .entry)) || mayGive (now (sheet .entry)) (now (setup .entry)) self party i) ⌝ }
+    {
+        let o = self.outlook(sheet, setup, view);
+        o.give_allowed(party, i)
     }
 }

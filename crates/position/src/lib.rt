@@ -11,8 +11,8 @@ pub mod effect;
 pub mod height;
 pub mod journal;
 mod mined;
+mod outcome;
 mod owed;
-mod refusal;
 pub mod seen;
 pub mod step;
 

@@ -12,7 +12,7 @@ ghost use Rattle.position.specs.Effect.{withMined, afterMine};
 
 impl Position {
     // A mined block: its entries are confirmed and leave the pool, and who conflicts with another of them leaves it too.
-    fn after_entries(mut self, sheet: &[u8], view: View) -> Position
+    pub fn after_entries(mut self, sheet: &[u8], view: View) -> Position
         requires { ⌜ Sized (now sheet) ⌝ }
         requires { ⌜ view ≡ viewBelow (now sheet) (count (now sheet)) self ⌝ }
         requires { ⌜ self .mined < 10000 ⌝ }
@@ -31,28 +31,5 @@ impl Position {
         self.slots = mined;
         self.mined = block;
         self
-    }
-
-    // One block more.
-    fn with_block_more(mut self) -> Position
-        requires { ⌜ self .mined < 10000 ⌝ }
-        ensures { λ r. ⌜ r ≡ withMined (self .mined + 1) self ⌝ }
-    {
-        let block = self.mined + 1;
-        self.mined = block;
-        self
-    }
-
-    // A mined block. An empty one changes only the blocks mined.
-    pub fn after_mine(self, sheet: &[u8], view: View) -> Position
-        requires { ⌜ Sized (now sheet) ⌝ }
-        requires { ⌜ view ≡ viewBelow (now sheet) (count (now sheet)) self ⌝ }
-        requires { ⌜ self .mined < 10000 ⌝ }
-        ensures { λ r. ⌜ r ≡ afterMine (now (sheet .entry)) self ⌝ }
-    {
-        if view.block == 0 {
-            return self.with_block_more();
-        }
-        self.after_entries(sheet, view)
     }
 }

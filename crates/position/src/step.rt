@@ -1,13 +1,20 @@
 // The steps: one method for each kind, one for any step, and one for any four bytes.
 use crate::Position;
 use crate::Stepped;
+use crate::effect;
+use crate::outcome;
 use sheet::refusal;
 use slots::Destination;
 use slots::Step;
 use slots::party;
 use steps::Decoded;
 use steps::View;
+use steps::conduct;
 use steps::decode;
+use steps::mining;
+use steps::parent;
+use steps::sending;
+use steps::sharing;
 ghost use Prim.Native.Nat.{_<_};
 ghost use mathlib.Core.Path.{_≡_};
 ghost use mathlib.Core.Bool.{true};
@@ -20,9 +27,9 @@ ghost use Rattle.position.specs.Play.{takeStep, step};
 ghost use Rattle.position.specs.Forms.View.{viewBelow};
 
 impl Position {
-    // 1 Share.
+    // 1 Share: of one transaction, or with 255 of the party's first shares.
     pub fn share(
-        self,
+        mut self,
         sheet: &[u8],
         setup: &[u8],
         view: View,
@@ -35,15 +42,50 @@ impl Position {
         requires { ⌜ shareable (now sheet) t ≡ true ⌝ }
         ensures { λ r. ⌜ r ≡ takeStep (now (sheet .entry)) (now (setup .entry)) self (Share party t to) ⌝ }
     {
+        if t == 255 {
+            return self.share_all(sheet, setup, view, party, to);
+        }
         let destination = party::destination_number(to);
-        let refusal = self.share_refusal(sheet, setup, view, party, t, destination);
+        let k = sheet::field::wide(t);
+        let allowed = sheet::setup::conduct(setup) == 0
+            || self.may_share(sheet, setup, view, party, t);
+        let held = view.keys(party);
+        let x = self.slots[k];
+        let met = sharing::share_met(sheet, held, x, party, k, destination);
+        let refusal = conduct::conduct_refusal(allowed, met);
+        let shared = effect::shared_slot(sheet, held, party, k, destination, x);
+        let after = outcome::slot_after(refusal, shared, x);
+        self.slots[k] = after;
+        Stepped {
+            refusal,
+            position: self,
+        }
+    }
+
+    // The party's first shares, for the contract.
+    fn share_all(
+        self,
+        sheet: &[u8],
+        setup: &[u8],
+        view: View,
+        party: u8,
+        to: Destination,
+    ) -> Stepped
+        requires { ⌜ Fit (now sheet) (now setup) ⌝ }
+        requires { ⌜ view ≡ viewBelow (now sheet) (count (now sheet)) self ⌝ }
+        requires { ⌜ shareable (now sheet) 255 ≡ true ⌝ }
+        ensures { λ r. ⌜ r ≡ takeStep (now (sheet .entry)) (now (setup .entry)) self (Share party 255 to) ⌝ }
+    {
+        let allowed = self.may_share(sheet, setup, view, party, 255);
+        let met = !self.first_shares_made(party);
+        let refusal = conduct::conduct_refusal(allowed, met);
         if refusal != 0 {
             return Stepped {
                 refusal,
                 position: self,
             };
         }
-        let position = self.after_share(sheet, party, t, destination);
+        let position = self.share_first(sheet, party);
         Stepped {
             refusal: refusal::ACCEPTED,
             position,
@@ -52,7 +94,7 @@ impl Position {
 
     // 2 Give.
     pub fn give(
-        self,
+        mut self,
         sheet: &[u8],
         setup: &[u8],
         view: View,
@@ -66,23 +108,23 @@ impl Position {
         ensures { λ r. ⌜ r ≡ takeStep (now (sheet .entry)) (now (setup .entry)) self (Give party i to) ⌝ }
     {
         let receiver = party::destination_number(to);
-        let refusal = self.give_refusal(sheet, setup, view, party, i, receiver);
-        if refusal != 0 {
-            return Stepped {
-                refusal,
-                position: self,
-            };
-        }
-        let position = self.with_key(receiver, i);
+        let allowed = sheet::setup::conduct(setup) == 0
+            || self.may_give(sheet, setup, view, party, i);
+        let held = view.keys(receiver);
+        let met = sharing::give_met(view.keys(party), held, i);
+        let refusal = conduct::conduct_refusal(allowed, met);
+        let k = sheet::field::wide(receiver);
+        let after = outcome::keys_after(refusal, held, i);
+        self.keys[k] = after;
         Stepped {
-            refusal: refusal::ACCEPTED,
-            position,
+            refusal,
+            position: self,
         }
     }
 
     // 3 Send to pool.
     pub fn send_to_pool(
-        self,
+        mut self,
         sheet: &[u8],
         setup: &[u8],
         view: View,
@@ -97,23 +139,35 @@ impl Position {
     {
         let destination = party::destination_number(to);
         let k = sheet::field::wide(t);
-        let refusal = self.pool_refusal(sheet, setup, view, party, k, destination);
-        if refusal != 0 {
-            return Stepped {
-                refusal,
-                position: self,
-            };
-        }
-        let position = self.after_send(sheet, k, destination);
+        let allowed = sheet::setup::conduct(setup) == 0
+            || self.may_send(sheet, setup, view, party, k);
+        let up = parent::slot_above(sheet, k);
+        let above = self.slots[up];
+        let since = parent::block_above(sheet, k, above.height);
+        let x = self.slots[k];
+        let refusal = sending::pool_refusal(
+            sheet,
+            setup,
+            view,
+            allowed,
+            x,
+            since,
+            party,
+            k,
+            destination,
+        );
+        let sent = sending::sent_slot(sheet, k, destination, x);
+        let after = outcome::slot_after(refusal, sent, x);
+        self.slots[k] = after;
         Stepped {
-            refusal: refusal::ACCEPTED,
-            position,
+            refusal,
+            position: self,
         }
     }
 
     // 4 Hand to miner.
     pub fn hand_to_miner(
-        self,
+        mut self,
         sheet: &[u8],
         setup: &[u8],
         view: View,
@@ -128,23 +182,35 @@ impl Position {
     {
         let destination = party::destination_number(to);
         let k = sheet::field::wide(t);
-        let refusal = self.miner_refusal(sheet, setup, view, party, k, destination);
-        if refusal != 0 {
-            return Stepped {
-                refusal,
-                position: self,
-            };
-        }
-        let position = self.after_hand_in(k, destination);
+        let allowed = sheet::setup::conduct(setup) == 0
+            || self.may_send(sheet, setup, view, party, k);
+        let up = parent::slot_above(sheet, k);
+        let above = self.slots[up];
+        let since = parent::block_above(sheet, k, above.height);
+        let x = self.slots[k];
+        let refusal = sending::miner_refusal(
+            sheet,
+            setup,
+            view,
+            allowed,
+            x,
+            since,
+            party,
+            k,
+            destination,
+        );
+        let handed = effect::handed_slot(destination, x);
+        let after = outcome::slot_after(refusal, handed, x);
+        self.slots[k] = after;
         Stepped {
-            refusal: refusal::ACCEPTED,
-            position,
+            refusal,
+            position: self,
         }
     }
 
     // 5 Include.
     pub fn include(
-        self,
+        mut self,
         sheet: &[u8],
         setup: &[u8],
         view: View,
@@ -158,23 +224,21 @@ impl Position {
         ensures { λ r. ⌜ r ≡ takeStep (now (sheet .entry)) (now (setup .entry)) self (Include party t to) ⌝ }
     {
         let k = sheet::field::wide(t);
-        let refusal = self.include_refusal(sheet, setup, view, k);
-        if refusal != 0 {
-            return Stepped {
-                refusal,
-                position: self,
-            };
-        }
-        let position = self.after_include(k);
+        let any = self.any_owed(sheet, setup, view);
+        let refusal = mining::include_refusal(sheet, view, any, k);
+        let x = self.slots[k];
+        let included = x.with_block(x.pool);
+        let after = outcome::slot_after(refusal, included, x);
+        self.slots[k] = after;
         Stepped {
-            refusal: refusal::ACCEPTED,
-            position,
+            refusal,
+            position: self,
         }
     }
 
-    // 6 Mine.
+    // 6 Mine. An empty block changes only the blocks mined.
     pub fn mine(
-        self,
+        mut self,
         sheet: &[u8],
         setup: &[u8],
         view: View,
@@ -186,17 +250,17 @@ impl Position {
         requires { ⌜ view ≡ viewBelow (now sheet) (count (now sheet)) self ⌝ }
         ensures { λ r. ⌜ r ≡ takeStep (now (sheet .entry)) (now (setup .entry)) self (Mine party t to) ⌝ }
     {
-        let refusal = self.mine_refusal(sheet, setup, view);
-        if refusal != 0 {
-            return Stepped {
-                refusal,
-                position: self,
-            };
+        let any = self.any_owed(sheet, setup, view);
+        let refusal = mining::mine_refusal(view, any);
+        if outcome::entries_after(refusal, view.block) != 0 {
+            let position = self.after_entries(sheet, view);
+            return Stepped { refusal, position };
         }
-        let position = self.after_mine(sheet, view);
+        let mined = outcome::mined_after(refusal, self.mined);
+        self.mined = mined;
         Stepped {
-            refusal: refusal::ACCEPTED,
-            position,
+            refusal,
+            position: self,
         }
     }
 
@@ -216,7 +280,8 @@ impl Position {
         ensures { λ r. ⌜ r ≡ takeStep (now (sheet .entry)) (now (setup .entry)) self (Bump party t to) ⌝ }
     {
         let k = sheet::field::wide(t);
-        let refusal = self.bump_refusal(sheet, setup, view, k);
+        let owed = self.owed(sheet, setup, view, k);
+        let refusal = mining::bump_refusal(owed);
         if refusal != 0 {
             return Stepped {
                 refusal,

@@ -1,5 +1,7 @@
 -- The test, then the effect.
 use Rattle.position.proofs.StepCases.{refuses, accepts}
+use Rattle.steps.specs.Forms.Mining.{bumpTestsIn}
+use Rattle.position.specs.Tests.{bumpTests}
 use Rattle.position.specs.StepRefusal.{tests, stepRefusal}
 use Rattle.position.specs.Effect.{effect}
 use borrow.Author.Needs.{needs}
@@ -9,25 +11,29 @@ use Rattle.position.proofs.Position.bump.Tie as tie
 wide-requires : tie.Need-wide-requires
 wide-requires c κs = search needs
 
+owed-requires : tie.Need-owed-requires
+owed-requires c κs = let p = c .before .before .before .pre in (p .0, (p .1 .0, rw (c .wide .ensures .is) (p .1 .1)))
+
 bump-refusal-requires : tie.Need-bump-refusal-requires
-bump-refusal-requires c κs = let p = c .before .before .before .pre in (p .0, (p .1 .0, rw (c .wide .ensures .is) (p .1 .1)))
+bump-refusal-requires c κs = search needs
 
 returns : tie.Need-returns
-unfolding stepRefusal tests
-returns c = refuses _ _ _ _ _ (rw (← (c .before .before .wide .ensures .is)) (c .before .bump-refusal .ensures)) (c .if1 .taken)
+unfolding stepRefusal tests bumpTests bumpTestsIn
+returns c = refuses _ _ _ _ _ (rw (← (c .before .before .before .wide .ensures .is), ← (c .before .before .owed .ensures)) (c .before .bump-refusal .ensures)) (c .if1 .taken)
 
 after-bump-requires : tie.Need-after-bump-requires
-after-bump-requires c κs = let p = c .before .before .before .before .before .pre in (p .0 .checked .sized, (p .1 .0, rw (c .before .before .wide .ensures .is) (p .1 .1)))
+after-bump-requires c κs = let p = c .before .before .before .before .before .before .pre in (p .0 .checked .sized, (p .1 .0, rw (c .before .before .before .wide .ensures .is) (p .1 .1)))
 
 returns-2 : tie.Need-returns-2
-unfolding stepRefusal tests effect
-returns-2 c = accepts _ _ _ _ _ _ (rw (← (c .before .before .before .wide .ensures .is)) (c .before .before .bump-refusal .ensures)) (c .before .if1 .left) (rw (← (c .before .before .before .wide .ensures .is)) (c .after-bump .ensures))
+unfolding stepRefusal tests bumpTests bumpTestsIn effect
+returns-2 c = accepts _ _ _ _ _ _ (rw (← (c .before .before .before .before .wide .ensures .is), ← (c .before .before .before .owed .ensures)) (c .before .before .bump-refusal .ensures)) (c .before .if1 .left) (rw (← (c .before .before .before .before .wide .ensures .is)) (c .after-bump .ensures))
 
 pub bump-spec : {M : Type 1} → statement M
 bump-spec =
     tie.close
     (tie.spec
     wide-requires
+    owed-requires
     bump-refusal-requires
     returns
     after-bump-requires

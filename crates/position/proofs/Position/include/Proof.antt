@@ -1,8 +1,11 @@
--- The tests, then the effect.
-use Rattle.position.proofs.StepCases.{refuses, accepts}
-use Rattle.position.specs.StepRefusal.{tests, stepRefusal}
-use Rattle.position.specs.Effect.{effect}
+-- The tests, and the slot that is stored.
+use Rattle.position.proofs.Outcomes.{include-outcome}
+use Rattle.position.proofs.MineTests.{include-answer}
+use Rattle.position.specs.Position.{slot}
+use Rattle.position.specs.Effect.{withSlots}
 use native.Mathlib.Omega.{arith}
+use Prim.Native.Nat.{_<_}
+use borrow.Author.Tests.{eq-eqb}
 use borrow.Author.Needs.{needs}
 use Rattle.position.proofs.Position.include.Statement.{statement}
 use Rattle.position.proofs.Position.include.Tie as tie
@@ -10,26 +13,49 @@ use Rattle.position.proofs.Position.include.Tie as tie
 wide-requires : tie.Need-wide-requires
 wide-requires c κs = search needs
 
+any-owed-requires : tie.Need-any-owed-requires
+any-owed-requires c κs = search needs
+
 include-refusal-requires : tie.Need-include-refusal-requires
-include-refusal-requires c κs = let p = c .before .before .before .pre in (p .0, (p .1 .0, rw (c .wide .ensures .is) (p .1 .1)))
+include-refusal-requires c κs = search needs
+
+mul-x : tie.Need-mul-x
+mul-x c = search needs
+
+element-copy-out-x : tie.Need-element-copy-out-x
+element-copy-out-x c = search needs
+
+with-block-requires : tie.Need-with-block-requires
+with-block-requires c κs = search needs
+
+slot-after-requires : tie.Need-slot-after-requires
+slot-after-requires c κs = search needs
+
+mul-after : tie.Need-mul-after
+mul-after c = search needs
+
+element-set-from-after : tie.Need-element-set-from-after
+element-set-from-after c = let l : c .before .before .before .before .before .wide .result < 32 = omega (arith, c .before .before .before .before .before .wide .ensures .is, c .before .before .before .before .before .before .before .before .pre .1 .1, c .before .before .before .before .before .before .before .before .pre .0 .checked .sized .few) in search (needs, l)
 
 returns : tie.Need-returns
-unfolding stepRefusal tests
-returns c = refuses _ _ _ _ _ (rw (← (c .before .before .wide .ensures .is)) (c .before .include-refusal .ensures)) (c .if1 .taken)
-
-after-include-requires : tie.Need-after-include-requires
-after-include-requires c κs = let p = c .before .before .before .before .before .pre in rw (c .before .before .wide .ensures .is) (omega (arith, p .1 .1, p .0 .checked .sized .few))
-
-returns-2 : tie.Need-returns-2
-unfolding stepRefusal tests effect
-returns-2 c = accepts _ _ _ _ _ _ (rw (← (c .before .before .before .wide .ensures .is)) (c .before .before .include-refusal .ensures)) (c .before .if1 .left) (rw (← (c .before .before .before .wide .ensures .is)) (c .after-include .ensures))
+unfolding slot withSlots
+returns c =
+    let p = c .before .before .before .before .before .before .before .before .pre in
+    include-outcome _ _ _ _ _ _ _ _ _ _ (c .before .before .before .before .before .wide .ensures .is) (c .slot-after .ensures)
+    (include-answer _ _ _ (p .0 .checked) _ (rw (c .before .before .before .before .before .wide .ensures .is) (p .1 .1)) _ _ _ (p .1 .0) (c .before .before .before .before .any-owed .ensures) (c .before .before .before .include-refusal .ensures))
+    (c .before .with-block .ensures)
 
 pub include-spec : {M : Type 1} → statement M
 include-spec =
     tie.close
     (tie.spec
     wide-requires
+    any-owed-requires
     include-refusal-requires
-    returns
-    after-include-requires
-    returns-2)
+    mul-x
+    element-copy-out-x
+    with-block-requires
+    slot-after-requires
+    mul-after
+    element-set-from-after
+    returns)

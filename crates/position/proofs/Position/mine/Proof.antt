@@ -1,34 +1,59 @@
--- The tests, then the effect.
-use Rattle.position.proofs.StepCases.{refuses, accepts}
-use Rattle.position.specs.StepRefusal.{tests, stepRefusal}
-use Rattle.position.specs.Effect.{effect}
+-- The tests; then a block with entries, or the blocks mined.
+use Rattle.position.proofs.Outcomes.{outcome, mined-outcome, entries-accepted, entries-of}
+use Rattle.position.proofs.MineTests.{mine-answer}
+use Rattle.position.proofs.EmptyBlocks.{answer-empty}
 use Rattle.position.specs.Tests.{mineTests}
+use Rattle.position.specs.StepRefusal.{tests, stepRefusal}
+use Rattle.position.specs.Effect.{withMined, effect}
 use Rattle.laws.specs.Failing.{passed}
 use borrow.Author.Tests.{ltb-true}
 use mathlib.Core.Path.{refl, sym, _∙_}
+use borrow.Author.Needs.{needs}
 use Rattle.position.proofs.Position.mine.Statement.{statement}
 use Rattle.position.proofs.Position.mine.Tie as tie
 
+any-owed-requires : tie.Need-any-owed-requires
+any-owed-requires c κs = search needs
+
 mine-refusal-requires : tie.Need-mine-refusal-requires
-mine-refusal-requires c κs = let p = c .before .before .pre in (p .0, p .1)
+mine-refusal-requires c κs = search needs
+
+entries-after-requires : tie.Need-entries-after-requires
+entries-after-requires c κs = search needs
+
+after-entries-requires : tie.Need-after-entries-requires
+unfolding mineTests
+after-entries-requires c κs =
+    let p = c .before .before .before .before .before .before .pre in
+    let z = entries-accepted _ _ _ (c .before .entries-after .ensures) (c .if1 .taken) in
+    (p .0 .checked .sized, (p .1, ltb-true _ _ (passed _ refl (sym (mine-answer _ _ _ (c .before .before .before .before .before .before .pre .0 .checked) _ _ _ (c .before .before .before .before .before .before .pre .1) (c .before .before .before .any-owed .ensures) (c .before .before .mine-refusal .ensures)) ∙ z) 23)))
 
 returns : tie.Need-returns
-unfolding stepRefusal tests
-returns c = refuses _ _ _ _ _ (c .before .mine-refusal .ensures) (c .if1 .taken)
+unfolding stepRefusal tests effect
+returns c =
+    let z = entries-accepted _ _ _ (c .before .before .entries-after .ensures) (c .before .if1 .taken) in
+    outcome _ _ _ _ _ (mine-answer _ _ _ (c .before .before .before .before .before .before .before .pre .0 .checked) _ _ _ (c .before .before .before .before .before .before .before .pre .1) (c .before .before .before .before .any-owed .ensures) (c .before .before .before .mine-refusal .ensures)) _ (λ a. c .after-entries .ensures) (λ n. absurd (n z))
 
-after-mine-requires : tie.Need-after-mine-requires
+mined-after-requires : tie.Need-mined-after-requires
 unfolding mineTests
-after-mine-requires c κs = let p = c .before .before .before .before .pre in (p .0 .checked .sized, (p .1, ltb-true _ _ (passed _ refl (sym (c .before .mine-refusal .ensures) ∙ c .if1 .left) 23)))
+mined-after-requires c κs = λ z. ltb-true _ _ (passed _ refl (sym (mine-answer _ _ _ (c .before .before .before .before .before .before .pre .0 .checked) _ _ _ (c .before .before .before .before .before .before .pre .1) (c .before .before .before .any-owed .ensures) (c .before .before .mine-refusal .ensures)) ∙ z) 23)
 
 returns-2 : tie.Need-returns-2
-unfolding stepRefusal tests effect
-returns-2 c = accepts _ _ _ _ _ _ (c .before .before .mine-refusal .ensures) (c .before .if1 .left) (c .after-mine .ensures)
+unfolding stepRefusal tests effect withMined
+returns-2 c =
+    let p = c .before .before .before .before .before .before .before .pre in
+    mined-outcome _ _ _ _ _ (mine-answer _ _ _ (c .before .before .before .before .before .before .before .pre .0 .checked) _ _ _ (c .before .before .before .before .before .before .before .pre .1) (c .before .before .before .before .any-owed .ensures) (c .before .before .before .mine-refusal .ensures)) _
+    (λ z. answer-empty _ _ _ (p .0 .checked .sized .few) (p .1) (entries-of _ _ _ (c .before .before .entries-after .ensures) (c .before .if1 .left) z))
+    (c .mined-after .ensures)
 
 pub mine-spec : {M : Type 1} → statement M
 mine-spec =
     tie.close
     (tie.spec
+    any-owed-requires
     mine-refusal-requires
+    entries-after-requires
+    after-entries-requires
     returns
-    after-mine-requires
+    mined-after-requires
     returns-2)

@@ -1,35 +1,92 @@
--- The test, then the effect.
-use Rattle.position.proofs.StepCases.{refuses, accepts}
-use Rattle.position.specs.StepRefusal.{tests, stepRefusal}
-use Rattle.position.specs.Conduct.{conductAllows}
-use Rattle.position.specs.Effect.{effect}
+-- The first shares; else what conduct allows, the test, and the slot that is stored.
+use Rattle.position.proofs.Outcomes.{keys-read, any-open, share-outcome}
+use Rattle.position.proofs.ShareTests.{one-met, share-answer}
+use Rattle.position.proofs.Fields.{share-one-fits}
+use Rattle.position.specs.Position.{slot}
+use Rattle.position.specs.Effect.{withSlots}
+use Rattle.laws.specs.Booleans.{either}
+use mathlib.Core.Path.{refl, sym, _∙_}
+use native.Mathlib.Omega.{arith}
+use Prim.Native.Nat.{_<_}
+use borrow.Author.Tests.{eq-eqb}
 use borrow.Author.Needs.{needs}
 use Rattle.position.proofs.Position.share.Statement.{statement}
 use Rattle.position.proofs.Position.share.Tie as tie
 
+share-all-requires : tie.Need-share-all-requires
+share-all-requires c κs = let p = c .before .before .before .pre in (p .0, (p .1 .0, rw (← (c .if1 .taken)) (p .1 .1)))
+
+returns : tie.Need-returns
+returns c = rw (c .before .if1 .taken) (c .share-all .ensures)
+
 destination-number-requires : tie.Need-destination-number-requires
 destination-number-requires c κs = search needs
 
-share-refusal-requires : tie.Need-share-refusal-requires
-share-refusal-requires c κs = let p = c .before .before .before .pre in (p .0, (p .1 .0, (p .1 .1, c .destination-number .ensures .1)))
+wide-requires : tie.Need-wide-requires
+wide-requires c κs = search needs
 
-returns : tie.Need-returns
-unfolding stepRefusal tests conductAllows
-returns c = refuses _ _ _ _ _ (rw (← (c .before .before .destination-number .ensures .0)) (c .before .share-refusal .ensures)) (c .if1 .taken)
+conduct-requires : tie.Need-conduct-requires
+conduct-requires c κs = search needs
 
-after-share-requires : tie.Need-after-share-requires
-after-share-requires c κs = let p = c .before .before .before .before .before .pre in (p .0 .checked .sized, (c .before .before .destination-number .ensures .1, p .1 .1))
+may-share-requires : tie.Need-may-share-requires
+may-share-requires c κs = search needs
+
+keys-requires : tie.Need-keys-requires
+keys-requires c κs = search needs
+
+mul-x : tie.Need-mul-x
+mul-x c = search needs
+
+element-copy-out-x : tie.Need-element-copy-out-x
+element-copy-out-x c = let l = share-one-fits _ _ (c .before .before .before .before .before .before .before .before .pre .0 .checked .sized .few) (c .before .before .before .before .before .before .before .before .pre .1 .1) (c .before .before .before .before .before .if1 .left) in search (needs, l)
+
+share-met-requires : tie.Need-share-met-requires
+share-met-requires c κs = let p = c .before .before .before .before .before .before .before .before .before .pre in (p .0 .checked .sized, (rw (c .before .before .before .before .wide .ensures .is) (share-one-fits _ _ (c .before .before .before .before .before .before .before .before .before .pre .0 .checked .sized .few) (c .before .before .before .before .before .before .before .before .before .pre .1 .1) (c .before .before .before .before .before .before .if1 .left)), c .before .before .before .before .before .destination-number .ensures .1))
+
+conduct-refusal-requires : tie.Need-conduct-refusal-requires
+conduct-refusal-requires c κs = search needs
+
+shared-slot-requires : tie.Need-shared-slot-requires
+shared-slot-requires c κs = let p = c .before .before .before .before .before .before .before .before .before .before .before .pre in (p .0 .checked .sized, (rw (c .before .before .before .before .before .before .wide .ensures .is) (share-one-fits _ _ (c .before .before .before .before .before .before .before .before .before .before .before .pre .0 .checked .sized .few) (c .before .before .before .before .before .before .before .before .before .before .before .pre .1 .1) (c .before .before .before .before .before .before .before .before .if1 .left)), c .before .before .before .before .before .before .before .destination-number .ensures .1))
+
+slot-after-requires : tie.Need-slot-after-requires
+slot-after-requires c κs = search needs
+
+mul-after : tie.Need-mul-after
+mul-after c = search needs
+
+element-set-from-after : tie.Need-element-set-from-after
+element-set-from-after c = let f = share-one-fits _ _ (c .before .before .before .before .before .before .before .before .before .before .before .before .before .pre .0 .checked .sized .few) (c .before .before .before .before .before .before .before .before .before .before .before .before .before .pre .1 .1) (c .before .before .before .before .before .before .before .before .before .before .if1 .left) in let l : c .before .before .before .before .before .before .before .before .wide .result < 32 = omega (arith, c .before .before .before .before .before .before .before .before .wide .ensures .is, f, c .before .before .before .before .before .before .before .before .before .before .before .before .before .pre .0 .checked .sized .few) in search (needs, l)
 
 returns-2 : tie.Need-returns-2
-unfolding stepRefusal tests conductAllows effect
-returns-2 c = accepts _ _ _ _ _ _ (rw (← (c .before .before .before .destination-number .ensures .0)) (c .before .before .share-refusal .ensures)) (c .before .if1 .left) (rw (← (c .before .before .before .destination-number .ensures .0)) (c .after-share .ensures))
+unfolding slot withSlots
+returns-2 c =
+    let p = c .before .before .before .before .before .before .before .before .before .before .before .before .before .pre in
+    let kt = c .before .before .before .before .before .before .before .before .wide .ensures .is in
+    let other = c .before .before .before .before .before .before .before .before .before .before .if1 .left in
+    let held = keys-read _ _ _ _ _ (p .1 .0) (c .before .before .before .before .before .keys .ensures) in
+    let allowed = either (c .before .before .before .before .before .before .if2 .came) (λ w. w .1 ∙ eq-eqb _ _ (w .0 .taken) ∙ any-open _ _ (sym (c .before .before .before .before .before .before .before .conduct .ensures) ∙ w .0 .taken)) (λ w. w .2 ∙ w .1 .ensures) in
+    share-outcome _ _ _ _ _ _ _ _ _ _ _ kt (c .before .before .before .before .before .before .before .before .before .destination-number .ensures .0) (c .slot-after .ensures) (λ z. other (sym kt ∙ z))
+    (share-answer _ _ _ _ _ _ _ _ _ (c .before .before .conduct-refusal .ensures) allowed ((c .before .before .before .share-met .ensures ∙ rw (held, kt) refl) ∙ one-met _ _ _ _ _ other))
+    (c .before .shared-slot .ensures ∙ rw held refl)
 
 pub share-spec : {M : Type 1} → statement M
 share-spec =
     tie.close
     (tie.spec
-    destination-number-requires
-    share-refusal-requires
+    share-all-requires
     returns
-    after-share-requires
+    destination-number-requires
+    wide-requires
+    conduct-requires
+    may-share-requires
+    keys-requires
+    mul-x
+    element-copy-out-x
+    share-met-requires
+    conduct-refusal-requires
+    shared-slot-requires
+    slot-after-requires
+    mul-after
+    element-set-from-after
     returns-2)
