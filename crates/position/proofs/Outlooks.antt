@@ -109,10 +109,10 @@ module _ (s u : List ℕ) (p : Position) (v : View) (o : Outlook) (party : ℕ) 
   unfoldable pub paysAt : ℕ → Bool
   paysAt t = paysIn (sendAllowedIn s o party t) s u v (slot p t) (sinceIn s p t) party t
 
-  pub pays-turn : (t up since : ℕ) (allowed r : Bool) → up ≡ slotAbove s t → since ≡ blockAbove s t (slot p up .height)
-      → allowed ≡ sendAllowedIn s o party t → r ≡ paysIn allowed s u v (slot p t) since party t → r ≡ paysAt t
+  pub pays-turn : (t up since : ℕ) (r : Bool) → up ≡ slotAbove s t → since ≡ blockAbove s t (slot p up .height)
+      → r ≡ paysIn (sendAllowedIn s o party t) s u v (slot p t) since party t → r ≡ paysAt t
   unfolding paysAt sinceIn
-  pays-turn t up since allowed r a b c d = rw (← a, ← b, ← c) d
+  pays-turn t up since r a b d = rw (← a, ← b) d
 
   module _ (fit : Fit s u) (slots : length (p .slots) ≡ 32) (view : v ≡ viewBelow s (count s) p) (read : o ≡ outlook s u p) where
     all-paid : anyBelow (count s) paysAt ≡ canPay s u p party

@@ -134,8 +134,7 @@ impl Position {
             let up = parent::slot_above(sheet, t);
             let above = self.slots[up];
             let since = parent::block_above(sheet, t, above.height);
-            let allowed = o.send_allowed(sheet, party, t);
-            if sending::pays(sheet, setup, view, allowed, x, since, party, t) {
+            if sending::pays(sheet, setup, view, o, x, since, party, t) {
                 return true;
             }
             t += 1;

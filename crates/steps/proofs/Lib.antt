@@ -1,4 +1,5 @@
 pub mod Kept
+pub mod NoParent
 pub mod PoolTests
 pub mod Reached
 pub mod RightFields

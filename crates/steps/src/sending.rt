@@ -1,4 +1,5 @@
 // The tests of kinds 3 and 4, over a view, the slot x of the transaction and `since`, its parent's block.
+use crate::Outlook;
 use crate::View;
 use crate::parent;
 use sheet::refusal;
@@ -19,6 +20,7 @@ ghost use Rattle.slots.specs.Deadline.{deadline};
 ghost use Rattle.slots.specs.Slot.{entryFor, withPool, withShared};
 ghost use Rattle.slots.specs.Signatures.{exposedMask};
 ghost use Rattle.steps.specs.Forms.View.{sentSet, placedSet, keysIn, senderIn};
+ghost use Rattle.steps.specs.Forms.Conduct.{sendAllowedIn};
 ghost use Rattle.steps.specs.Forms.Sending.{sendTestsIn, poolTestsIn, minerTestsIn, paysIn};
 
 impl View {
@@ -189,12 +191,12 @@ pub fn sent_slot(sheet: &[u8], t: usize, destination: u8, x: Slot) -> Slot
     shared.with_pool(destination + 1)
 }
 
-// Whether t pays the party and can be sent by it, by kind 3 or by kind 4.
+// Whether t pays the party and can be sent by it, by kind 3 or by kind 4. A parent that is nowhere rules out both.
 pub fn pays(
     sheet: &[u8],
     setup: &[u8],
     view: View,
-    allowed: bool,
+    o: Outlook,
     x: Slot,
     since: u16,
     party: u8,
@@ -202,11 +204,15 @@ pub fn pays(
 ) -> bool
     requires { ⌜ Fit (now sheet) (now setup) ⌝ }
     requires { ⌜ t < count (now sheet) ⌝ }
-    ensures { λ r. ⌜ r ≡ paysIn allowed (now (sheet .entry)) (now (setup .entry)) view x since party t ⌝ }
+    ensures { λ r. ⌜ r ≡ paysIn (sendAllowedIn (now (sheet .entry)) o party t) (now (sheet .entry)) (now (setup .entry)) view x since party t ⌝ }
 {
     if !party::is_payee(sheet, t, party) {
         return false;
     }
+    if !parent::parent_there(sheet, view.pool | view.placed(), t) {
+        return false;
+    }
+    let allowed = o.send_allowed(sheet, party, t);
     if pool_refusal(sheet, setup, view, allowed, x, since, party, t, party) == 0 {
         return true;
     }

@@ -41,17 +41,14 @@ element-copy-out-above c = search needs
 block-above-requires : tie.Need-block-above-requires Inv-loop μ-loop
 block-above-requires c κs = search needs
 
-send-allowed-requires : tie.Need-send-allowed-requires Inv-loop μ-loop
-send-allowed-requires c κs = search needs
-
 pays-requires : tie.Need-pays-requires Inv-loop μ-loop
 pays-requires c κs = search needs
 
 returns : tie.Need-returns Inv-loop μ-loop
 unfolding slot
 returns c =
-    let l : length (c .before .before .before .before .before .before .before .before .before .before .before .before .args .t1 .slots) ≡ 32 = search (length-of-map, c .before .before .before .before .before .before .before .before .before .before .before .before .good) in
-    pays-found _ _ _ _ _ _ (c .before .before .before .before .before .before .before .before .before .before .before .before .pre .0) l (c .before .before .before .before .before .before .before .before .before .before .before .before .pre .1 .0) (c .before .before .before .before .before .before .before .before .before .before .before .before .pre .1 .1) _ _ (c .before .before .before .before .before .before .before .before .before .count .ensures .is) (c .before .before .before .before .before .before .before .loop-test .taken) (sym (pays-turn _ _ _ _ _ _ _ _ _ _ _ (c .before .before .before .before .before .slot-above .ensures .0) (c .before .before .before .block-above .ensures) (c .before .before .send-allowed .ensures) (c .before .pays .ensures)) ∙ c .if1 .taken)
+    let l : length (c .before .before .before .before .before .before .before .before .before .before .before .args .t1 .slots) ≡ 32 = search (length-of-map, c .before .before .before .before .before .before .before .before .before .before .before .good) in
+    pays-found _ _ _ _ _ _ (c .before .before .before .before .before .before .before .before .before .before .before .pre .0) l (c .before .before .before .before .before .before .before .before .before .before .before .pre .1 .0) (c .before .before .before .before .before .before .before .before .before .before .before .pre .1 .1) _ _ (c .before .before .before .before .before .before .before .before .count .ensures .is) (c .before .before .before .before .before .before .loop-test .taken) (sym (pays-turn _ _ _ _ _ _ _ _ _ _ (c .before .before .before .before .slot-above .ensures .0) (c .before .before .block-above .ensures) (c .before .pays .ensures)) ∙ c .if1 .taken)
 
 add-t : tie.Need-add-t Inv-loop μ-loop
 add-t c = search needs
@@ -61,7 +58,7 @@ loop-less c = search needs
 
 loop-again : tie.Need-loop-again Inv-loop μ-loop
 unfolding slot
-loop-again c = (search needs, any-more _ _ (c .before .before .before .before .before .before .before .before .loop .inv .1) (sym (pays-turn _ _ _ _ _ _ _ _ _ _ _ (c .before .before .before .before .before .slot-above .ensures .0) (c .before .before .before .block-above .ensures) (c .before .before .send-allowed .ensures) (c .before .pays .ensures)) ∙ c .if1 .left))
+loop-again c = (search needs, any-more _ _ (c .before .before .before .before .before .before .before .loop .inv .1) (sym (pays-turn _ _ _ _ _ _ _ _ _ _ (c .before .before .before .before .slot-above .ensures .0) (c .before .before .block-above .ensures) (c .before .pays .ensures)) ∙ c .if1 .left))
 
 returns-2 : tie.Need-returns-2 Inv-loop μ-loop
 returns-2 c =
@@ -82,7 +79,6 @@ can-pay-spec =
     mul-above
     element-copy-out-above
     block-above-requires
-    send-allowed-requires
     pays-requires
     returns
     add-t

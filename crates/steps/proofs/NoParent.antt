@@ -1,0 +1,58 @@
+-- A transaction whose parent is nowhere can be sent by neither kind.
+-- Assumes nothing.
+use Prim.Native.Nat.{ℕ}
+use mathlib.Core.Path.{_≡_, refl, sym, _∙_}
+use mathlib.Core.Bool.{Bool, true, false, _&&_, _||_}
+use mathlib.Core.List.{List}
+use lib.Bits.{bitOr}
+use lib.Dec.{eqb}
+use borrow.Author.Tests.{eqb-true}
+use Rattle.laws.specs.Booleans.{either, or-parts, or-right, clash, fails-by}
+use Rattle.laws.specs.Failing.{firstFailing, passed}
+use Rattle.laws.specs.Mask.{bit}
+use Rattle.laws.specs.Bits.{bit-or}
+use Rattle.sheet.specs.Refusal.{accepted}
+use Rattle.sheet.specs.Field.{parent, opening}
+use Rattle.slots.specs.declared.Slot.{Slot}
+use Rattle.slots.specs.Ancestry.{hasParent}
+use Rattle.slots.specs.Destination.{isPayee}
+use Rattle.steps.specs.declared.View.{View}
+use Rattle.steps.specs.Forms.View.{sentSet, placedSet}
+use Rattle.steps.specs.Forms.Sending.{sendTestsIn, poolTestsIn, minerTestsIn, paysIn}
+
+-- in the pool, in the block or confirmed
+abbrev somewhere : View → ℕ
+somewhere v = bitOr (v .pool) (placedSet v)
+
+-- a larger set has the parent too
+wider : (s : List ℕ) (m n t : ℕ) → ((k : ℕ) → bit m k ≡ true → bit n k ≡ true) → hasParent s (bit m) t ≡ true → hasParent s (bit n) t ≡ true
+unfolding hasParent
+wider s m n t f h =
+    either (or-parts (opening s t) (bit m (parent s t)) h) (λ y. rw y) (λ y. or-right (opening s t) (bit n (parent s t)) (f (parent s t) y))
+
+placed-somewhere : (v : View) (k : ℕ) → bit (placedSet v) k ≡ true → bit (somewhere v) k ≡ true
+placed-somewhere v k h = bit-or (v .pool) (placedSet v) k ∙ or-right (bit (v .pool) k) (bit (placedSet v) k) h
+
+sent-somewhere : (v : View) (k : ℕ) → bit (sentSet v) k ≡ true → bit (somewhere v) k ≡ true
+unfolding sentSet placedSet
+sent-somewhere v k h =
+    either (or-parts (bit (v .pool) k) (bit (v .confirmed) k) (sym (bit-or (v .pool) (v .confirmed) k) ∙ h))
+    (λ y. bit-or (v .pool) (placedSet v) k ∙ rw y)
+    (λ y. placed-somewhere v k (bit-or (v .block) (v .confirmed) k ∙ or-right (bit (v .block) k) (bit (v .confirmed) k) y))
+
+module _ (allowed : Bool) (s u : List ℕ) (v : View) (x : Slot) (since party t : ℕ) (none : hasParent s (bit (somewhere v)) t ≡ false) where
+  not-pooled : eqb (firstFailing (poolTestsIn allowed s u v x since party t party)) accepted ≡ false
+  unfolding poolTestsIn sendTestsIn
+  not-pooled =
+      fails-by (eqb (firstFailing (poolTestsIn allowed s u v x since party t party)) accepted)
+      (λ e. clash (wider s (sentSet v) (somewhere v) t (sent-somewhere v) (passed _ refl (eqb-true _ accepted e) 15)) none)
+
+  not-handed : eqb (firstFailing (minerTestsIn allowed s u v x since party t party)) accepted ≡ false
+  unfolding minerTestsIn sendTestsIn
+  not-handed =
+      fails-by (eqb (firstFailing (minerTestsIn allowed s u v x since party t party)) accepted)
+      (λ e. clash (wider s (placedSet v) (somewhere v) t (placed-somewhere v) (passed _ refl (eqb-true _ accepted e) 15)) none)
+
+  pub pays-none : isPayee s t party ≡ true → false ≡ paysIn allowed s u v x since party t
+  unfolding paysIn
+  pays-none y = rw (y, not-pooled, not-handed)
