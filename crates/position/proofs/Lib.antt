@@ -6,6 +6,7 @@ pub mod Views
 pub mod Fits
 pub mod BlockSets
 pub mod NoEntries
+pub mod Rewriting
 pub mod EmptyBlocks
 pub mod SendTests
 pub mod MineTests

@@ -18,7 +18,7 @@ use Rattle.slots.specs.Ancestry.{inAncestry}
 use Rattle.slots.specs.Forms.Line.{lineSet}
 use Rattle.steps.specs.declared.View.{View}
 use Rattle.steps.specs.Mined.{confirmEntry}
-use Rattle.steps.specs.Forms.Blocks.{minedSlot, bumpedSlot, changedSlot, entersIn, Outside}
+use Rattle.steps.specs.Forms.Blocks.{minedSlot, bumpedSlot, entersIn, Outside}
 use Rattle.steps.proofs.Unmoved.{pool-out, block-out}
 use Rattle.position.specs.declared.Position.{Position}
 use Rattle.position.specs.Position.{slot, inPool, inBlock}
@@ -43,8 +43,8 @@ module _ (s : List ℕ) (p : Position) (v : View) (few : count s ≤ 32) (e : v 
         no-entry (slot p t .block) (sym (set-bit (count s) (inBlock p) few t l) ∙ ap (λ (x : View). bit (x .block) t) (sym e) ∙ w .1),
       )
 
-  pub mined-outside : (b n m : ℕ) → Outside s (record { mine = true; block = b; entering = n; leaving = m }) (bitOr (v .pool) (v .block)) (p .slots)
-  unfolding changedSlot minedSlot slot
+  pub mined-outside : (b n m : ℕ) → Outside s (minedSlot s b n m) (bitOr (v .pool) (v .block)) (p .slots)
+  unfolding minedSlot slot
   mined-outside b n m =
       record {
         same = λ t l h.
@@ -53,8 +53,8 @@ module _ (s : List ℕ) (p : Position) (v : View) (few : count s ≤ 32) (e : v 
       }
 
   pub bumped-outside : (t n m : ℕ) → n ≡ setBelow (count s) (entersIn v (lineSet s t))
-      → Outside s (record { mine = false; block = 0; entering = n; leaving = m }) (bitOr (v .pool) (v .block)) (p .slots)
-  unfolding changedSlot bumpedSlot slot entersIn
+      → Outside s (bumpedSlot s n m) (bitOr (v .pool) (v .block)) (p .slots)
+  unfolding bumpedSlot slot entersIn
   bumped-outside t n m f =
       record {
         same = λ k l h.

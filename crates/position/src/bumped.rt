@@ -1,9 +1,8 @@
 // What a bump does to a position: kind 7.
 use crate::Position;
 use slots::conflict;
-use steps::Change;
+use slots::next;
 use steps::View;
-use steps::blocks;
 use steps::bumped;
 ghost use Prim.Native.Nat.{_<_};
 ghost use mathlib.Core.Path.{_≡_};
@@ -21,15 +20,15 @@ impl Position {
     {
         let entering = bumped::entering(sheet, view, t);
         let leaving = conflict::conflicts_of(sheet, entering, false);
-        let slots = self.slots;
-        let change = Change {
-            mine: false,
-            block: 0,
-            entering,
-            leaving,
-        };
-        let bumped = blocks::changed_slots(slots, sheet, change, view.pool | view.block);
-        self.slots = bumped;
+        let there = view.pool | view.block;
+        let n = sheet::field::count(sheet);
+        let mut k = next::next(there, 0, n);
+        while k < n {
+            let x = self.slots[k];
+            let y = bumped::bumped_slot(sheet, entering, leaving, k, x);
+            self.slots[k] = y;
+            k = next::next(there, k + 1, n);
+        }
         self
     }
 }

@@ -1,9 +1,9 @@
 // What a mined block does to a position: kind 6.
 use crate::Position;
 use slots::conflict;
-use steps::Change;
+use slots::next;
 use steps::View;
-use steps::blocks;
+use steps::mined;
 ghost use Prim.Native.Nat.{_+_, _<_};
 ghost use mathlib.Core.Path.{_≡_};
 ghost use Rattle.sheet.specs.Field.{count, Sized};
@@ -19,16 +19,16 @@ impl Position {
         ensures { λ r. ⌜ r ≡ afterMine (now (sheet .entry)) self ⌝ }
     {
         let leaving = conflict::conflicts_of(sheet, view.block, true);
-        let slots = self.slots;
         let block = self.mined + 1;
-        let change = Change {
-            mine: true,
-            block,
-            entering: view.block,
-            leaving,
-        };
-        let mined = blocks::changed_slots(slots, sheet, change, view.pool | view.block);
-        self.slots = mined;
+        let there = view.pool | view.block;
+        let n = sheet::field::count(sheet);
+        let mut t = next::next(there, 0, n);
+        while t < n {
+            let x = self.slots[t];
+            let y = mined::mined_slot(sheet, block, view.block, leaving, t, x);
+            self.slots[t] = y;
+            t = next::next(there, t + 1, n);
+        }
         self.mined = block;
         self
     }

@@ -3,7 +3,6 @@ ghost use Prim.Native.Nat.{_<_};
 ghost use mathlib.Core.Path.{_≡_};
 ghost use Rattle.steps.specs.Forms.View.{viewWith, viewAfter};
 
-pub mod blocks;
 pub mod bumped;
 pub mod conduct;
 pub mod decode;
@@ -52,15 +51,6 @@ pub struct Outlook {
     pub knows: bool,
     // what Bob has for success
     pub bobhas: u8,
-}
-
-// A change of the slots of all transactions: a mined block, with its number, its entries, which enter the chain, and those
-// with another rival among them; or a bump, with those that enter the block and those with a rival among them.
-pub struct Change {
-    pub mine: bool,
-    pub block: u16,
-    pub entering: u32,
-    pub leaving: u32,
 }
 
 impl View {

@@ -13,7 +13,6 @@ use Rattle.slots.specs.declared.Slot.{Slot}
 use Rattle.slots.specs.Slot.{emptySlot, withPool, withBlock}
 use Rattle.slots.specs.Ancestry.{inAncestry}
 use Rattle.steps.specs.declared.View.{View}
-use Rattle.steps.specs.declared.Change.{Change}
 use Rattle.steps.specs.Mined.{confirmEntry}
 
 -- confirmed in block b if it was in the block, out of the pool if it enters the chain or its line meets the set
@@ -25,13 +24,9 @@ unfoldable pub bumpedSlot : List ℕ → ℕ → ℕ → ℕ → Slot → Slot
 bumpedSlot s entering leaving t x =
     pick (bit entering t) (withBlock (x .pool) x) (pick (inAncestry s (bit leaving) t) (withBlock 0 x) x)
 
--- one of the two
-unfoldable pub changedSlot : List ℕ → Change → ℕ → Slot → Slot
-changedSlot s c t x = pick (c .mine) (minedSlot s (c .block) (c .entering) (c .leaving) t x) (bumpedSlot s (c .entering) (c .leaving) t x)
-
--- the slots of the transactions outside the set `there` stay as they are
-pub record Outside (s : List ℕ) (c : Change) (there : ℕ) (l : List Slot) : Type 0 where
-  pub same : (t : ℕ) → t < count s → bit there t ≡ false → changedSlot s c t (getD l t emptySlot) ≡ getD l t emptySlot
+-- the slots of the transactions outside the set `there` stay as they are by f
+pub record Outside (s : List ℕ) (f : ℕ → Slot → Slot) (there : ℕ) (l : List Slot) : Type 0 where
+  pub same : (t : ℕ) → t < count s → bit there t ≡ false → f t (getD l t emptySlot) ≡ getD l t emptySlot
 
 -- k waits outside the block and is of a line
 unfoldable pub entersIn : View → ℕ → ℕ → Bool

@@ -1,33 +1,102 @@
--- The slots, and one block more.
+-- The slots below t, the next of the set, are done; then the blocks mined.
+use Rattle.position.proofs.Rewriting.{Rewritten, rewritten-start, rewritten-more, rewritten-done}
 use Rattle.position.proofs.BlockSets.{mined-right}
 use Rattle.position.proofs.NoEntries.{mined-outside}
-use Rattle.steps.specs.Forms.Blocks.{changedSlot}
 use Rattle.position.specs.Effect.{withSlots, changeSlots, withMined, afterMine}
+use Rattle.position.specs.Position.{slot}
+use Rattle.steps.specs.Forms.Blocks.{minedSlot}
 use Rattle.steps.specs.declared.View.{View}
 use Rattle.slots.specs.Forms.Conflict.{foundIn}
 use Rattle.sheet.specs.Field.{count}
-use Rattle.laws.specs.Sets.{setBelow}
 use Rattle.laws.specs.Mask.{bit}
+use Rattle.laws.specs.Sets.{setBelow}
+use Rattle.laws.specs.Each.{length-of-map}
+use lib.ListN.{length}
 use mathlib.Core.Bool.{true}
-use mathlib.Core.Path.{ap, _∙_}
+use mathlib.Core.Path.{_≡_, refl, ap, _∙_}
+use Prim.Native.Nat.{_+_, _≤_, _-_}
 use denote.Ref.{now}
 use borrow.Author.Needs.{needs}
 use Rattle.position.proofs.Position.after_entries.Statement.{statement}
 use Rattle.position.proofs.Position.after_entries.Tie as tie
 
-conflicts-of-requires : tie.Need-conflicts-of-requires
+abbrev Inv-loop : tie.InvT-loop
+Inv-loop sheet view self₀ leaving block there n t₀ self t = (t ≤ n) × Rewritten (minedSlot sheet block (view .block) leaving) t self₀ self
+
+abbrev μ-loop : tie.MeasureT-loop
+μ-loop sheet view self₀ leaving block there n t₀ self t = n - t
+
+conflicts-of-requires : tie.Need-conflicts-of-requires Inv-loop μ-loop
 conflicts-of-requires c κs = search needs
 
-add-block : tie.Need-add-block
+add-block : tie.Need-add-block Inv-loop μ-loop
 add-block c = search needs
 
-changed-slots-requires : tie.Need-changed-slots-requires
-changed-slots-requires c κs = (c .before .before .before .before .before .pre .0, mined-outside _ _ _ (c .before .before .before .before .before .pre .0 .few) (c .before .before .before .before .before .pre .1 .0) _ _ _)
+count-requires : tie.Need-count-requires Inv-loop μ-loop
+count-requires c κs = search needs
 
-returns : tie.Need-returns
-unfolding afterMine withMined changeSlots withSlots changedSlot
-returns c = rw (c .changed-slots .ensures, mined-right (now (c .before .before .before .before .before .before .args .sheet)) (c .before .before .before .before .before .before .args .self) (c .before .before .before .before .before .before .args .view .block) (c .before .before .before .before .conflicts-of .result) (search needs) (ap (λ (v : View). v .block) (c .before .before .before .before .before .before .pre .1 .0)) (c .before .before .before .before .conflicts-of .ensures ∙ ap (λ (v : View). setBelow (count (now (c .before .before .before .before .before .before .args .sheet))) (foundIn (now (c .before .before .before .before .before .before .args .sheet)) (bit (v .block)) true)) (c .before .before .before .before .before .before .pre .1 .0)))
+next-requires : tie.Need-next-requires Inv-loop μ-loop
+next-requires c κs = search needs
+
+loop-holds : tie.Need-loop-holds Inv-loop μ-loop
+loop-holds c =
+    let l : length (c .before .before .before .before .before .args .t1 .slots) ≡ 32 = search (length-of-map, c .before .before .before .before .before .good) in
+    (c .next .ensures .high, rewritten-start _ _ _ _ (mined-outside _ _ _ (c .before .before .before .before .before .pre .0 .few) (c .before .before .before .before .before .pre .1 .0) _ _ _) _ (c .before .count .ensures .is) _ l (c .next .ensures))
+
+mul-x : tie.Need-mul-x Inv-loop μ-loop
+mul-x c = search needs
+
+element-copy-out-x : tie.Need-element-copy-out-x Inv-loop μ-loop
+element-copy-out-x c = search needs
+
+mined-slot-requires : tie.Need-mined-slot-requires Inv-loop μ-loop
+mined-slot-requires c κs = search needs
+
+mul-y : tie.Need-mul-y Inv-loop μ-loop
+mul-y c = search needs
+
+element-set-from-y : tie.Need-element-set-from-y Inv-loop μ-loop
+element-set-from-y c = search needs
+
+add-next : tie.Need-add-next Inv-loop μ-loop
+add-next c = search needs
+
+next-requires-2 : tie.Need-next-requires-2 Inv-loop μ-loop
+next-requires-2 c κs = search needs
+
+loop-less : tie.Need-loop-less Inv-loop μ-loop
+loop-less c = search needs
+
+loop-again : tie.Need-loop-again Inv-loop μ-loop
+unfolding withSlots slot
+loop-again c = (c .next2 .ensures .high, rewritten-more _ _ _ _ (mined-outside _ _ _ (c .before .before .before .before .before .before .before .before .before .before .pre .0 .few) (c .before .before .before .before .before .before .before .before .before .before .pre .1 .0) _ _ _) _ (c .before .before .before .before .before .before .count .ensures .is) _ _ _ _ (c .before .before .before .before .loop .inv .1) (c .before .mined-slot .ensures) (c .next2 .ensures))
+
+returns : tie.Need-returns Inv-loop μ-loop
+unfolding afterMine withMined changeSlots withSlots
+returns c =
+    let s = now (c .before .before .before .before .before .before .before .args .sheet) in
+    let done = rewritten-done _ _ _ _ (mined-outside _ _ _ (c .before .before .before .before .before .before .before .pre .0 .few) (c .before .before .before .before .before .before .before .pre .1 .0) _ _ _) _ (c .before .before .before .count .ensures .is) _ _ (c .before .loop .inv .1) (c .before .loop .inv .0) (c .loop-test .left) in
+    ap (withMined (c .before .before .before .before .before .before .before .args .t1 .mined + 1)) done
+    ∙ rw (mined-right s (c .before .before .before .before .before .before .before .args .t1) (c .before .before .before .before .before .before .before .args .view .block) (c .before .before .before .before .before .conflicts-of .result) (c .before .before .before .before .before .before .before .pre .0 .few) (ap (λ (v : View). v .block) (c .before .before .before .before .before .before .before .pre .1 .0)) (c .before .before .before .before .before .conflicts-of .ensures ∙ ap (λ (v : View). setBelow (count s) (foundIn s (bit (v .block)) true)) (c .before .before .before .before .before .before .before .pre .1 .0))) refl
 
 pub after-entries-spec : {M : Type 1} → statement M
 after-entries-spec =
-    tie.close (tie.spec conflicts-of-requires add-block changed-slots-requires returns)
+    tie.close
+    (tie.spec
+    Inv-loop
+    μ-loop
+    conflicts-of-requires
+    add-block
+    count-requires
+    next-requires
+    loop-holds
+    mul-x
+    element-copy-out-x
+    mined-slot-requires
+    mul-y
+    element-set-from-y
+    add-next
+    next-requires-2
+    loop-less
+    loop-again
+    returns)
