@@ -16,6 +16,7 @@ use Rattle.position.specs.declared.Stepped.{Stepped}
 use Rattle.position.specs.Play.{FourBytes, step}
 use Rattle.position.specs.Forms.View.{viewBelow}
 use Rattle.position.specs.Forms.Seen.{changesMany}
+use Rattle.position.proofs.RenewedAfter.{renewed-after}
 use Rattle.position.proofs.SeenAfter.{seen-after}
 use Rattle.dated.specs.declared.Dated.{Dated}
 use Rattle.dated.specs.declared.DatedRun.{DatedRun}
@@ -54,7 +55,7 @@ module _ (s u : List ℕ) (d : Dated) (b : FourBytes) where
     unfolding seenAfter
     seen-right v fit g z =
         split (changesMany v (b .kind) (b .transaction))
-        (λ y. rw y)
+        (λ y. rw y (renewed-after s u (d .position) v fit g b r e z y))
         (λ y. rw y (seen-after s u (d .position) v fit g b r e z y))
 
 -- a row of steps, by its first

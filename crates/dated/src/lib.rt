@@ -91,7 +91,7 @@ fn seen_after(view: View, position: Position, sheet: &[u8], kind: u8, t: u8) -> 
     ensures { λ r. ⌜ r ≡ seenAfter (now (sheet .entry)) view position kind t ⌝ }
 {
     if seen::changes_many(view, kind, t) {
-        return position.view_with(sheet, view.limited);
+        return position.view_renewed(sheet, view, kind);
     }
     let at = seen::changed_place(kind, t);
     let x = position.slots[at];

@@ -50,7 +50,7 @@ union-contains (suc n) f g h =
     or-four (unionBelow n f) (f n) (unionBelow n g) (g n) ∙ rw (union-contains n f g h, h n) refl
 
 -- the members below n are the same
-union-same : (n : ℕ) (f g : ℕ → ℕ) → ((k : ℕ) → k < n → g k ≡ f k) → unionBelow n g ≡ unionBelow n f
+pub union-same : (n : ℕ) (f g : ℕ → ℕ) → ((k : ℕ) → k < n → g k ≡ f k) → unionBelow n g ≡ unionBelow n f
 unfolding unionBelow
 union-same zero f g h = refl
 union-same (suc n) f g h = rw (union-same n f g (λ k l. h k (omega arith)), h n (omega arith)) refl

@@ -19,4 +19,6 @@ pub mod FirstSets
 pub mod SharedNone
 pub mod ReportLengths
 pub mod Passing
+pub mod Renewed
 pub mod SeenAfter
+pub mod RenewedAfter

@@ -106,6 +106,9 @@ share-grows to m x =
       shared = union-contains destinations (sharedFor x) (sharedFor (withShared to m x)) (shared-more to m x);
     }
 
+pub share-adds : (to m : ℕ) (x : Slot) → bitOr (sharedAny x) (sharedAny (withShared to m x)) ≡ sharedAny (withShared to m x)
+share-adds to m x = let g = share-grows to m x in g .shared
+
 mark-grows : (party to m : ℕ) (x : Slot) → Grows x (withMark party to (withShared to m x))
 unfolding withMark withShared sharedAny sharedFor
 mark-grows party to m x = let g = share-grows to m x in record { pool = λ h. h; block = λ h. h; confirmed = λ h. h; shared = g .shared }

@@ -1,11 +1,16 @@
 // The view of a position carried from step to step.
+use crate::Position;
+use slots::next;
 use steps::View;
 ghost use Prim.Native.Nat.{_<_};
 ghost use mathlib.Core.Path.{_≡_};
-ghost use Rattle.position.specs.Forms.Seen.{changesMany, changedPlace};
+ghost use Rattle.laws.specs.Mask.{bit};
+ghost use Rattle.sheet.specs.Field.{count, Sized};
+ghost use Rattle.slots.specs.Forms.Limited.{limitedSet};
+ghost use Rattle.position.specs.Forms.Seen.{changesMany, changedPlace, viewKept, viewJoined, viewRenewed};
 
 // Whether a step of this kind and transaction byte may change several slots, or take an entry away: a block with entries, a bump,
-// the first shares. The view is then made anew.
+// the first shares. The view is then renewed.
 pub fn changes_many(view: View, kind: u8, t: u8) -> bool
     ensures { λ r. ⌜ r ≡ changesMany view kind t ⌝ }
 {
@@ -29,4 +34,44 @@ pub fn changed_place(kind: u8, t: u8) -> usize
         return t as usize;
     }
     0
+}
+
+impl Position {
+    // What a view keeps over a step to this position, with the members of a set.
+    fn view_over(self, sheet: &[u8], view: View, there: u32) -> View
+        requires { ⌜ Sized (now sheet) ⌝ }
+        ensures { λ r. ⌜ r ≡ viewJoined (count (now (sheet .entry))) (bit there) self (viewKept view self) ⌝ }
+    {
+        let n = sheet::field::count(sheet);
+        let keys = self.keys;
+        let mut v = View {
+            pool: 0,
+            block: 0,
+            confirmed: view.confirmed,
+            limited: view.limited,
+            mined: self.mined,
+            shared: view.shared,
+            keys,
+        };
+        let mut k = next::next(there, 0, n);
+        while k < n {
+            let x = self.slots[k];
+            let w = v.add(k, x);
+            v = w;
+            k = next::next(there, k + 1, n);
+        }
+        v
+    }
+
+    // The view after a step of this kind to this position that may have changed several slots.
+    pub fn view_renewed(self, sheet: &[u8], view: View, kind: u8) -> View
+        requires { ⌜ Sized (now sheet) ⌝ }
+        requires { ⌜ view .limited ≡ limitedSet (now sheet) ⌝ }
+        ensures { λ r. ⌜ r ≡ viewRenewed (now (sheet .entry)) view kind self ⌝ }
+    {
+        if kind == 1 {
+            return self.view_with(sheet, view.limited);
+        }
+        self.view_over(sheet, view, view.pool | view.block)
+    }
 }

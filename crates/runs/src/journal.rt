@@ -75,8 +75,8 @@ pub fn run_from(from: Position, sheet: &[u8], setup: &[u8], journal: &[u8]) -> R
         let t = journal[4 * k + 2];
         k += 1;
         if seen::changes_many(view, kind, t) {
-            let anew = position.view_with(sheet, view.limited);
-            view = anew;
+            let renewed = position.view_renewed(sheet, view, kind);
+            view = renewed;
             continue;
         }
         let at = seen::changed_place(kind, t);

@@ -1,4 +1,4 @@
--- Made anew, or with one slot more.
+-- Renewed, or with one slot more.
 use Rattle.dated.specs.Forms.Seen.{seenAfter}
 use Rattle.position.specs.Position.{slot}
 use mathlib.Core.Path.{sym, _∙_}
@@ -9,12 +9,12 @@ use Rattle.dated.proofs.seen_after.Tie as tie
 changes-many-requires : tie.Need-changes-many-requires
 changes-many-requires c κs = search needs
 
-view-with-requires : tie.Need-view-with-requires
-view-with-requires c κs = search needs
+view-renewed-requires : tie.Need-view-renewed-requires
+view-renewed-requires c κs = search needs
 
 returns : tie.Need-returns
 unfolding seenAfter
-returns c = rw (sym (c .before .before .changes-many .ensures) ∙ c .before .if1 .taken) (c .view-with .ensures)
+returns c = rw (sym (c .before .before .changes-many .ensures) ∙ c .before .if1 .taken) (c .view-renewed .ensures)
 
 changed-place-requires : tie.Need-changed-place-requires
 changed-place-requires c κs = search needs
@@ -38,7 +38,7 @@ seen-after-spec =
     tie.close
     (tie.spec
     changes-many-requires
-    view-with-requires
+    view-renewed-requires
     returns
     changed-place-requires
     mul-x

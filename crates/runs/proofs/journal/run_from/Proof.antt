@@ -7,6 +7,7 @@ use Rattle.position.specs.Play.{journalSteps, runFrom}
 use Rattle.position.specs.Position.{slot}
 use Rattle.position.specs.Forms.View.{viewBelow}
 use Rattle.position.specs.Forms.Journal.{stepAt}
+use Rattle.position.proofs.RenewedAfter.{renewed-after}
 use Rattle.position.proofs.SeenAfter.{seen-after}
 use Rattle.position.proofs.Views.{view-limited}
 use Rattle.runs.proofs.Runs.{leftFrom, left-all, left-on, left-stopped, left-ended}
@@ -66,17 +67,19 @@ add-k c = search needs
 changes-many-requires : tie.Need-changes-many-requires Inv-loop μ-loop
 changes-many-requires c κs = search needs
 
-view-with-requires : tie.Need-view-with-requires Inv-loop μ-loop
-view-with-requires c κs = let e = view-limited _ _ _ _ (c .before .before .before .before .before .before .before .before .before .loop .inv .2) in search needs
+view-renewed-requires : tie.Need-view-renewed-requires Inv-loop μ-loop
+view-renewed-requires c κs = let e = view-limited _ _ _ _ (c .before .before .before .before .before .before .before .before .before .loop .inv .2) in search needs
 
 loop-less : tie.Need-loop-less Inv-loop μ-loop
 loop-less c = search needs
 
 loop-again : tie.Need-loop-again Inv-loop μ-loop
+unfolding stepAt
 loop-again c = (
   omega (arith, c .before .before .before .before .before .before .before .before .before .loop-test .taken),
   left-on _ _ _ _ _ _ _ (c .before .before .before .before .before .before .before .before .before .before .loop .inv .1) (omega (arith, c .before .before .before .before .before .before .before .before .before .loop-test .taken)) (c .before .before .before .before .before .before .before .before .step-seen .ensures) (c .before .before .before .before .before .before .if2 .left),
-  c .view-with .ensures,
+  c .view-renewed .ensures
+      ∙ renewed-after _ _ _ _ (c .before .before .before .before .before .before .before .before .before .before .before .before .before .before .before .before .pre .0) (c .before .before .before .before .before .before .before .before .before .before .loop .inv .2) _ _ (c .before .before .before .before .before .before .before .before .step-seen .ensures) (c .before .before .before .before .before .before .if2 .left) (sym (c .before .before .changes-many .ensures) ∙ c .before .if3 .taken),
 )
 
 changed-place-requires : tie.Need-changed-place-requires Inv-loop μ-loop
@@ -129,7 +132,7 @@ run-from-spec =
     shared-slice-read-t
     add-k
     changes-many-requires
-    view-with-requires
+    view-renewed-requires
     loop-less
     loop-again
     changed-place-requires

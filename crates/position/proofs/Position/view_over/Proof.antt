@@ -1,0 +1,75 @@
+-- The members below k, the next of the set, are joined.
+use Rattle.position.proofs.Renewed.{joined-start, joined-more, joined-done}
+use Rattle.position.specs.Forms.Seen.{viewKept, viewJoined}
+use Rattle.position.specs.Position.{slot}
+use Rattle.laws.specs.Mask.{bit}
+use mathlib.Core.Bool.{true}
+use mathlib.Core.Path.{_≡_, refl}
+use Prim.Native.Nat.{_≤_, _<_, _-_}
+use borrow.Author.Needs.{needs}
+use Rattle.position.proofs.Position.view_over.Statement.{statement}
+use Rattle.position.proofs.Position.view_over.Tie as tie
+
+abbrev Inv-loop : tie.InvT-loop
+Inv-loop sheet there self n v₀ k₀ v k = (k ≤ n) × (k < n → bit there k ≡ true) × (v ≡ viewJoined k (bit there) self v₀)
+
+abbrev μ-loop : tie.MeasureT-loop
+μ-loop sheet there self n v₀ k₀ v k = n - k
+
+count-requires : tie.Need-count-requires Inv-loop μ-loop
+count-requires c κs = search needs
+
+next-requires : tie.Need-next-requires Inv-loop μ-loop
+next-requires c κs = search needs
+
+loop-holds : tie.Need-loop-holds Inv-loop μ-loop
+loop-holds c = (c .next .ensures .high, c .next .ensures .here, joined-start _ _ _ _ _ (c .next .ensures))
+
+mul-x : tie.Need-mul-x Inv-loop μ-loop
+mul-x c = search needs
+
+element-copy-out-x : tie.Need-element-copy-out-x Inv-loop μ-loop
+element-copy-out-x c = search needs
+
+add-requires : tie.Need-add-requires Inv-loop μ-loop
+add-requires c κs = search needs
+
+add-next : tie.Need-add-next Inv-loop μ-loop
+add-next c = search needs
+
+next-requires-2 : tie.Need-next-requires-2 Inv-loop μ-loop
+next-requires-2 c κs = search needs
+
+loop-less : tie.Need-loop-less Inv-loop μ-loop
+loop-less c = search needs
+
+loop-again : tie.Need-loop-again Inv-loop μ-loop
+unfolding slot
+loop-again c =
+    let i = c .before .before .before .before .loop .inv in (
+      c .next2 .ensures .high,
+      c .next2 .ensures .here,
+      joined-more _ _ _ _ _ _ _ _ _ (i .2) (i .1 (c .before .before .before .loop-test .taken)) (c .before .add .ensures) refl (c .next2 .ensures),
+    )
+
+returns : tie.Need-returns Inv-loop μ-loop
+unfolding viewKept
+returns c = rw (← (c .before .before .before .before .count .ensures .is)) (joined-done _ _ _ _ _ _ (c .before .loop .inv .0) (c .loop-test .left) (c .before .loop .inv .2))
+
+pub view-over-spec : {M : Type 1} → statement M
+view-over-spec =
+    tie.close
+    (tie.spec
+    Inv-loop
+    μ-loop
+    count-requires
+    next-requires
+    loop-holds
+    mul-x
+    element-copy-out-x
+    add-requires
+    add-next
+    next-requires-2
+    loop-less
+    loop-again
+    returns)
