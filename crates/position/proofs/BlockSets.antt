@@ -1,11 +1,16 @@
 -- A mined block and a bump over sets are those of the rules.
 -- Assumes nothing.
-use Prim.Native.Nat.{ℕ, _+_, _≤_, _<_}
+use Prim.Native.Nat.{ℕ, zero, suc, _+_, _≤_, _<_}
 use native.Mathlib.Omega.{arith}
-use mathlib.Core.Path.{_≡_, sym, ap, _∙_}
-use mathlib.Core.Bool.{Bool, true, false, not, _&&_, and-assoc}
-use mathlib.Core.List.{List}
-use lib.Dec.{eqb}
+use mathlib.Core.Path.{_≡_, refl, sym, ap, _∙_}
+use mathlib.Core.Bool.{Bool, true, false, not, _&&_, _||_, and-assoc}
+use mathlib.Core.List.{List, [], _∷_}
+use lib.Bits.{bitOr}
+use lib.Dec.{eqb, ltb}
+use lib.ListN.{getD}
+use borrow.Author.Tests.{eqb-true, ltb-false}
+use Rattle.laws.specs.Bits.{bit-or}
+use Rattle.laws.specs.Booleans.{pick, split, or-neither}
 use Rattle.laws.specs.Each.{rewriteFirst, rewrite-same}
 use Rattle.laws.specs.Mask.{bit}
 use Rattle.laws.specs.Sets.{setBelow, set-bit}
@@ -18,11 +23,26 @@ use Rattle.slots.proofs.ConflictSets.{conflictIn-same}
 use Rattle.slots.proofs.AncestrySets.{inAncestry-same}
 use Rattle.slots.proofs.LineSets.{line-bit}
 use Rattle.position.specs.declared.Position.{Position}
-use Rattle.position.specs.Position.{inPool, inBlock}
+use Rattle.slots.specs.Slot.{emptySlot, standing, withPool}
+use Rattle.steps.specs.declared.View.{View}
+use Rattle.steps.specs.Mined.{confirmEntry}
+use Rattle.steps.proofs.Unmoved.{pool-out}
+use Rattle.position.specs.Position.{slot, inPool, inBlock}
 use Rattle.position.specs.Owed.{waiting, enters}
 use Rattle.position.specs.Effect.{leavesPool, mineSlot, leavesBlock, bumpSlot}
 use Rattle.position.specs.Forms.View.{viewBelow}
-use Rattle.steps.specs.Forms.Blocks.{minedSlot, bumpedSlot, entersIn}
+use Rattle.steps.specs.Forms.Blocks.{struckIn, minedSlot, bumpedSlot, entersIn}
+
+-- two rules that agree at what stands at each place
+rewrite-at : {A : Type 0} (n : ℕ) (f g : ℕ → A → A) (l : List A) (d : A) → ((i : ℕ) → i < n → f i (getD l i d) ≡ g i (getD l i d)) → rewriteFirst n f l ≡ rewriteFirst n g l
+unfolding rewriteFirst
+rewrite-at zero f g l d h = refl
+rewrite-at (suc n) f g [] d h = refl
+rewrite-at (suc n) f g (x ∷ l) d h = rw (h 0 (omega arith), rewrite-at n (λ i. f (suc i)) (λ i. g (suc i)) l d (λ i m. h (suc i) (omega arith)))
+
+confirm-out : (s : List ℕ) (b t : ℕ) (p : Position) → inBlock p t ≡ false → confirmEntry s b t (slot p t) ≡ slot p t
+unfolding confirmEntry inBlock
+confirm-out s b t p h = rw h
 
 -- the line meets the set of those with a rival in the set e where it meets a rival of a member of e
 set-meets : (s : List ℕ) (e : ℕ) (member : ℕ → Bool) (t : ℕ) → count s ≤ 32 → t < count s → ((k : ℕ) → k < count s → bit e k ≡ member k)
@@ -41,13 +61,51 @@ set-meets-other s e member t few l h =
     (λ k m. set-bit (count s) (foundIn s (bit e) true) few k (omega arith)
     ∙ conflictIn-same s (λ j. not (eqb j k) && bit e j) (λ j. not (eqb j k) && member j) k (λ j i. ap (λ b. not (eqb j k) && b) (h j i)))
 
-pub mined-right : (s : List ℕ) (p : Position) (b m : ℕ) → count s ≤ 32 → b ≡ viewBelow s (count s) p .block
+-- where something waits outside the block
+mined-among : (s : List ℕ) (p : Position) (b m : ℕ) → count s ≤ 32 → b ≡ viewBelow s (count s) p .block
     → m ≡ setBelow (count s) (foundIn s (bit (viewBelow s (count s) p .block)) true)
     → rewriteFirst (count s) (minedSlot s (p .mined + 1) b m) (p .slots) ≡ rewriteFirst (count s) (mineSlot s p) (p .slots)
 unfolding minedSlot mineSlot leavesPool viewBelow
-mined-right s p b m few f e =
+mined-among s p b m few f e =
     rewrite-same (count s) (minedSlot s (p .mined + 1) b m) (mineSlot s p) (p .slots)
     (λ t x l. rw (f, e, set-bit (count s) (inBlock p) few t l, set-meets-other s (setBelow (count s) (inBlock p)) (inBlock p) t few l (set-bit (count s) (inBlock p) few)))
+
+-- where the whole pool is in the block nobody else leaves it, whatever the set
+module _ (s : List ℕ) (p : Position) (b : ℕ) (few : count s ≤ 32) (f : b ≡ viewBelow s (count s) p .block)
+    (whole : bitOr (viewBelow s (count s) p .pool) (viewBelow s (count s) p .block) ≡ viewBelow s (count s) p .block) where
+  pool-in-block : (t : ℕ) → t < count s → inBlock p t ≡ false → slot p t .pool ≡ 0
+  unfolding viewBelow inPool standing
+  pool-in-block t l h =
+      let pool = setBelow (count s) (inPool p) in
+      let block = setBelow (count s) (inBlock p) in
+      let w : bit block t ≡ (bit pool t || bit block t) = ap (λ x. bit x t) (sym whole) ∙ bit-or pool block t in
+      let n : bit pool t ≡ false = or-neither (bit pool t) (bit block t) (sym w ∙ set-bit (count s) (inBlock p) few t l ∙ h) .0 in
+      let z : ltb 0 (slot p t .pool) ≡ false = sym (set-bit (count s) (inPool p) few t l) ∙ n in
+      omega (arith, ltb-false 0 (slot p t .pool) z)
+
+  mined-alone : (m t : ℕ) → t < count s → minedSlot s (p .mined + 1) b m t (slot p t) ≡ mineSlot s p t (slot p t)
+  unfolding minedSlot mineSlot leavesPool viewBelow
+  mined-alone m t l =
+      split (inBlock p t)
+      (λ y. rw (f, set-bit (count s) (inBlock p) few t l, y))
+      (λ y.
+      let a = pool-in-block t l y in
+      let c = confirm-out s (p .mined + 1) t p y in
+      rw (c) (sym (pool-out (bit b t || inAncestry s (bit m) t) (slot p t) a) ∙ pool-out (inBlock p t || meetsOther s (inBlock p) t) (slot p t) a))
+
+  pub mined-whole : (m : ℕ) → rewriteFirst (count s) (minedSlot s (p .mined + 1) b m) (p .slots) ≡ rewriteFirst (count s) (mineSlot s p) (p .slots)
+  unfolding slot
+  mined-whole m = rewrite-at (count s) (minedSlot s (p .mined + 1) b m) (mineSlot s p) (p .slots) emptySlot (λ t l. mined-alone m t l)
+
+-- where v is the view that the code found
+pub mined-right : (s : List ℕ) (p : Position) (v : View) (m : ℕ) → count s ≤ 32 → v ≡ viewBelow s (count s) p → m ≡ struckIn s v
+    → rewriteFirst (count s) (minedSlot s (p .mined + 1) (v .block) m) (p .slots) ≡ rewriteFirst (count s) (mineSlot s p) (p .slots)
+unfolding struckIn
+mined-right s p v m few e h =
+    let b = ap (λ (x : View). x .block) e in
+    split (eqb (bitOr (v .pool) (v .block)) (v .block))
+    (λ y. mined-whole s p (v .block) few b (rw e at (eqb-true (bitOr (v .pool) (v .block)) (v .block) y)) m)
+    (λ y. mined-among s p (v .block) m few b ((h ∙ rw y refl) ∙ ap (λ (x : View). setBelow (count s) (foundIn s (bit (x .block)) true)) e))
 
 -- those that enter
 enters-bit : (s : List ℕ) (p : Position) (t k : ℕ) → count s ≤ 32 → t < count s → k < count s

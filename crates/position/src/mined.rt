@@ -1,6 +1,5 @@
 // What a mined block does to a position: kind 6.
 use crate::Position;
-use slots::conflict;
 use slots::next;
 use steps::View;
 use steps::mined;
@@ -18,7 +17,7 @@ impl Position {
         requires { ⌜ self .mined < 10000 ⌝ }
         ensures { λ r. ⌜ r ≡ afterMine (now (sheet .entry)) self ⌝ }
     {
-        let leaving = conflict::conflicts_of(sheet, view.block, true);
+        let leaving = mined::struck(sheet, view);
         let block = self.mined + 1;
         let there = view.pool | view.block;
         let n = sheet::field::count(sheet);

@@ -1,13 +1,26 @@
 // What a mined block makes of a slot: kind 6.
+use crate::View;
 use sheet::set;
 use slots::Slot;
 use slots::ancestry;
+use slots::conflict;
 use slots::signatures;
 ghost use Prim.Native.Nat.{_<_};
 ghost use mathlib.Core.Path.{_≡_};
 ghost use Rattle.sheet.specs.Field.{count, Sized};
 ghost use Rattle.steps.specs.Mined.{confirmEntry};
-ghost use Rattle.steps.specs.Forms.Blocks.{minedSlot};
+ghost use Rattle.steps.specs.Forms.Blocks.{struckIn, minedSlot};
+
+// Those with another rival in the block. None is asked for where the whole pool is in the block.
+pub fn struck(sheet: &[u8], view: View) -> u32
+    requires { ⌜ Sized (now sheet) ⌝ }
+    ensures { λ r. ⌜ r ≡ struckIn (now (sheet .entry)) view ⌝ }
+{
+    if view.pool | view.block == view.block {
+        return 0;
+    }
+    conflict::conflicts_of(sheet, view.block, true)
+}
 
 // A block entry is confirmed, and what it exposes is shared.
 fn confirm_entry(sheet: &[u8], block: u16, t: usize, x: Slot) -> Slot

@@ -3,17 +3,25 @@
 -- Assumes nothing.
 use Prim.Native.Nat.{ℕ, _<_}
 use mathlib.Core.Path.{_≡_}
-use mathlib.Core.Bool.{Bool, false, not, _&&_, _||_}
+use mathlib.Core.Bool.{Bool, true, false, not, _&&_, _||_}
 use mathlib.Core.List.{List}
+use lib.Bits.{bitOr}
+use lib.Dec.{eqb}
 use lib.ListN.{getD}
 use Rattle.laws.specs.Booleans.{pick}
 use Rattle.laws.specs.Mask.{bit}
+use Rattle.laws.specs.Sets.{setBelow}
 use Rattle.sheet.specs.Field.{count}
 use Rattle.slots.specs.declared.Slot.{Slot}
 use Rattle.slots.specs.Slot.{emptySlot, withPool, withBlock}
 use Rattle.slots.specs.Ancestry.{inAncestry}
+use Rattle.slots.specs.Forms.Conflict.{foundIn}
 use Rattle.steps.specs.declared.View.{View}
 use Rattle.steps.specs.Mined.{confirmEntry}
+
+-- those with another rival among the block's entries; none where the whole pool is in the block, since there nobody else leaves
+unfoldable pub struckIn : List ℕ → View → ℕ
+struckIn s v = pick (eqb (bitOr (v .pool) (v .block)) (v .block)) 0 (setBelow (count s) (foundIn s (bit (v .block)) true))
 
 -- confirmed in block b if it was in the block, out of the pool if it enters the chain or its line meets the set
 unfoldable pub minedSlot : List ℕ → ℕ → ℕ → ℕ → ℕ → Slot → Slot

@@ -5,14 +5,8 @@ use Rattle.position.proofs.NoEntries.{mined-outside}
 use Rattle.position.specs.Effect.{withSlots, changeSlots, withMined, afterMine}
 use Rattle.position.specs.Position.{slot}
 use Rattle.steps.specs.Forms.Blocks.{minedSlot}
-use Rattle.steps.specs.declared.View.{View}
-use Rattle.slots.specs.Forms.Conflict.{foundIn}
-use Rattle.sheet.specs.Field.{count}
-use Rattle.laws.specs.Mask.{bit}
-use Rattle.laws.specs.Sets.{setBelow}
 use Rattle.laws.specs.Each.{length-of-map}
 use lib.ListN.{length}
-use mathlib.Core.Bool.{true}
 use mathlib.Core.Path.{_≡_, refl, ap, _∙_}
 use Prim.Native.Nat.{_+_, _≤_, _-_}
 use denote.Ref.{now}
@@ -26,8 +20,8 @@ Inv-loop sheet view self₀ leaving block there n t₀ self t = (t ≤ n) × Rew
 abbrev μ-loop : tie.MeasureT-loop
 μ-loop sheet view self₀ leaving block there n t₀ self t = n - t
 
-conflicts-of-requires : tie.Need-conflicts-of-requires Inv-loop μ-loop
-conflicts-of-requires c κs = search needs
+struck-requires : tie.Need-struck-requires Inv-loop μ-loop
+struck-requires c κs = search needs
 
 add-block : tie.Need-add-block Inv-loop μ-loop
 add-block c = search needs
@@ -77,7 +71,7 @@ returns c =
     let s = now (c .before .before .before .before .before .before .before .args .sheet) in
     let done = rewritten-done _ _ _ _ (mined-outside _ _ _ (c .before .before .before .before .before .before .before .pre .0 .few) (c .before .before .before .before .before .before .before .pre .1 .0) _ _ _) _ (c .before .before .before .count .ensures .is) _ _ (c .before .loop .inv .1) (c .before .loop .inv .0) (c .loop-test .left) in
     ap (withMined (c .before .before .before .before .before .before .before .args .t1 .mined + 1)) done
-    ∙ rw (mined-right s (c .before .before .before .before .before .before .before .args .t1) (c .before .before .before .before .before .before .before .args .view .block) (c .before .before .before .before .before .conflicts-of .result) (c .before .before .before .before .before .before .before .pre .0 .few) (ap (λ (v : View). v .block) (c .before .before .before .before .before .before .before .pre .1 .0)) (c .before .before .before .before .before .conflicts-of .ensures ∙ ap (λ (v : View). setBelow (count s) (foundIn s (bit (v .block)) true)) (c .before .before .before .before .before .before .before .pre .1 .0))) refl
+    ∙ rw (mined-right s (c .before .before .before .before .before .before .before .args .t1) (c .before .before .before .before .before .before .before .args .view) (c .before .before .before .before .before .struck .result) (c .before .before .before .before .before .before .before .pre .0 .few) (c .before .before .before .before .before .before .before .pre .1 .0) (c .before .before .before .before .before .struck .ensures)) refl
 
 pub after-entries-spec : {M : Type 1} → statement M
 after-entries-spec =
@@ -85,7 +79,7 @@ after-entries-spec =
     (tie.spec
     Inv-loop
     μ-loop
-    conflicts-of-requires
+    struck-requires
     add-block
     count-requires
     next-requires
