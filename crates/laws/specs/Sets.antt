@@ -111,12 +111,12 @@ unfolding setBelow
 set-same zero p q h = refl
 set-same (suc n) p q h = rw (set-same n p q (λ k l. h k (omega arith)), h n (omega arith))
 
-none-set : (n : ℕ) (p : ℕ → Bool) → ((k : ℕ) → k < n → p k ≡ false) → setBelow n p ≡ 0
+-- the set is empty where none passes, and not where some number below n does
+pub none-set : (n : ℕ) (p : ℕ → Bool) → ((k : ℕ) → k < n → p k ≡ false) → setBelow n p ≡ 0
 unfolding setBelow joined
 none-set zero p h = refl
 none-set (suc n) p h = rw (h n (omega arith), none-set n p (λ k m. h k (omega arith)))
 
--- the set is not empty where some number below n passes
 pub set-some : (n : ℕ) (p : ℕ → Bool) → n ≤ 32 → not (eqb (setBelow n p) 0) ≡ anyBelow n p
 set-some n p l =
     split (anyBelow n p)

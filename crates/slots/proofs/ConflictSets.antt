@@ -2,15 +2,16 @@
 -- Assumes nothing.
 use Prim.Native.Nat.{ℕ, _≤_, _<_}
 use native.Mathlib.Omega.{arith}
-use mathlib.Core.Path.{_≡_, refl, ap, _∙_}
-use mathlib.Core.Bool.{Bool, true, false, not, _&&_, and-comm}
+use mathlib.Core.Path.{_≡_, refl, sym, ap, _∙_}
+use mathlib.Core.Bool.{Bool, true, false, not, _&&_, and-comm, and-false}
 use mathlib.Core.List.{List}
 use lib.Dec.{eqb}
 use borrow.Author.Tests.{eqb-true}
 use Rattle.laws.specs.Booleans.{split}
-use Rattle.laws.specs.Below.{any-same}
+use Rattle.laws.specs.Below.{any-same, any-all-false}
 use Rattle.laws.specs.Mask.{bit}
-use Rattle.laws.specs.Sets.{removed, bit-removed}
+use Rattle.laws.specs.Bits.{no-bit}
+use Rattle.laws.specs.Sets.{removed, bit-removed, setBelow, none-set}
 use Rattle.sheet.specs.Field.{count}
 use Rattle.slots.specs.Conflict.{conflict, conflictIn, otherConflictIn}
 use Rattle.slots.specs.Forms.Conflict.{foundIn}
@@ -35,3 +36,15 @@ conflictIn-outside s member true t out =
     conflictIn-same s member (λ k. not (eqb k t) && member k) t
     (λ k l. split (eqb k t) (λ y. rw (y, eqb-true k t y, out)) (λ y. rw y))
 conflictIn-outside s member false t out = refl
+
+-- no rival is in a set without members
+none-there : (s : List ℕ) (t : ℕ) → conflictIn s (bit 0) t ≡ false
+unfolding conflictIn
+none-there s t =
+    any-all-false (count s) (λ k. conflict s k t && bit 0 k) (λ k l. rw (no-bit k) (and-false (conflict s k t)))
+
+pub conflicts-none : (s : List ℕ) (others : Bool) → 0 ≡ setBelow (count s) (foundIn s (bit 0) others)
+conflicts-none s others =
+    sym
+    (none-set (count s) (foundIn s (bit 0) others)
+    (λ t l. sym (conflictIn-outside s (bit 0) others t (no-bit t)) ∙ none-there s t))

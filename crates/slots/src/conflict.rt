@@ -88,6 +88,9 @@ pub fn conflicts_of(sheet: &[u8], there: u32, others: bool) -> u32
     requires { ⌜ Sized (now sheet) ⌝ }
     ensures { λ r. ⌜ r ≡ setBelow (count (now (sheet .entry))) (foundIn (now (sheet .entry)) (bit there) others) ⌝ }
 {
+    if there == 0 {
+        return 0;
+    }
     let parents = parents::parents_of(sheet, there);
     let n = sheet::field::count(sheet);
     let mut found: u32 = 0;

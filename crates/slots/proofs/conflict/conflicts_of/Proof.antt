@@ -1,4 +1,5 @@
--- The set of those below t.
+-- None where the set is empty; else the set of those below t.
+use Rattle.slots.proofs.ConflictSets.{conflicts-none}
 use Rattle.slots.specs.Forms.Conflict.{foundIn}
 use Rattle.laws.specs.Sets.{setBelow, set-start, set-more, set-done}
 use Rattle.laws.specs.Mask.{bit}
@@ -13,6 +14,9 @@ Inv-loop sheet there others parents n found₀ t₀ found t = (t ≤ n) × (foun
 
 abbrev μ-loop : tie.MeasureT-loop
 μ-loop sheet there others parents n found₀ t₀ found t = n - t
+
+returns : tie.Need-returns Inv-loop μ-loop
+returns c = rw (c .if1 .taken) (conflicts-none _ _)
 
 parents-of-requires : tie.Need-parents-of-requires Inv-loop μ-loop
 parents-of-requires c κs = search needs
@@ -36,11 +40,10 @@ loop-less : tie.Need-loop-less Inv-loop μ-loop
 loop-less c = search needs
 
 loop-again : tie.Need-loop-again Inv-loop μ-loop
-unfolding foundIn
 loop-again c = (search needs, set-more _ _ _ _ _ (c .before .before .before .loop .inv .1) (c .join .ensures) (c .before .found-by .ensures))
 
-returns : tie.Need-returns Inv-loop μ-loop
-returns c = rw (← (c .before .before .count .ensures .is)) (set-done _ _ _ _ (c .before .loop .inv .0) (c .loop-test .left) (c .before .loop .inv .1))
+returns-2 : tie.Need-returns-2 Inv-loop μ-loop
+returns-2 c = rw (← (c .before .before .count .ensures .is)) (set-done _ _ _ _ (c .before .loop .inv .0) (c .loop-test .left) (c .before .loop .inv .1))
 
 pub conflicts-of-spec : {M : Type 1} → statement M
 conflicts-of-spec =
@@ -48,6 +51,7 @@ conflicts-of-spec =
     (tie.spec
     Inv-loop
     μ-loop
+    returns
     parents-of-requires
     count-requires
     loop-holds
@@ -56,4 +60,4 @@ conflicts-of-spec =
     add-t
     loop-less
     loop-again
-    returns)
+    returns-2)
