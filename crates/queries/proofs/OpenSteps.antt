@@ -7,20 +7,23 @@ use mathlib.Core.Bool.{Bool, true, false, not, _&&_, and-false}
 use mathlib.Core.List.{List, [], _∷_}
 use lib.Dec.{eqb}
 use lib.ListN.{getD}
-use borrow.Author.Tests.{eqb-false, not-true, not-false}
+use borrow.Author.Tests.{eqb-true, eqb-false, not-true, not-false}
 use Rattle.laws.specs.Booleans.{split, and-parts}
+use Rattle.laws.specs.Below.{any-all-false}
 use Rattle.laws.specs.Failing.{firstFailing}
 use Rattle.sheet.specs.Field.{count, parent}
+use Rattle.sheet.specs.Setup.{conduct, stealth}
 use Rattle.slots.specs.declared.Slot.{Slot}
 use Rattle.slots.specs.declared.Destination.{Destination}
 use Rattle.slots.specs.declared.Step.{Step}
 use Rattle.slots.specs.declared.Step.the-variants.{Share, Give, SendToPool, HandToMiner, Include, Mine, Bump}
-use Rattle.slots.specs.Destination.{destinationNumber, isParty}
+use Rattle.slots.specs.Destination.{alice, bob, destinationNumber, isParty, isPayee}
 use Rattle.steps.specs.declared.Decoded.{Decoded}
 use Rattle.steps.specs.declared.Decoded.the-variants.{Read, Refused}
 use Rattle.steps.specs.declared.View.{View}
 use Rattle.steps.specs.declared.Outlook.{Outlook}
 use Rattle.steps.specs.Decode.{noTransaction, fieldsRight, decode, stepBytes}
+use Rattle.steps.specs.Conduct.{maySend}
 use Rattle.steps.specs.Forms.View.{keysIn}
 use Rattle.steps.specs.Forms.Conduct.{conductTests, sendHeldIn}
 use Rattle.steps.specs.Forms.Sharing.{shareMetIn, giveMetIn}
@@ -30,8 +33,8 @@ use Rattle.steps.proofs.RightFields.{share-listed, pool-listed, miner-listed, i
 use Rattle.position.specs.declared.Position.{Position}
 use Rattle.position.specs.Position.{slot, blockOf, keys, holds, marked}
 use Rattle.position.specs.Forms.View.{viewBelow}
-use Rattle.position.specs.Tests.{shareMet, shareTests, giveMet, giveTests, bumpTests}
-use Rattle.position.specs.Conduct.{isCareful, canPay, sendAllowed, payingFirst, conductAllows}
+use Rattle.position.specs.Tests.{shareMet, shareTests, giveMet, giveTests, sendTests, poolTests, minerTests, bumpTests}
+use Rattle.position.specs.Conduct.{isOpen, isCareful, phase, canPay, sendAllowed, payingPasses, payingFirst, conductAllows}
 use Rattle.position.specs.Forms.Outlook.{outlook}
 use Rattle.position.specs.FirstShares.{firstSharesMade}
 use Rattle.position.specs.Owed.{anyOwed}
@@ -153,6 +156,22 @@ module _ (s u : List ℕ) (p : Position) (o : Outlook) (actor : ℕ) where
   unfolding keptBack
   kept-no-party b e h = rw (sym e ∙ not-true b h)
 
+  -- in phase 0 a careful party can pay nothing
+  no-send : isCareful u ≡ true → outlook s u p .phase ≡ 0 → (t : ℕ) → sendAllowed s u p actor t ≡ false
+  unfolding isCareful outlook isOpen sendAllowed maySend
+  no-send h z t =
+      let e = eqb-true (conduct u) 2 h in
+      let f : phase p ≡ 0 = rw e at z in
+      rw (e, f, and-false (eqb actor alice), and-false (eqb actor bob))
+
+  no-pay : isCareful u ≡ true → outlook s u p .phase ≡ 0 → canPay s u p actor ≡ false
+  unfolding canPay payingPasses firstFailing poolTests minerTests sendTests
+  no-pay h z =
+      any-all-false (count s) _
+      (λ t l. split (isPayee s t actor)
+      (λ y. split (eqb (stealth u) 1) (λ v. rw (y, no-send h z t, v)) (λ v. rw (y, no-send h z t, v)))
+      (λ y. rw y))
+
   module _ (read : o ≡ outlook s u p) where
     careful-read : o .careful ≡ isCareful u
     careful-read = rw read (careful-outlook s u p)
@@ -164,6 +183,10 @@ module _ (s u : List ℕ) (p : Position) (o : Outlook) (actor : ℕ) where
     pub kept-if-paid : (b c : Bool) → c ≡ isParty s actor → not c ≡ false → not (o .careful) ≡ false → b ≡ canPay s u p actor → b ≡ keptBack s u p actor
     unfolding keptBack
     kept-if-paid b c i l f e = rw (sym i ∙ not-false c l, sym careful-read ∙ not-false (o .careful) f) e
+
+    pub kept-phase : not (o .careful) ≡ false → o .phase ≡ 0 → false ≡ keptBack s u p actor
+    unfolding keptBack
+    kept-phase f z = rw (no-pay (sym careful-read ∙ not-false (o .careful) f) (rw read at z), and-false (isCareful u), and-false (isParty s actor))
 
     pub sight-made : (v : View) (back any made : Bool) → v ≡ viewBelow s (count s) p → back ≡ keptBack s u p actor → any ≡ anyOwed s u p
         → made ≡ firstSharesMade p actor → record { view = v; outlook = o; back = back; owed = any; made = made } ≡ sightOf s u p actor

@@ -21,7 +21,7 @@ ghost use Rattle.position.specs.Forms.Outlook.{outlook};
 ghost use Rattle.position.specs.Forms.View.{viewBelow};
 ghost use Rattle.queries.specs.Forms.OpenSets.{isOpenStep, openSet, belowSets, openSets, keptBack, sightOf};
 
-// Whether the actor is a careful party that can send a transaction that pays it.
+// Whether the actor is a careful party that can send a transaction that pays it. In phase 0 nobody sends.
 fn kept_back(
     position: Position,
     sheet: &[u8],
@@ -39,6 +39,9 @@ fn kept_back(
         return false;
     }
     if !o.careful {
+        return false;
+    }
+    if o.phase == 0 {
         return false;
     }
     position.can_pay(sheet, setup, view, o, actor)

@@ -1,5 +1,5 @@
 -- A careful party that can pay.
-use Rattle.queries.proofs.OpenSteps.{kept-no-party, kept-not-careful, kept-if-paid}
+use Rattle.queries.proofs.OpenSteps.{kept-no-party, kept-not-careful, kept-phase, kept-if-paid}
 use borrow.Author.Needs.{needs}
 use Rattle.queries.proofs.open.kept_back.Statement.{statement}
 use Rattle.queries.proofs.open.kept_back.Tie as tie
@@ -13,11 +13,14 @@ returns c = kept-no-party _ _ _ (c .before .before .before .before .args .o) _ _
 returns-2 : tie.Need-returns-2
 returns-2 c = kept-not-careful _ _ _ _ _ (c .before .before .before .before .before .before .pre .1 .1) (c .if2 .taken)
 
-can-pay-requires : tie.Need-can-pay-requires
-can-pay-requires c κs = c .before .before .before .before .before .before .pre
-
 returns-3 : tie.Need-returns-3
-returns-3 c = kept-if-paid _ _ _ _ _ (c .before .before .before .before .before .before .before .pre .1 .1) _ _ (c .before .before .before .before .is-party .ensures) (c .before .before .before .if1 .left) (c .before .if2 .left) (c .can-pay .ensures)
+returns-3 c = kept-phase _ _ _ _ _ (c .before .before .before .before .before .before .before .before .pre .1 .1) (c .before .before .if2 .left) (c .if3 .taken)
+
+can-pay-requires : tie.Need-can-pay-requires
+can-pay-requires c κs = c .before .before .before .before .before .before .before .before .pre
+
+returns-4 : tie.Need-returns-4
+returns-4 c = kept-if-paid _ _ _ _ _ (c .before .before .before .before .before .before .before .before .before .pre .1 .1) _ _ (c .before .before .before .before .before .before .is-party .ensures) (c .before .before .before .before .before .if1 .left) (c .before .before .before .if2 .left) (c .can-pay .ensures)
 
 pub kept-back-spec : {M : Type 1} → statement M
-kept-back-spec = tie.close (tie.spec is-party-requires returns returns-2 can-pay-requires returns-3)
+kept-back-spec = tie.close (tie.spec is-party-requires returns returns-2 returns-3 can-pay-requires returns-4)
