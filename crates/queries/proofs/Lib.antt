@@ -3,4 +3,5 @@ pub mod OpenSteps
 pub mod OpenListed
 pub mod OpenReach
 pub mod OpenTurns
+mod OpenIdle
 pub mod OpenBytes

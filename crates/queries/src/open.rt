@@ -13,13 +13,13 @@ ghost use Prim.Native.Nat.{_<_};
 ghost use mathlib.Core.Path.{_≡_};
 ghost use mathlib.Core.Bool.{true};
 ghost use Rattle.laws.specs.Sets.{setBelow};
-ghost use Rattle.sheet.specs.Field.{count};
+ghost use Rattle.sheet.specs.Field.{count, Sized};
 ghost use Rattle.sheet.specs.Checked.{Fit};
 ghost use Rattle.readings.specs.Forms.Sight.{mayStand, goesFor};
 ghost use Rattle.position.specs.Owed.{anyOwed};
 ghost use Rattle.position.specs.Forms.Outlook.{outlook};
 ghost use Rattle.position.specs.Forms.View.{viewBelow};
-ghost use Rattle.queries.specs.Forms.OpenSets.{isOpenStep, openSet, belowSets, openSets, keptBack, sightOf};
+ghost use Rattle.queries.specs.Forms.OpenSets.{isOpenStep, openSet, belowSets, openSets, isIdle, keptBack, sightOf};
 
 // Whether the actor is a careful party that can send a transaction that pays it. In phase 0 nobody sends.
 fn kept_back(
@@ -182,6 +182,21 @@ fn below_sets(
     below
 }
 
+// Whether none of an actor's steps with a transaction byte other than 255 is open: a party's in phase 0, the miner's while the
+// pool is empty.
+fn is_idle(sheet: &[u8], view: View, o: Outlook, actor: u8) -> bool
+    requires { ⌜ Sized (now sheet) ⌝ }
+    ensures { λ r. ⌜ r ≡ isIdle (now (sheet .entry)) view o actor ⌝ }
+{
+    if !sheet::field::is_party(sheet, actor) {
+        return view.pool == 0;
+    }
+    if o.free {
+        return false;
+    }
+    o.phase == 0
+}
+
 // The open steps of an actor.
 pub fn open_sets(
     position: Position,
@@ -199,8 +214,14 @@ pub fn open_sets(
     ensures { λ r. ⌜ r ≡ openSets (now (sheet .entry)) (now (setup .entry)) position actor ⌝ }
 {
     let sight = sight(position, sheet, setup, view, o, owed, actor);
+    let last = open::last_set(sheet, setup, sight, actor);
+    if is_idle(sheet, view, o, actor) {
+        return OpenSets {
+            below: [0; 28],
+            last,
+        };
+    }
     let goes = open::goes_for(sheet, actor);
     let below = below_sets(position, sheet, setup, sight, goes, actor);
-    let last = open::last_set(sheet, setup, sight, actor);
     OpenSets { below, last }
 }

@@ -2,10 +2,11 @@
 -- Assumes nothing.
 use Prim.Native.Nat.{ℕ, _+_, _*_, _/_, _%_, _<_}
 use mathlib.Core.Path.{_≡_}
-use mathlib.Core.Bool.{Bool, false, _&&_}
+use mathlib.Core.Bool.{Bool, false, not, _&&_}
 use mathlib.Core.List.{List}
 use lib.Dec.{eqb}
 use lib.ListN.{getD, replicate}
+use Rattle.laws.specs.Booleans.{pick}
 use Rattle.laws.specs.Each.{rewriteFirst}
 use Rattle.laws.specs.Mask.{bit}
 use Rattle.laws.specs.Sets.{setBelow}
@@ -14,6 +15,8 @@ use Rattle.sheet.specs.Field.{count}
 use Rattle.slots.specs.Destination.{destinations, placeOf, isParty}
 use Rattle.output.specs.Forms.Emitted.{places}
 use Rattle.readings.specs.declared.Sight.{Sight}
+use Rattle.steps.specs.declared.View.{View}
+use Rattle.steps.specs.declared.Outlook.{Outlook}
 use Rattle.steps.specs.declared.Decoded.{Decoded}
 use Rattle.steps.specs.declared.Decoded.the-variants.{Read, Refused}
 use Rattle.steps.specs.Decode.{noTransaction, decode}
@@ -74,3 +77,7 @@ sightOf s u p actor =
       owed = anyOwed s u p;
       made = firstSharesMade p actor;
     }
+
+-- no transaction and no signature is tested for the actor: a party in phase 0, another while the pool is empty
+unfoldable pub isIdle : List ℕ → View → Outlook → ℕ → Bool
+isIdle s v o actor = pick (isParty s actor) (not (o .free) && eqb (o .phase) 0) (eqb (v .pool) 0)

@@ -1,22 +1,36 @@
--- The sets, from what is the same for all steps of the actor.
+-- None but with 255, or the sets, from what is the same for all steps of the actor.
 use Rattle.queries.proofs.OpenReach.{sets-made}
+use Rattle.queries.proofs.OpenIdle.{idle-sets}
 use Rattle.queries.proofs.open.open_sets.Statement.{statement}
 use Rattle.queries.proofs.open.open_sets.Tie as tie
 
 sight-requires : tie.Need-sight-requires
 sight-requires c κs = c .before .before .pre
 
-goes-for-requires : tie.Need-goes-for-requires
-goes-for-requires c κs = c .before .before .before .pre .0 .checked .sized
-
-below-sets-requires : tie.Need-below-sets-requires
-below-sets-requires c κs = (c .before .before .before .before .pre .0, (c .before .sight .ensures, c .goes-for .ensures))
-
 last-set-requires : tie.Need-last-set-requires
-last-set-requires c κs = let f = c .before .before .before .before .before .pre .0 in (f .checked .sized, f .setup .size)
+last-set-requires c κs = let f = c .before .before .before .pre .0 in (f .checked .sized, f .setup .size)
+
+is-idle-requires : tie.Need-is-idle-requires
+is-idle-requires c κs = c .before .before .before .before .pre .0 .checked .sized
 
 returns : tie.Need-returns
-returns c = sets-made _ _ _ (c .before .before .before .before .before .before .pre .0) (c .before .before .before .before .before .before .pre .0 .checked .signatures-few) _ _ _ _ (c .before .before .before .sight .ensures) (c .before .below-sets .ensures) (c .last-set .ensures)
+returns c =
+    let q = c .before .before .before .before .before .before .pre in
+    sets-made _ _ _ (q .0) (q .0 .checked .signatures-few) _ _ _ _ (c .before .before .before .sight .ensures)
+    (idle-sets _ _ _ _ (q .0) _ _ (q .1 .0) (q .1 .1 .0) _ (c .before .is-idle .ensures) (c .if1 .taken))
+    (c .before .before .last-set .ensures)
+
+goes-for-requires : tie.Need-goes-for-requires
+goes-for-requires c κs = c .before .before .before .before .before .before .pre .0 .checked .sized
+
+below-sets-requires : tie.Need-below-sets-requires
+below-sets-requires c κs = (c .before .before .before .before .before .before .before .pre .0, (c .before .before .before .before .sight .ensures, c .goes-for .ensures))
+
+returns-2 : tie.Need-returns-2
+returns-2 c =
+    let q = c .before .before .before .before .before .before .before .before .pre .0 in
+    sets-made _ _ _ q (q .checked .signatures-few) _ _ _ _ (c .before .before .before .before .before .sight .ensures) (c .below-sets .ensures) (c .before .before .before .before .last-set .ensures)
 
 pub open-sets-spec : {M : Type 1} → statement M
-open-sets-spec = tie.close (tie.spec sight-requires goes-for-requires below-sets-requires last-set-requires returns)
+open-sets-spec =
+    tie.close (tie.spec sight-requires last-set-requires is-idle-requires returns goes-for-requires below-sets-requires returns-2)
