@@ -2,7 +2,7 @@
 -- Assumes nothing.
 use Prim.Native.Nat.{ℕ, _+_, _*_}
 use native.Mathlib.Nat.{add-zero}
-use mathlib.Core.Path.{_≡_, sym, ap, _∙_}
+use mathlib.Core.Path.{_≡_, refl, sym, ap, _∙_, fun-ext}
 use mathlib.Core.Bool.{Bool, false}
 use mathlib.Core.List.{List, [], _∷_}
 use lib.Bits.{bitOr}
@@ -11,7 +11,7 @@ use Rattle.laws.specs.Booleans.{or-neither}
 use Rattle.laws.specs.Bits.{bit-or, no-bit}
 use Rattle.laws.specs.Gather.{gather, gather-empty}
 use Rattle.laws.specs.Mask.{bit}
-use Rattle.output.specs.Forms.Emitted.{emitted, emittedAt, opens, opensBelow, opensLast, belowBytes, lastBytes}
+use Rattle.output.specs.Forms.Emitted.{emitted, emittedAt, opens, opensFor, opensBelow, opensLast, belowBytes, lastBytes}
 
 -- four tests in a list
 four : (f : ℕ → Bool) (a b c d : Bool) (kind actor t : ℕ) → a ≡ f 0 → b ≡ f 1 → c ≡ f 2 → d ≡ f 3
@@ -19,13 +19,21 @@ four : (f : ℕ → Bool) (a b c d : Bool) (kind actor t : ℕ) → a ≡ f 0 �
 unfolding emittedAt gather opens
 four f a b c d kind actor t x y z w = rw (x, y, z, w)
 
--- those of a transaction
-pub four-below : (below : List ℕ) (actor k t : ℕ) (a b c d : Bool)
-    → a ≡ bit (getD below (4 * k) 0) t → b ≡ bit (getD below (4 * k + 1) 0) t → c ≡ bit (getD below (4 * k + 2) 0) t → d ≡ bit (getD below (4 * k + 3) 0) t
-    → emittedAt (opens (a ∷ b ∷ c ∷ d ∷ [])) (k + 1) actor t ≡ belowBytes below actor k t
-unfolding belowBytes opensBelow
-four-below below actor k t a b c d x y z w =
-    four (opensBelow below k t) a b c d (k + 1) actor t (x ∙ ap (λ i. bit (getD below i 0) t) (sym (add-zero (4 * k)))) y z w
+-- those of a transaction, from four sets
+pub four-for : (alice bob contract carol t : ℕ) (a b c d : Bool) → a ≡ bit alice t → b ≡ bit bob t → c ≡ bit contract t → d ≡ bit carol t
+    → opensFor alice bob contract carol t ≡ opens (a ∷ b ∷ c ∷ d ∷ [])
+unfolding opensFor
+four-for alice bob contract carol t a b c d x y z w = rw (x, y, z, w)
+
+four-at : (below : List ℕ) (actor k t : ℕ)
+    → belowBytes below actor k t ≡ emittedAt (opensFor (getD below (4 * k) 0) (getD below (4 * k + 1) 0) (getD below (4 * k + 2) 0) (getD below (4 * k + 3) 0) t) (k + 1) actor t
+unfolding belowBytes opensBelow opensFor
+four-at below actor k t =
+    sym (four (opensBelow below k t) _ _ _ _ (k + 1) actor t (ap (λ i. bit (getD below i 0) t) (sym (add-zero (4 * k)))) refl refl refl)
+
+pub four-below : (below : List ℕ) (actor k : ℕ)
+    → belowBytes below actor k ≡ (λ t. emittedAt (opensFor (getD below (4 * k) 0) (getD below (4 * k + 1) 0) (getD below (4 * k + 2) 0) (getD below (4 * k + 3) 0) t) (k + 1) actor t)
+four-below below actor k = fun-ext (four-at below actor k)
 
 -- those of byte 255
 pub four-last : (last actor k : ℕ) (a b c d : Bool) → a ≡ bit last (4 * k) → b ≡ bit last (4 * k + 1) → c ≡ bit last (4 * k + 2) → d ≡ bit last (4 * k + 3)

@@ -5,7 +5,7 @@ ghost use lib.ListN.{length};
 ghost use Rattle.laws.specs.Gather.{gather};
 ghost use Rattle.laws.specs.Mask.{bit};
 ghost use Rattle.laws.specs.Over.{over};
-ghost use Rattle.output.specs.Forms.Emitted.{emitted, emittedAt, opens, belowBytes, lastBytes, kindBytes, actorBytes, Counted, Ones};
+ghost use Rattle.output.specs.Forms.Emitted.{emitted, emittedAt, opens, opensFor, belowBytes, lastBytes, kindBytes, actorBytes, Counted, Ones};
 
 // The number of a mask's bits.
 fn ones(mask: u32) -> usize
@@ -68,22 +68,24 @@ fn write_at(on: [bool; 4], kind: u8, actor: u8, t: u8, out: &mut [u8]) -> usize
     at
 }
 
-// The steps of kind k + 1 on transaction t.
-fn write_transaction(below: [u32; 28], actor: u8, k: usize, t: usize, out: &mut [u8]) -> usize
-    requires { ⌜ k < 7 ⌝ }
+// The steps of a kind on transaction t, where each destination has a set.
+fn write_transaction(
+    alice: u32,
+    bob: u32,
+    contract: u32,
+    carol: u32,
+    kind: u8,
+    actor: u8,
+    t: usize,
+    out: &mut [u8],
+) -> usize
     requires { ⌜ t < 32 ⌝ }
-    requires { ⌜ length (belowBytes below actor k t) ≤ length (now out) ⌝ }
-    ensures { λ r. ⌜ r ≡ length (belowBytes below actor k t) ⌝ }
-    ensures { λ _. ⌜ now (out .exit) ≡ over (belowBytes below actor k t) (now (out .entry)) ⌝ }
+    requires { ⌜ length (emittedAt (opensFor alice bob contract carol t) kind actor t) ≤ length (now out) ⌝ }
+    ensures { λ r. ⌜ r ≡ length (emittedAt (opensFor alice bob contract carol t) kind actor t) ⌝ }
+    ensures { λ _. ⌜ now (out .exit) ≡ over (emittedAt (opensFor alice bob contract carol t) kind actor t) (now (out .entry)) ⌝ }
 {
-    let i = 4 * k;
-    let on = [
-        has(below[i], t),
-        has(below[i + 1], t),
-        has(below[i + 2], t),
-        has(below[i + 3], t),
-    ];
-    write_at(on, (k + 1) as u8, actor, t as u8, out)
+    let on = [has(alice, t), has(bob, t), has(contract, t), has(carol, t)];
+    write_at(on, kind, actor, t as u8, out)
 }
 
 // The steps of kind k + 1 on the transactions: none at once where its four sets are empty.
@@ -94,13 +96,18 @@ fn write_below(below: [u32; 28], actor: u8, k: usize, out: &mut [u8]) -> usize
     ensures { λ _. ⌜ now (out .exit) ≡ over (gather 32 (belowBytes below actor k)) (now (out .entry)) ⌝ }
 {
     let i = 4 * k;
-    if (below[i] | below[i + 1] | below[i + 2] | below[i + 3]) == 0 {
+    let alice = below[i];
+    let bob = below[i + 1];
+    let contract = below[i + 2];
+    let carol = below[i + 3];
+    if (alice | bob | contract | carol) == 0 {
         return 0;
     }
+    let kind = (k + 1) as u8;
     let mut at: usize = 0;
     let mut t: usize = 0;
     while t < 32 {
-        let wrote = write_transaction(below, actor, k, t, &mut out[at..]);
+        let wrote = write_transaction(alice, bob, contract, carol, kind, actor, t, &mut out[at..]);
         at += wrote;
         t += 1;
     }

@@ -27,6 +27,10 @@ emittedAt on kind actor t = gather destinations (λ d. emitted (on d) kind actor
 unfoldable pub opens : List Bool → ℕ → Bool
 opens on d = getD on d false
 
+-- the destinations whose set has t
+unfoldable pub opensFor : ℕ → ℕ → ℕ → ℕ → ℕ → ℕ → Bool
+opensFor alice bob contract carol t = opens (bit alice t ∷ bit bob t ∷ bit contract t ∷ bit carol t ∷ [])
+
 -- An actor's open steps are given as sets `below` and a set `last`. The set at place `placeOf k d` is that of kind k + 1 and destination d:
 -- bit t for transaction t. Bit `placeOf k d` of `last` stands for the step of kind k + 1 and destination d with transaction byte 255.
 

@@ -1,6 +1,6 @@
 -- None, or the steps on the transactions before t.
-use Rattle.output.specs.Forms.Emitted.{belowBytes}
-use Rattle.output.proofs.Four.{none-below}
+use Rattle.output.specs.Forms.Emitted.{emittedAt, opensFor}
+use Rattle.output.proofs.Four.{four-below, none-below}
 use Rattle.laws.specs.Over.{over-none}
 use Rattle.laws.specs.Wrote.{Turns, turns-start, turn-room, turn-end, turn-more, turns-done}
 use mathlib.Core.Path.{refl}
@@ -11,54 +11,63 @@ use Rattle.output.proofs.open.write_below.Statement.{statement}
 use Rattle.output.proofs.open.write_below.Tie as tie
 
 abbrev Inv-loop : tie.InvT-loop
-Inv-loop actor k out₀ below i at₀ t₀ out at t = Turns (belowBytes below actor k) 32 out₀ out at t
+Inv-loop actor k out₀ i alice bob contract carol kind at₀ t₀ out at t =
+    Turns (λ j. emittedAt (opensFor alice bob contract carol j) kind actor j) 32 out₀ out at t
 
 abbrev μ-loop : tie.MeasureT-loop
-μ-loop actor k out₀ below i at₀ t₀ out at t = 32 - t
+μ-loop actor k out₀ i alice bob contract carol kind at₀ t₀ out at t = 32 - t
 
 mul-i : tie.Need-mul-i Inv-loop μ-loop
 mul-i c = search needs
 
-mul-if1 : tie.Need-mul-if1 Inv-loop μ-loop
-mul-if1 c = search needs
+mul-alice : tie.Need-mul-alice Inv-loop μ-loop
+mul-alice c = search needs
 
-array-read-if1 : tie.Need-array-read-if1 Inv-loop μ-loop
-array-read-if1 c = search needs
+array-read-alice : tie.Need-array-read-alice Inv-loop μ-loop
+array-read-alice c = search needs
 
-add-if1 : tie.Need-add-if1 Inv-loop μ-loop
-add-if1 c = search needs
+add-bob : tie.Need-add-bob Inv-loop μ-loop
+add-bob c = search needs
 
-mul-if1-2 : tie.Need-mul-if1-2 Inv-loop μ-loop
-mul-if1-2 c = search needs
+mul-bob : tie.Need-mul-bob Inv-loop μ-loop
+mul-bob c = search needs
 
-array-read-if1-2 : tie.Need-array-read-if1-2 Inv-loop μ-loop
-array-read-if1-2 c = search needs
+array-read-bob : tie.Need-array-read-bob Inv-loop μ-loop
+array-read-bob c = search needs
 
-add-if1-2 : tie.Need-add-if1-2 Inv-loop μ-loop
-add-if1-2 c = search needs
+add-contract : tie.Need-add-contract Inv-loop μ-loop
+add-contract c = search needs
 
-mul-if1-3 : tie.Need-mul-if1-3 Inv-loop μ-loop
-mul-if1-3 c = search needs
+mul-contract : tie.Need-mul-contract Inv-loop μ-loop
+mul-contract c = search needs
 
-array-read-if1-3 : tie.Need-array-read-if1-3 Inv-loop μ-loop
-array-read-if1-3 c = search needs
+array-read-contract : tie.Need-array-read-contract Inv-loop μ-loop
+array-read-contract c = search needs
 
-add-if1-3 : tie.Need-add-if1-3 Inv-loop μ-loop
-add-if1-3 c = search needs
+add-carol : tie.Need-add-carol Inv-loop μ-loop
+add-carol c = search needs
 
-mul-if1-4 : tie.Need-mul-if1-4 Inv-loop μ-loop
-mul-if1-4 c = search needs
+mul-carol : tie.Need-mul-carol Inv-loop μ-loop
+mul-carol c = search needs
 
-array-read-if1-4 : tie.Need-array-read-if1-4 Inv-loop μ-loop
-array-read-if1-4 c = search needs
+array-read-carol : tie.Need-array-read-carol Inv-loop μ-loop
+array-read-carol c = search needs
 
 returns : tie.Need-returns Inv-loop μ-loop
 returns c =
     let a = c .before .before .args in
     rw (none-below (a .t1) (a .actor) (a .k) (c .if1 .taken)) (refl, over-none _)
 
+add-kind : tie.Need-add-kind Inv-loop μ-loop
+add-kind c = search needs
+
+cast-kind : tie.Need-cast-kind Inv-loop μ-loop
+cast-kind c = search needs
+
 loop-holds : tie.Need-loop-holds Inv-loop μ-loop
-loop-holds c = turns-start _ _ _ (c .before .before .pre .1)
+loop-holds c =
+    let a = c .before .before .args in
+    turns-start _ _ _ (rw (four-below (a .t1) (a .actor) (a .k)) at (c .before .before .pre .1))
 
 sub-write-transaction : tie.Need-sub-write-transaction Inv-loop μ-loop
 sub-write-transaction c = omega (arith, c .before .loop .inv .wrote)
@@ -72,7 +81,7 @@ part-write-transaction-end c = search needs
 write-transaction-requires : tie.Need-write-transaction-requires Inv-loop μ-loop
 write-transaction-requires c κs =
     let t = c .before .loop-test .taken in
-    (search needs, (search needs, turn-room _ _ _ _ _ _ (c .before .before .loop .inv) t))
+    (search needs, turn-room _ _ _ _ _ _ (c .before .before .loop .inv) t)
 
 add-at : tie.Need-add-at Inv-loop μ-loop
 add-at c =
@@ -95,7 +104,10 @@ same-length : tie.Need-same-length Inv-loop μ-loop
 same-length c = c .before .loop .inv .wrote .long
 
 returns-2 : tie.Need-returns-2 Inv-loop μ-loop
-returns-2 c = let w = turns-done _ _ _ _ _ _ (c .before .loop .inv) (c .loop-test .left) in (w .at, w .is)
+returns-2 c =
+    let a = c .before .before .before .before .args in
+    let w = turns-done _ _ _ _ _ _ (c .before .loop .inv) (c .loop-test .left) in
+    rw (four-below (a .t1) (a .actor) (a .k)) (w .at, w .is)
 
 pub write-below-spec : {M : Type 1} → statement M
 write-below-spec =
@@ -104,18 +116,20 @@ write-below-spec =
     Inv-loop
     μ-loop
     mul-i
-    mul-if1
-    array-read-if1
-    add-if1
-    mul-if1-2
-    array-read-if1-2
-    add-if1-2
-    mul-if1-3
-    array-read-if1-3
-    add-if1-3
-    mul-if1-4
-    array-read-if1-4
+    mul-alice
+    array-read-alice
+    add-bob
+    mul-bob
+    array-read-bob
+    add-contract
+    mul-contract
+    array-read-contract
+    add-carol
+    mul-carol
+    array-read-carol
     returns
+    add-kind
+    cast-kind
     loop-holds
     sub-write-transaction
     part-write-transaction-start
