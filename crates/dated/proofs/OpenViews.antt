@@ -6,7 +6,8 @@ use mathlib.Core.Bool.{Bool, true, false, not, _&&_}
 use mathlib.Core.List.{List}
 use lib.Dec.{eqb, leb}
 use lib.ListN.{length}
-use Rattle.laws.specs.Booleans.{pick}
+use borrow.Author.Tests.{eqb-true, not-true, not-false}
+use Rattle.laws.specs.Booleans.{pick, split, clash}
 use Rattle.laws.specs.Below.{anyBelow}
 use Rattle.laws.specs.Mask.{bit}
 use Rattle.laws.specs.Sets.{set-bit}
@@ -26,7 +27,7 @@ use Rattle.position.specs.Forms.View.{viewBelow, sinceIn}
 use Rattle.position.proofs.SendTests.{noConflict-set, hasParent-set, since-parent, lockHeight-parent}
 use Rattle.dated.specs.Opens.{atHand, opens}
 use Rattle.dated.specs.Dated.{firstOpen}
-use Rattle.dated.specs.Forms.Opens.{atHandIn, opensIn, firstOpenIn}
+use Rattle.dated.specs.Forms.Opens.{atHandIn, opensIn, stays, firstOpenIn}
 use Rattle.dated.proofs.Conjunction.{second-fails, third-fails, fourth-fails, first-left}
 
 module _ (s u : List ℕ) (p : Position) (ok : Checked s) (t : ℕ) (l : t < count s) where
@@ -73,7 +74,7 @@ module _ (s : List ℕ) (d : ℕ) (v : View) (x : Slot) (since t : ℕ) where
   abbrev some-signs : Bool
   some-signs = anyBelow (parties s) (λ k. atHandIn s v x t (partyAt k))
 
-  pub without-parent : above ≡ false → false ≡ opensIn s d v x since t
+  without-parent : above ≡ false → false ≡ opensIn s d v x since t
   unfolding opensIn
   without-parent = second-fails rival above reached some-signs
 
@@ -88,3 +89,25 @@ module _ (s : List ℕ) (d : ℕ) (v : View) (x : Slot) (since t : ℕ) where
   pub by-rival : (c : Bool) → c ≡ conflictIn s (bit (v .confirmed)) t → above ≡ true → reached ≡ true → some-signs ≡ true → not c ≡ opensIn s d v x since t
   unfolding opensIn noConflict
   by-rival c e p r a = ap not e ∙ first-left rival above reached some-signs p r a
+
+-- a count that stays, and one that may not
+module _ (s : List ℕ) (v : View) (t c : ℕ) where
+  stays-in : (d : ℕ) (x : Slot) (since : ℕ) → stays s v t c ≡ true → firstOpenIn s d v x since t c ≡ c
+  unfolding stays firstOpenIn
+  stays-in d x since h =
+      split (eqb c never)
+      (λ e. rw (e, sym (without-parent s d v x since t (not-true (hasParent s (bit (v .confirmed)) t) (rw e at h)))))
+      (λ e. rw e)
+
+  pub may-open : (b : Bool) → b ≡ stays s v t c → b ≡ false → (c ≡ never) × (hasParent s (bit (v .confirmed)) t ≡ true)
+  unfolding stays
+  may-open b f z =
+      let h = sym f ∙ z in
+      split (eqb c never)
+      (λ e. (eqb-true c never e, not-false (hasParent s (bit (v .confirmed)) t) (rw e at h)))
+      (λ e. clash refl (rw e at h))
+
+  pub count-stays : (u : List ℕ) (p : Position) (b : Bool) → Checked s → t < count s → v ≡ viewBelow s (count s) p → length (p .slots) ≡ 32 → b ≡ stays s v t c → b ≡ true
+      → firstOpen s u p t c ≡ c
+  count-stays u p b ok l e n f h =
+      sym (first-open-view s u p ok t l (perDay u) v (slot p t) (sinceIn s p t) c n refl e refl refl) ∙ stays-in (perDay u) (slot p t) (sinceIn s p t) (sym f ∙ h)

@@ -50,11 +50,15 @@ fn noted(opened: [u32; 32], position: Position, sheet: &[u8], setup: &[u8], view
     let mut counts = opened;
     let mut t: usize = 0;
     while t < n {
+        if opens::stays(sheet, view, t, counts[t]) {
+            t += 1;
+            continue;
+        }
         let x = position.slots[t];
         let up = parent::slot_above(sheet, t);
         let above = position.slots[up];
         let since = parent::block_above(sheet, t, above.height);
-        let c = opens::first_open(sheet, per_day, view, x, since, t, counts[t]);
+        let c = opens::first_open(sheet, per_day, view, x, since, t);
         counts[t] = c;
         t += 1;
     }

@@ -8,12 +8,15 @@ use steps::View;
 use steps::parent;
 ghost use Prim.Native.Nat.{_<_};
 ghost use mathlib.Core.Path.{_≡_};
+ghost use mathlib.Core.Bool.{true};
 ghost use lib.Dec.{leb};
 ghost use Rattle.laws.specs.Below.{anyBelow};
+ghost use Rattle.laws.specs.Mask.{bit};
 ghost use Rattle.sheet.specs.Field.{parties, partyAt, count, Sized};
-ghost use Rattle.sheet.specs.LockHeight.{lockHeight};
+ghost use Rattle.sheet.specs.LockHeight.{never, lockHeight};
 ghost use Rattle.sheet.specs.Checked.{Checked};
-ghost use Rattle.dated.specs.Forms.Opens.{atHandIn, opensIn, firstOpenIn};
+ghost use Rattle.slots.specs.Ancestry.{hasParent};
+ghost use Rattle.dated.specs.Forms.Opens.{atHandIn, opensIn, stays, firstOpenIn};
 
 // Never, as a height and as a count.
 pub const NEVER: u32 = 2147483647;
@@ -59,15 +62,13 @@ fn lock_reached(sheet: &[u8], per_day: u16, since: u16, mined: u16, t: usize) ->
     lock_height::lock_height(sheet, per_day, since, t) <= lock_height::wide(mined)
 }
 
-// Whether t is open. The parent is tested first: the search for a rival takes longest.
-pub fn opens(sheet: &[u8], per_day: u16, view: View, x: Slot, since: u16, t: usize) -> bool
+// Whether t, whose parent is confirmed or which has none, is open. The search for a rival takes longest.
+fn opens(sheet: &[u8], per_day: u16, view: View, x: Slot, since: u16, t: usize) -> bool
     requires { ⌜ Checked (now sheet) ⌝ }
     requires { ⌜ t < count (now sheet) ⌝ }
+    requires { ⌜ hasParent (now sheet) (bit (view .confirmed)) t ≡ true ⌝ }
     ensures { λ r. ⌜ r ≡ opensIn (now (sheet .entry)) «per_day» view x since t ⌝ }
 {
-    if !parent::parent_there(sheet, view.confirmed, t) {
-        return false;
-    }
     if !lock_reached(sheet, per_day, since, view.mined, t) {
         return false;
     }
@@ -77,25 +78,27 @@ pub fn opens(sheet: &[u8], per_day: u16, view: View, x: Slot, since: u16, t: usi
     !conflict::conflict_in(sheet, view.confirmed, t)
 }
 
-// The count c of t once this is seen: the blocks mined, where it is open for the first time.
-pub fn first_open(
-    sheet: &[u8],
-    per_day: u16,
-    view: View,
-    x: Slot,
-    since: u16,
-    t: usize,
-    c: u32,
-) -> u32
-    requires { ⌜ Checked (now sheet) ⌝ }
+// Whether the count c of t stays, whatever its slot: it has one, or its parent is not confirmed.
+pub fn stays(sheet: &[u8], view: View, t: usize, c: u32) -> bool
+    requires { ⌜ Sized (now sheet) ⌝ }
     requires { ⌜ t < count (now sheet) ⌝ }
-    ensures { λ r. ⌜ r ≡ firstOpenIn (now (sheet .entry)) «per_day» view x since t c ⌝ }
+    ensures { λ r. ⌜ r ≡ stays (now (sheet .entry)) view t c ⌝ }
 {
     if c != NEVER {
-        return c;
+        return true;
     }
+    !parent::parent_there(sheet, view.confirmed, t)
+}
+
+// The count of another transaction t once this is seen: the blocks mined, where it is open.
+pub fn first_open(sheet: &[u8], per_day: u16, view: View, x: Slot, since: u16, t: usize) -> u32
+    requires { ⌜ Checked (now sheet) ⌝ }
+    requires { ⌜ t < count (now sheet) ⌝ }
+    requires { ⌜ hasParent (now sheet) (bit (view .confirmed)) t ≡ true ⌝ }
+    ensures { λ r. ⌜ r ≡ firstOpenIn (now (sheet .entry)) «per_day» view x since t never ⌝ }
+{
     if !opens(sheet, per_day, view, x, since, t) {
-        return c;
+        return NEVER;
     }
     view.mined as u32
 }

@@ -82,3 +82,9 @@ rewrite-upto (suc m) zero f l d h k = absurd (omega (arith, h))
 rewrite-upto (suc m) (suc n) f [] d h k = refl
 rewrite-upto (suc m) (suc n) f (x ∷ l) d h k =
     ap (λ r. f 0 x ∷ r) (rewrite-upto m n (λ i. f (suc i)) l d (omega (arith, h)) (λ i a b. k (suc i) (omega (arith, a)) (omega (arith, b))))
+
+-- a turn of a loop that stores nothing: the rule keeps what stands at place n
+pub rewrite-past : {A : Type 0} (n : ℕ) (f : ℕ → A → A) (l r : List A) (d : A) → r ≡ rewriteFirst n f l → f n (getD r n d) ≡ getD r n d → r ≡ rewriteFirst (n + 1) f l
+rewrite-past n f l r d e h =
+    let k : getD r n d ≡ getD l n d = rw e (not-rewritten n f l n d (omega arith)) in
+    e ∙ rewrite-upto n (n + 1) f l d (omega arith) (λ i a b. let z : i ≡ n = omega (arith, a, b) in rw z (rw k at h))

@@ -1,9 +1,10 @@
 -- The counts of the transactions before t are noted.
 use Rattle.dated.specs.Dated.{firstOpen, noted}
-use Rattle.dated.proofs.OpenViews.{first-open-view}
+use Rattle.dated.proofs.OpenViews.{first-open-view, may-open, count-stays}
+use Rattle.sheet.specs.LockHeight.{never}
 use Rattle.position.specs.Position.{slot}
 use Rattle.position.specs.Forms.View.{sinceIn}
-use Rattle.laws.specs.Each.{rewriteFirst, rewrite-start, rewrite-again, rewrite-done, length-of-map}
+use Rattle.laws.specs.Each.{rewriteFirst, rewrite-start, rewrite-again, rewrite-past, rewrite-done, length-of-map}
 use lib.ListN.{length, getD}
 use mathlib.Core.Path.{_≡_, refl, _∙_}
 use Prim.Native.Nat.{_≤_, _-_}
@@ -27,6 +28,32 @@ per-day-requires c κs = search needs
 loop-holds : tie.Need-loop-holds Inv-loop μ-loop
 loop-holds c = (search needs, rewrite-start _ _)
 
+mul-stays : tie.Need-mul-stays Inv-loop μ-loop
+mul-stays c = search needs
+
+array-read-stays : tie.Need-array-read-stays Inv-loop μ-loop
+array-read-stays c = search needs
+
+stays-requires : tie.Need-stays-requires Inv-loop μ-loop
+stays-requires c κs = search needs
+
+add-t : tie.Need-add-t Inv-loop μ-loop
+add-t c = search needs
+
+loop-less : tie.Need-loop-less Inv-loop μ-loop
+loop-less c = search needs
+
+loop-again : tie.Need-loop-again Inv-loop μ-loop
+loop-again c =
+    let k = c .before .before .before .before .before .before .before .before in
+    let i = c .before .before .before .loop in
+    let m = c .before .before .loop-test .taken in
+    let l : length (k .args .t2 .slots) ≡ 32 = search (length-of-map, k .good) in
+    let e =
+    count-stays (k .args .sheet .now) _ (i .t) (getD (i .counts) (i .t) 0) (k .args .setup .now) (k .args .t2) _ (k .pre .0 .checked) (omega (arith, m, c .before .before .before .before .before .count .ensures .is)) (k .pre .1) l
+    (c .before .stays .ensures) (c .if1 .taken) in
+    (search needs, rewrite-past _ _ _ _ 0 (i .inv .1) e)
+
 mul-x : tie.Need-mul-x Inv-loop μ-loop
 mul-x c = search needs
 
@@ -45,14 +72,12 @@ element-copy-out-above c = search needs
 block-above-requires : tie.Need-block-above-requires Inv-loop μ-loop
 block-above-requires c κs = search needs
 
-mul-first-open : tie.Need-mul-first-open Inv-loop μ-loop
-mul-first-open c = search needs
-
-array-read-first-open : tie.Need-array-read-first-open Inv-loop μ-loop
-array-read-first-open c = search needs
-
 first-open-requires : tie.Need-first-open-requires Inv-loop μ-loop
-first-open-requires c κs = search needs
+first-open-requires c κs =
+    let k = c .before .before .before .before .before .before .before .before .before .before .before .before in
+    let n = c .before .before .before .before .before .before .before .before .before .count in
+    let w = may-open _ _ _ _ _ (c .before .before .before .before .before .stays .ensures) (c .before .before .before .before .if1 .left) in
+    (k .pre .0 .checked, (omega (arith, c .before .before .before .before .before .before .loop-test .taken, n .ensures .is), w .1))
 
 mul-counts : tie.Need-mul-counts Inv-loop μ-loop
 mul-counts c = search needs
@@ -60,24 +85,25 @@ mul-counts c = search needs
 array-write-counts : tie.Need-array-write-counts Inv-loop μ-loop
 array-write-counts c = search needs
 
-add-t : tie.Need-add-t Inv-loop μ-loop
-add-t c = search needs
+add-t-2 : tie.Need-add-t-2 Inv-loop μ-loop
+add-t-2 c = search needs
 
-loop-less : tie.Need-loop-less Inv-loop μ-loop
-loop-less c = search needs
+loop-less-2 : tie.Need-loop-less-2 Inv-loop μ-loop
+loop-less-2 c = search needs
 
-loop-again : tie.Need-loop-again Inv-loop μ-loop
+loop-again-2 : tie.Need-loop-again-2 Inv-loop μ-loop
 unfolding sinceIn slot
-loop-again c =
-    let k = c .before .before .before .before .before .before .before .before .before .before .before in
-    let i = c .before .before .before .before .before .before .loop in
-    let m = c .before .before .before .before .before .loop-test .taken in
-    let n = c .before .before .before .before .before .before .before .before .count in
+loop-again-2 c =
+    let k = c .before .before .before .before .before .before .before .before .before .before .before .before .before in
+    let i = c .before .before .before .before .before .before .before .before .loop in
+    let m = c .before .before .before .before .before .before .before .loop-test .taken in
+    let n = c .before .before .before .before .before .before .before .before .before .before .count in
     let l : length (k .args .t2 .slots) ≡ 32 = search (length-of-map, k .good) in
+    let w = may-open _ _ _ _ _ (c .before .before .before .before .before .before .stays .ensures) (c .before .before .before .before .before .if1 .left) in
     let e =
-    first-open-view (k .args .sheet .now) (k .args .setup .now) (k .args .t2) (k .pre .0 .checked) (i .t) (omega (arith, m, n .ensures .is)) _ _ _ (c .before .block-above .result) (getD (i .counts) (i .t) 0) l
-    (c .before .before .before .before .before .before .before .per-day .ensures) (k .pre .1) refl (rw (← (c .before .before .before .slot-above .ensures .0)) (c .before .block-above .ensures)) in
-    (search needs, rewrite-again _ _ _ _ 0 _ (i .inv .1) (c .first-open .ensures ∙ e))
+    first-open-view (k .args .sheet .now) (k .args .setup .now) (k .args .t2) (k .pre .0 .checked) (i .t) (omega (arith, m, n .ensures .is)) _ _ _ (c .before .block-above .result) never l
+    (c .before .before .before .before .before .before .before .before .before .per-day .ensures) (k .pre .1) refl (rw (← (c .before .before .before .slot-above .ensures .0)) (c .before .block-above .ensures)) in
+    (search needs, rewrite-again _ _ _ _ 0 _ (i .inv .1) (rw (w .0) (c .first-open .ensures ∙ e)))
 
 returns : tie.Need-returns Inv-loop μ-loop
 unfolding noted
@@ -92,18 +118,22 @@ noted-spec =
     count-requires
     per-day-requires
     loop-holds
+    mul-stays
+    array-read-stays
+    stays-requires
+    add-t
+    loop-less
+    loop-again
     mul-x
     element-copy-out-x
     slot-above-requires
     mul-above
     element-copy-out-above
     block-above-requires
-    mul-first-open
-    array-read-first-open
     first-open-requires
     mul-counts
     array-write-counts
-    add-t
-    loop-less
-    loop-again
+    add-t-2
+    loop-less-2
+    loop-again-2
     returns)

@@ -1,7 +1,7 @@
 -- Whether a transaction is open, over a view, its slot x and `since`, its parent's block.
 -- Assumes nothing.
 use Prim.Native.Nat.{ℕ}
-use mathlib.Core.Bool.{Bool, _&&_}
+use mathlib.Core.Bool.{Bool, not, _&&_, _||_}
 use mathlib.Core.List.{List}
 use lib.Dec.{eqb, leb}
 use Rattle.laws.specs.Booleans.{pick}
@@ -29,6 +29,10 @@ unfoldable pub opensIn : List ℕ → ℕ → View → Slot → ℕ → ℕ → 
 opensIn s d v x since t =
     noConflict s (bit (v .confirmed)) t
     && (hasParent s (bit (v .confirmed)) t && (leb (lockHeight s d (λ k. since) t) (v .mined) && anyBelow (parties s) (λ k. atHandIn s v x t (partyAt k))))
+
+-- the count c of t stays, whatever its slot: it has one, or its parent is not confirmed
+unfoldable pub stays : List ℕ → View → ℕ → ℕ → Bool
+stays s v t c = not (eqb c never) || not (hasParent s (bit (v .confirmed)) t)
 
 -- the count c of t once this is seen
 unfoldable pub firstOpenIn : List ℕ → ℕ → View → Slot → ℕ → ℕ → ℕ → ℕ

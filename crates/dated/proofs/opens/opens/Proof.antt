@@ -1,55 +1,37 @@
--- The parent, the lock, the signatures, then the rivals.
-use Rattle.dated.proofs.OpenViews.{without-parent, under-lock, unsigned, by-rival}
+-- The lock, the signatures, then the rivals.
+use Rattle.dated.proofs.OpenViews.{under-lock, unsigned, by-rival}
 use borrow.Author.Tests.{not-true, not-false}
 use mathlib.Core.Path.{sym, _∙_}
 use borrow.Author.Needs.{needs}
 use Rattle.dated.proofs.opens.opens.Statement.{statement}
 use Rattle.dated.proofs.opens.opens.Tie as tie
 
-parent-there-requires : tie.Need-parent-there-requires
-parent-there-requires c κs = search needs
-
-returns : tie.Need-returns
-returns c = without-parent _ _ _ _ _ _ (sym (c .before .parent-there .ensures) ∙ not-true _ (c .if1 .taken))
-
 lock-reached-requires : tie.Need-lock-reached-requires
 lock-reached-requires c κs = search needs
 
-returns-2 : tie.Need-returns-2
-returns-2 c =
-    under-lock _ _ _ _ _ _
-    (sym (c .before .before .before .parent-there .ensures) ∙ not-false _ (c .before .before .if1 .left))
-    (sym (c .before .lock-reached .ensures) ∙ not-true _ (c .if2 .taken))
+returns : tie.Need-returns
+returns c = under-lock _ _ _ _ _ _ (c .before .before .before .pre .1 .1) (sym (c .before .lock-reached .ensures) ∙ not-true _ (c .if1 .taken))
 
 at-hand-of-some-requires : tie.Need-at-hand-of-some-requires
 at-hand-of-some-requires c κs = search needs
 
-returns-3 : tie.Need-returns-3
-returns-3 c =
+returns-2 : tie.Need-returns-2
+returns-2 c =
     unsigned _ _ _ _ _ _
-    (sym (c .before .before .before .before .before .parent-there .ensures) ∙ not-false _ (c .before .before .before .before .if1 .left))
-    (sym (c .before .before .before .lock-reached .ensures) ∙ not-false _ (c .before .before .if2 .left))
-    (sym (c .before .at-hand-of-some .ensures) ∙ not-true _ (c .if3 .taken))
+    (c .before .before .before .before .before .pre .1 .1)
+    (sym (c .before .before .before .lock-reached .ensures) ∙ not-false _ (c .before .before .if1 .left))
+    (sym (c .before .at-hand-of-some .ensures) ∙ not-true _ (c .if2 .taken))
 
 conflict-in-requires : tie.Need-conflict-in-requires
 conflict-in-requires c κs = search needs
 
-returns-4 : tie.Need-returns-4
-returns-4 c =
+returns-3 : tie.Need-returns-3
+returns-3 c =
     by-rival _ _ _ _ _ _ _ (c .conflict-in .ensures)
-    (sym (c .before .before .before .before .before .before .parent-there .ensures) ∙ not-false _ (c .before .before .before .before .before .if1 .left))
-    (sym (c .before .before .before .before .lock-reached .ensures) ∙ not-false _ (c .before .before .before .if2 .left))
-    (sym (c .before .before .at-hand-of-some .ensures) ∙ not-false _ (c .before .if3 .left))
+    (c .before .before .before .before .before .before .pre .1 .1)
+    (sym (c .before .before .before .before .lock-reached .ensures) ∙ not-false _ (c .before .before .before .if1 .left))
+    (sym (c .before .before .at-hand-of-some .ensures) ∙ not-false _ (c .before .if2 .left))
 
 pub opens-spec : {M : Type 1} → statement M
 opens-spec =
-    tie.close
-    (tie.spec
-    parent-there-requires
-    returns
-    lock-reached-requires
-    returns-2
-    at-hand-of-some-requires
-    returns-3
-    conflict-in-requires
-    returns-4)
+    tie.close (tie.spec lock-reached-requires returns at-hand-of-some-requires returns-2 conflict-in-requires returns-3)
