@@ -13,7 +13,7 @@ ghost use Rattle.sheet.specs.Checked.{Fit};
 ghost use Rattle.slots.specs.Forms.Limited.{limitedSet};
 ghost use Rattle.position.specs.Forms.View.{viewBelow};
 ghost use Rattle.position.specs.Forms.Journal.{stepAt};
-ghost use Rattle.dated.specs.Dated.{noted, unseen, datedStart, datedStep};
+ghost use Rattle.dated.specs.Dated.{noted, datedStart, datedStep};
 ghost use Rattle.dated.specs.Forms.Seen.{seenAfter};
 
 mod opens;
@@ -23,6 +23,12 @@ mod opens;
 pub struct Dated {
     pub position: Position,
     pub opened: [u32; 32],
+}
+
+// A position with its counts, and its view.
+pub struct Viewed {
+    pub dated: Dated,
+    pub view: View,
 }
 
 // A step's refusal number, position and counts after it, whole, accepted or not, and the view of that position.
@@ -65,27 +71,19 @@ fn noted(opened: [u32; 32], position: Position, sheet: &[u8], setup: &[u8], view
     counts
 }
 
-// The empty journal's position before anything is seen.
-pub fn unseen(sheet: &[u8]) -> Dated
-    ensures { λ r. ⌜ r ≡ unseen (now (sheet .entry)) ⌝ }
-{
-    Dated {
-        position: journal::start(sheet),
-        opened: [2147483647u32; 32],
-    }
-}
-
-// The empty journal's position, seen.
-pub fn start(sheet: &[u8], setup: &[u8]) -> Dated
+// The empty journal's position, seen, and its view.
+pub fn start(sheet: &[u8], setup: &[u8]) -> Viewed
     requires { ⌜ Fit (now sheet) (now setup) ⌝ }
-    ensures { λ r. ⌜ r ≡ datedStart (now (sheet .entry)) (now (setup .entry)) ⌝ }
+    ensures { λ r. ⌜ r .dated ≡ datedStart (now (sheet .entry)) (now (setup .entry)) ⌝ }
+    ensures { λ r. ⌜ r .view ≡ viewBelow (now (sheet .entry)) (count (now (sheet .entry))) (r .dated .position) ⌝ }
 {
-    let fresh = unseen(sheet);
-    let position = fresh.position;
-    let never = fresh.opened;
+    let position = journal::start(sheet);
     let view = position.view(sheet);
-    let opened = noted(never, position, sheet, setup, view);
-    Dated { position, opened }
+    let opened = noted([opens::NEVER; 32], position, sheet, setup, view);
+    Viewed {
+        dated: Dated { position, opened },
+        view,
+    }
 }
 
 // The view of the position that an accepted step led to, from the view before it and the step's kind and transaction byte.

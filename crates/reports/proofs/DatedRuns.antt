@@ -54,6 +54,5 @@ module _ (s u j : List ℕ) where
       → r ≡ datedRunFrom s u (journalSteps j) 0 d → r ≡ datedRun s u j
   ran-allowed n d r e z f g = g ∙ rw f (sym (dated-allowed s u j (sym e ∙ z)))
 
-  pub ran-refused : (n : ℕ) (d : Dated) → n ≡ firstFailing (callTests s u j) → (n ≡ 0 → ⊥) → d ≡ unseen s
-      → record { refusal = n; accepted = 0; dated = d } ≡ datedRun s u j
-  ran-refused n d e z f = rw (f, e) (sym (dated-refused s u j (ne-eqb (firstFailing (callTests s u j)) 0 (λ y. z (e ∙ y)))))
+  pub ran-refused : (n : ℕ) → n ≡ firstFailing (callTests s u j) → (n ≡ 0 → ⊥) → record { refusal = n; accepted = 0; dated = unseen s } ≡ datedRun s u j
+  ran-refused n e z = rw e (sym (dated-refused s u j (ne-eqb (firstFailing (callTests s u j)) 0 (λ y. z (e ∙ y)))))

@@ -5,23 +5,23 @@ use mathlib.Core.Path.{_≡_, refl, sym, ap, _∙_}
 use mathlib.Core.List.{List}
 use lib.ListN.{length}
 use borrow.Author.Tests.{eq-eqb, ne-eqb, le-leb, lt-leb}
+use Rattle.laws.specs.Failing.{firstFailing}
 use Rattle.laws.specs.Over.{over}
 use Rattle.sheet.specs.Field.{count}
-use Rattle.sheet.specs.Checked.{Fit}
 use Rattle.sheet.specs.Refusal.{accepted, bufferShort}
 use Rattle.readings.specs.Reported.{rowWidth}
 use Rattle.position.specs.declared.Ran.{Ran}
-use Rattle.position.specs.Play.{run}
+use Rattle.position.specs.Play.{callTests, run}
 use Rattle.position.specs.Report.{reportBytes}
 use Rattle.position.specs.Answers.{Written, fitted}
 use Rattle.position.proofs.Passing.{passed-on, not-passed-on, written, not-written}
 use Rattle.dated.specs.declared.DatedRun.{DatedRun}
-use Rattle.dated.specs.Dated.{datedRun, forgotten}
+use Rattle.dated.specs.Dated.{unseen, datedRun, forgotten}
 use Rattle.dated.specs.Report.{reportAnswer}
 use Rattle.dated.proofs.Forgetting.{forgotten-run}
 use Rattle.dated.proofs.ReportAnswers.{countsAfter, rowsAfter, rows-length, report-as}
-use Rattle.runs.proofs.Runs.{ran-fit}
 use Rattle.runs.proofs.Bounds.{written-bounds}
+use Rattle.reports.proofs.DatedRuns.{ran-refused}
 
 -- where r is what the code found
 module _ (s u j : List ℕ) (r : DatedRun) (e : r ≡ datedRun s u j) (out : List ℕ) where
@@ -34,10 +34,6 @@ module _ (s u j : List ℕ) (r : DatedRun) (e : r ≡ datedRun s u j) (out : Lis
   rows-found : reportBytes s u (r .dated .position) (r .dated .opened) ≡ rowsAfter s u j
   unfolding forgotten
   rows-found = rw e (ap (λ (x : Ran). reportBytes s u (x .position) (countsAfter s u j)) (forgotten-run s u j))
-
-  -- the sheet and the setup of a run that was not refused passed their checks
-  pub run-fit : r .refusal ≡ 0 → Fit s u
-  run-fit z = ran-fit s u j (run s u j) refl (sym run-number ∙ z)
 
   pub report-refused : (r .refusal ≡ 0 → ⊥) → reportAnswer s u j out ≡ record { refusal = r .refusal; count = 0; buffer = out }
   report-refused h =
@@ -60,6 +56,10 @@ module _ (s u j : List ℕ) (r : DatedRun) (e : r ≡ datedRun s u j) (out : Lis
       report-allowed z
       ∙ written (rowsAfter s u j) out 0 (le-leb (length (rowsAfter s u j)) (length out) (rw (rows-length s u j) l))
       ∙ rw rows-found
+
+-- a call that is refused before any step
+pub call-refused : (s u j out : List ℕ) (n : ℕ) → n ≡ firstFailing (callTests s u j) → (n ≡ 0 → ⊥) → reportAnswer s u j out ≡ record { refusal = n; count = 0; buffer = out }
+call-refused s u j out n e h = report-refused s u j (record { refusal = n; accepted = 0; dated = unseen s }) (ran-refused s u j n e h) out h
 
 -- the number of a report
 pub report-below : (s u j out : List ℕ) → reportAnswer s u j out .refusal < 33

@@ -11,17 +11,26 @@ pub fn report(sheet: &[u8], setup: &[u8], journal: &[u8], out: &mut [u8]) -> u32
     ensures { λ r. ⌜ r ≡ reportAnswer (now (sheet .entry)) (now (setup .entry)) (now (journal .entry)) (now (out .entry)) .refusal ⌝ }
     ensures { λ _. ⌜ now (out .exit) ≡ reportAnswer (now (sheet .entry)) (now (setup .entry)) (now (journal .entry)) (now (out .entry)) .buffer ⌝ }
 {
-    let ran = journal::ran(sheet, setup, journal);
-    if ran.refusal != 0 {
-        return ran.refusal;
+    let of_sheet = sheet::check::sheet_refusal(sheet);
+    if of_sheet != 0 {
+        return of_sheet;
+    }
+    let number = runs::journal::call_refusal(sheet, setup, journal);
+    if number != 0 {
+        return number;
+    }
+    let ran = journal::run_from(dated::start(sheet, setup), sheet, setup, journal);
+    let run = ran.run;
+    if run.refusal != 0 {
+        return run.refusal;
     }
     let n = sheet::field::count(sheet);
     if out.len() < ROW_WIDTH * n {
         return refusal::BUFFER_SHORT;
     }
-    let dated = ran.dated;
+    let dated = run.dated;
     let position = dated.position;
     let opened = dated.opened;
-    queries::report::write_report(position, opened, sheet, setup, out);
+    queries::report::write_report(position, ran.view, opened, sheet, setup, out);
     refusal::ACCEPTED
 }

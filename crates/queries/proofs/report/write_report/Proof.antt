@@ -18,10 +18,10 @@ use Rattle.queries.proofs.report.write_report.Statement.{statement}
 use Rattle.queries.proofs.report.write_report.Tie as tie
 
 abbrev Inv-loop : tie.InvT-loop
-Inv-loop sheet setup out₀ position opened n per-day view struck at₀ t₀ out at t = Turns (fullRow sheet setup position opened) n out₀ out at t
+Inv-loop view sheet setup out₀ position opened n per-day struck at₀ t₀ out at t = Turns (fullRow sheet setup position opened) n out₀ out at t
 
 abbrev μ-loop : tie.MeasureT-loop
-μ-loop sheet setup out₀ position opened n per-day view struck at₀ t₀ out at t = n - t
+μ-loop view sheet setup out₀ position opened n per-day struck at₀ t₀ out at t = n - t
 
 count-requires : tie.Need-count-requires Inv-loop μ-loop
 count-requires c κs = search needs
@@ -29,17 +29,14 @@ count-requires c κs = search needs
 per-day-requires : tie.Need-per-day-requires Inv-loop μ-loop
 per-day-requires c κs = search needs
 
-view-requires : tie.Need-view-requires Inv-loop μ-loop
-view-requires c κs = search needs
-
 conflicts-of-requires : tie.Need-conflicts-of-requires Inv-loop μ-loop
 conflicts-of-requires c κs = search needs
 
 loop-holds : tie.Need-loop-holds Inv-loop μ-loop
 loop-holds c =
-    let k = c .before .before .before .before .before .before .before in
-    let n = c .before .before .before .count in
-    turns-start _ _ _ (rows-room (k .args .sheet .now) (k .args .setup .now) (k .args .t1) (k .args .t2) (n .result) _ (n .ensures .is) (k .pre .1))
+    let k = c .before .before .before .before .before .before in
+    let n = c .before .before .count in
+    turns-start _ _ _ (rows-room (k .args .sheet .now) (k .args .setup .now) (k .args .t1) (k .args .t3) (n .result) _ (n .ensures .is) (k .pre .1 .1))
 
 mul-x : tie.Need-mul-x Inv-loop μ-loop
 mul-x c = search needs
@@ -76,20 +73,20 @@ mul-write-row c = search needs
 
 array-read-write-row : tie.Need-array-read-write-row Inv-loop μ-loop
 array-read-write-row c =
-    omega (arith, c .before .before .before .before .before .before .loop-test .taken, c .before .before .before .before .before .before .before .before .before .before .before .count .ensures .is, c .before .before .before .before .before .before .before .before .before .before .before .before .before .before .before .pre .0 .checked .sized .few)
+    omega (arith, c .before .before .before .before .before .before .loop-test .taken, c .before .before .before .before .before .before .before .before .before .before .count .ensures .is, c .before .before .before .before .before .before .before .before .before .before .before .before .before .before .pre .0 .checked .sized .few)
 
 write-row-requires : tie.Need-write-row-requires Inv-loop μ-loop
 unfolding rowBytes bytesOf
 write-row-requires c κs =
-    let k = c .before .before .before .before .before .before .before .before .before .before .before .before .before .before .before in
+    let k = c .before .before .before .before .before .before .before .before .before .before .before .before .before .before in
     let i = c .before .before .before .before .before .before .before .loop in
-    omega (arith, row-length (k .args .sheet .now) (k .args .setup .now) (k .args .t1) (k .args .t2) (i .t), turn-room _ _ _ _ _ _ (i .inv) (c .before .before .before .before .before .before .loop-test .taken))
+    omega (arith, row-length (k .args .sheet .now) (k .args .setup .now) (k .args .t1) (k .args .t3) (i .t), turn-room _ _ _ _ _ _ (i .inv) (c .before .before .before .before .before .before .loop-test .taken))
 
 add-at : tie.Need-add-at Inv-loop μ-loop
 add-at c =
-    let k = c .before .before .before .before .before .before .before .before .before .before .before .before .before .before .before .before .before .before in
+    let k = c .before .before .before .before .before .before .before .before .before .before .before .before .before .before .before .before .before in
     let i = c .before .before .before .before .before .before .before .before .before .before .loop in
-    omega (arith, turn-end _ _ _ _ _ _ rowWidth (i .inv) (c .before .before .before .before .before .before .before .before .before .loop-test .taken) (sym (row-length (k .args .sheet .now) (k .args .setup .now) (k .args .t1) (k .args .t2) (i .t))))
+    omega (arith, turn-end _ _ _ _ _ _ rowWidth (i .inv) (c .before .before .before .before .before .before .before .before .before .loop-test .taken) (sym (row-length (k .args .sheet .now) (k .args .setup .now) (k .args .t1) (k .args .t3) (i .t))))
 
 add-t : tie.Need-add-t Inv-loop μ-loop
 add-t c = search needs
@@ -100,23 +97,23 @@ loop-less c = search needs
 loop-again : tie.Need-loop-again Inv-loop μ-loop
 unfolding sinceIn slot
 loop-again c =
-    let k = c .before .before .before .before .before .before .before .before .before .before .before .before .before .before .before .before .before .before in
+    let k = c .before .before .before .before .before .before .before .before .before .before .before .before .before .before .before .before .before in
     let i = c .before .before .before .before .before .before .before .before .before .before .loop in
     let m = c .before .before .before .before .before .before .before .before .before .loop-test .taken in
-    let n = c .before .before .before .before .before .before .before .before .before .before .before .before .before .before .count in
+    let n = c .before .before .before .before .before .before .before .before .before .before .before .before .before .count in
     let l : length (k .args .t1 .slots) ≡ 32 = search (length-of-map, k .good) in
-    let o : length (k .args .t2) ≡ 32 = search (k .good) in
+    let o : length (k .args .t3) ≡ 32 = search (k .good) in
     let wrote =
-    row-written (k .args .sheet .now) (k .args .setup .now) (k .args .t1) (k .args .t2) (i .t) _ _ _ _ _ _ (getD (k .args .t2) (i .t) 0) (k .pre .0 .checked .sized .few) l (omega (arith, m, n .ensures .is))
-    (c .before .before .before .before .before .before .before .before .before .before .before .before .before .per-day .ensures) (c .before .before .before .before .before .before .before .before .before .before .before .before .view .ensures) (c .before .before .before .before .before .before .before .before .before .before .before .conflicts-of .ensures) refl (rw (← (c .before .before .before .before .before .before .before .slot-above .ensures .0)) (c .before .before .before .before .before .block-above .ensures)) (c .before .before .before .before .row .ensures) refl o in
-    turn-more _ _ _ _ _ _ _ rowWidth (i .inv) m (sym (row-length (k .args .sheet .now) (k .args .setup .now) (k .args .t1) (k .args .t2) (i .t))) (rw wrote at (c .before .before .write-row .ensures))
+    row-written (k .args .sheet .now) (k .args .setup .now) (k .args .t1) (k .args .t3) (i .t) _ _ _ _ _ _ (getD (k .args .t3) (i .t) 0) (k .pre .0 .checked .sized .few) l (omega (arith, m, n .ensures .is))
+    (c .before .before .before .before .before .before .before .before .before .before .before .before .per-day .ensures) (k .pre .1 .0) (c .before .before .before .before .before .before .before .before .before .before .before .conflicts-of .ensures) refl (rw (← (c .before .before .before .before .before .before .before .slot-above .ensures .0)) (c .before .before .before .before .before .block-above .ensures)) (c .before .before .before .before .row .ensures) refl o in
+    turn-more _ _ _ _ _ _ _ rowWidth (i .inv) m (sym (row-length (k .args .sheet .now) (k .args .setup .now) (k .args .t1) (k .args .t3) (i .t))) (rw wrote at (c .before .before .write-row .ensures))
 
 same-length : tie.Need-same-length Inv-loop μ-loop
 same-length c = c .before .loop .inv .wrote .long
 
 returns : tie.Need-returns Inv-loop μ-loop
 unfolding reportBytes
-returns c = rw (← (c .before .before .before .before .before .count .ensures .is)) (turns-done _ _ _ _ _ _ (c .before .loop .inv) (c .loop-test .left) .is)
+returns c = rw (← (c .before .before .before .before .count .ensures .is)) (turns-done _ _ _ _ _ _ (c .before .loop .inv) (c .loop-test .left) .is)
 
 pub write-report-spec : {M : Type 1} → statement M
 write-report-spec =
@@ -126,7 +123,6 @@ write-report-spec =
     μ-loop
     count-requires
     per-day-requires
-    view-requires
     conflicts-of-requires
     loop-holds
     mul-x

@@ -1,7 +1,7 @@
 -- What is left to do from each step on is the whole, and the view is the position's.
 use Prim.Native.Nat.{_≤_, _-_}
 use native.Mathlib.Omega.{arith}
-use mathlib.Core.Path.{_≡_, _∙_}
+use mathlib.Core.Path.{_≡_}
 use Rattle.sheet.specs.Field.{count}
 use Rattle.position.specs.Play.{journalSteps}
 use Rattle.position.specs.Forms.View.{viewBelow}
@@ -18,11 +18,8 @@ Inv-loop sheet setup journal n dated₀ view₀ k₀ dated view k =
 abbrev μ-loop : tie.MeasureT-loop
 μ-loop sheet setup journal n dated₀ view₀ k₀ dated view k = n - k
 
-view-requires : tie.Need-view-requires Inv-loop μ-loop
-view-requires c κs = search needs
-
 loop-holds : tie.Need-loop-holds Inv-loop μ-loop
-loop-holds c = (search needs, left-all _ _ _ _, c .view .ensures)
+loop-holds c = (search needs, left-all _ _ _ _, c .before .before .before .before .before .pre .1 .0)
 
 mul-step : tie.Need-mul-step Inv-loop μ-loop
 mul-step c = search needs
@@ -34,7 +31,7 @@ ran-to-requires : tie.Need-ran-to-requires Inv-loop μ-loop
 ran-to-requires c κs = search needs
 
 returns : tie.Need-returns Inv-loop μ-loop
-returns c = c .ran-to .ensures ∙ left-stopped _ _ _ _ _ _ (c .before .before .before .before .before .loop .inv .1) (omega (arith, c .before .before .before .before .loop-test .taken)) _ (c .before .before .before .step .ensures .0) (c .before .if1 .taken)
+returns c = rw (c .ran-to .ensures) (left-stopped _ _ _ _ _ _ (c .before .before .before .before .before .loop .inv .1) (omega (arith, c .before .before .before .before .loop-test .taken)) _ (c .before .before .before .step .ensures .0) (c .before .if1 .taken), c .before .before .before .before .before .loop .inv .2)
 
 add-k : tie.Need-add-k Inv-loop μ-loop
 add-k c = search needs
@@ -53,7 +50,7 @@ ran-to-requires-2 : tie.Need-ran-to-requires-2 Inv-loop μ-loop
 ran-to-requires-2 c κs = search needs
 
 returns-2 : tie.Need-returns-2 Inv-loop μ-loop
-returns-2 c = c .ran-to2 .ensures ∙ left-ended _ _ _ _ _ _ (c .before .before .loop .inv .1) (omega (arith, c .before .loop-test .left))
+returns-2 c = rw (c .ran-to2 .ensures) (left-ended _ _ _ _ _ _ (c .before .before .loop .inv .1) (omega (arith, c .before .loop-test .left)), c .before .before .loop .inv .2)
 
 pub run-from-spec : {M : Type 1} → statement M
 run-from-spec =
@@ -61,7 +58,6 @@ run-from-spec =
     (tie.spec
     Inv-loop
     μ-loop
-    view-requires
     loop-holds
     mul-step
     step-requires
