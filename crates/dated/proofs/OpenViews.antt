@@ -7,7 +7,7 @@ use mathlib.Core.List.{List}
 use lib.Dec.{eqb, leb}
 use lib.ListN.{length}
 use borrow.Author.Tests.{eqb-true, not-true, not-false}
-use Rattle.laws.specs.Booleans.{pick, split, clash}
+use Rattle.laws.specs.Booleans.{split, clash}
 use Rattle.laws.specs.Below.{anyBelow}
 use Rattle.laws.specs.Mask.{bit}
 use Rattle.laws.specs.Sets.{set-bit}
@@ -22,7 +22,7 @@ use Rattle.slots.specs.Signatures.{sharedSecrets}
 use Rattle.steps.specs.declared.View.{View}
 use Rattle.steps.specs.Forms.View.{keysIn, senderIn}
 use Rattle.position.specs.declared.Position.{Position}
-use Rattle.position.specs.Position.{slot, blockOf, isConfirmed, keys, shared, senderHas, lockHeightIn}
+use Rattle.position.specs.Position.{slot, blockOf, isConfirmed, keys, shared, senderHas}
 use Rattle.position.specs.Forms.View.{viewBelow, sinceIn}
 use Rattle.position.proofs.SendTests.{noConflict-set, hasParent-set, since-parent, lockHeight-parent}
 use Rattle.dated.specs.Opens.{atHand, opens}

@@ -1,12 +1,12 @@
 -- A step on a position with its counts, accepted or refused; a row of steps by its first; the view carried over a step.
 -- Assumes nothing.
 use Prim.Native.Nat.{ℕ, _+_}
-use mathlib.Core.Path.{_≡_, refl, sym, ap, _∙_}
+use mathlib.Core.Path.{_≡_, refl, _∙_}
 use mathlib.Core.Bool.{true, false}
 use mathlib.Core.List.{List, [], _∷_}
 use lib.Dec.{eqb}
 use borrow.Author.Tests.{eq-eqb, ne-eqb}
-use Rattle.laws.specs.Booleans.{pick, split}
+use Rattle.laws.specs.Booleans.{split}
 use Rattle.sheet.specs.Refusal.{accepted}
 use Rattle.sheet.specs.Field.{count}
 use Rattle.sheet.specs.Checked.{Fit}
@@ -20,7 +20,7 @@ use Rattle.position.proofs.RenewedAfter.{renewed-after}
 use Rattle.position.proofs.SeenAfter.{seen-after}
 use Rattle.dated.specs.declared.Dated.{Dated}
 use Rattle.dated.specs.declared.DatedRun.{DatedRun}
-use Rattle.dated.specs.Dated.{noted, AfterStep, datedStep, datedRunFrom}
+use Rattle.dated.specs.Dated.{noted, datedStep, datedRunFrom}
 use Rattle.dated.specs.Forms.Seen.{seenAfter}
 
 module _ (s u : List ℕ) (d : Dated) (b : FourBytes) where

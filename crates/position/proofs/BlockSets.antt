@@ -10,7 +10,7 @@ use lib.Dec.{eqb, ltb}
 use lib.ListN.{getD}
 use borrow.Author.Tests.{eqb-true, ltb-false}
 use Rattle.laws.specs.Bits.{bit-or}
-use Rattle.laws.specs.Booleans.{pick, split, or-neither}
+use Rattle.laws.specs.Booleans.{split, or-neither}
 use Rattle.laws.specs.Each.{rewriteFirst, rewrite-same}
 use Rattle.laws.specs.Mask.{bit}
 use Rattle.laws.specs.Sets.{setBelow, set-bit}
@@ -23,7 +23,7 @@ use Rattle.slots.proofs.ConflictSets.{conflictIn-same}
 use Rattle.slots.proofs.AncestrySets.{inAncestry-same}
 use Rattle.slots.proofs.LineSets.{line-bit}
 use Rattle.position.specs.declared.Position.{Position}
-use Rattle.slots.specs.Slot.{emptySlot, standing, withPool}
+use Rattle.slots.specs.Slot.{emptySlot, standing}
 use Rattle.steps.specs.declared.View.{View}
 use Rattle.steps.specs.Mined.{confirmEntry}
 use Rattle.steps.proofs.Unmoved.{pool-out}

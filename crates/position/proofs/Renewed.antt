@@ -16,7 +16,7 @@ use Rattle.laws.specs.Mask.{bit, unionBelow}
 use Rattle.laws.specs.Sets.{joined, setBelow, set-same}
 use Rattle.laws.specs.Unions.{set-grown, union-grown, union-same}
 use Rattle.slots.specs.declared.Slot.{Slot}
-use Rattle.slots.specs.Slot.{standing, sharedAny}
+use Rattle.slots.specs.Slot.{sharedAny}
 use Rattle.slots.specs.Forms.Next.{Next}
 use Rattle.steps.specs.declared.View.{View}
 use Rattle.steps.specs.Forms.View.{viewWith}

@@ -3,14 +3,14 @@
 use Prim.Native.Nat.{ℕ, _+_, _<_, _≤_}
 use native.Mathlib.Omega.{arith}
 use mathlib.Core.Path.{_≡_, refl, sym, ap, subst, _∙_}
-use mathlib.Core.Bool.{Bool, true, false, _||_}
+use mathlib.Core.Bool.{Bool, true, false}
 use mathlib.Core.Logic.{_⊎_, inl, inr}
 use mathlib.Core.List.{List}
 use lib.Bits.{bitOr, or-self}
 use lib.Dec.{eqb, ltb}
 use lib.ListN.{length, getD, List·getD-eq-default}
 use borrow.Author.Tests.{eqb-true, eq-eqb, ltb-true, ltb-false, lt-ltb}
-use Rattle.laws.specs.Booleans.{pick, split, either, clash, and-parts}
+use Rattle.laws.specs.Booleans.{pick, split, either, clash}
 use Rattle.laws.specs.Each.{rewriteFirst, length-rewriteFirst}
 use Rattle.laws.specs.Mask.{bit}
 use Rattle.sheet.specs.Field.{count}

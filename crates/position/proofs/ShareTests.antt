@@ -1,7 +1,7 @@
 -- The tests of kinds 1 and 2, as the code finds them, are those of the rules.
 -- Assumes nothing.
 use Prim.Native.Nat.{ℕ}
-use mathlib.Core.Path.{_≡_, refl, _∙_}
+use mathlib.Core.Path.{_≡_, _∙_}
 use mathlib.Core.Bool.{Bool, _||_}
 use mathlib.Core.List.{List}
 use borrow.Author.Tests.{ne-eqb}

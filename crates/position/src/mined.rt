@@ -7,7 +7,7 @@ ghost use Prim.Native.Nat.{_+_, _<_};
 ghost use mathlib.Core.Path.{_≡_};
 ghost use Rattle.sheet.specs.Field.{count, Sized};
 ghost use Rattle.position.specs.Forms.View.{viewBelow};
-ghost use Rattle.position.specs.Effect.{withMined, afterMine};
+ghost use Rattle.position.specs.Effect.{afterMine};
 
 impl Position {
     // A mined block: its entries are confirmed and leave the pool, and who conflicts with another of them leaves it too.

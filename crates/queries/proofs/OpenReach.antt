@@ -8,7 +8,7 @@ use mathlib.Core.Bool.{Bool, true, false, not, _&&_, _||_, and-true, and-false}
 use mathlib.Core.List.{List, [], _∷_}
 use lib.Dec.{eqb, ltb}
 use lib.ListN.{getD}
-use borrow.Author.Tests.{eqb-true, eqb-false, eq-eqb, ne-eqb, ltb-true, lt-ltb, le-ltb, not-true, not-false}
+use borrow.Author.Tests.{eqb-true, ne-eqb, ltb-true, lt-ltb, le-ltb, not-true, not-false}
 use Rattle.laws.specs.Booleans.{split, either, clash, and-parts, or-parts, or-right}
 use Rattle.laws.specs.Sets.{joined, setBelow, set-same}
 use Rattle.sheet.specs.Field.{count, signatures, parent}
@@ -22,7 +22,7 @@ use Rattle.slots.specs.Destination.{miner, contract, destinations, destinationN
 use Rattle.steps.specs.declared.Decoded.{Decoded}
 use Rattle.steps.specs.declared.Decoded.the-variants.{Read, Refused}
 use Rattle.readings.specs.declared.Sight.{Sight}
-use Rattle.steps.specs.Decode.{noTransaction, sendsTo, sharesTo, isOther, firstShareFields, fieldsRight, ofKind, decode, stepBytes}
+use Rattle.steps.specs.Decode.{noTransaction, sendsTo, sharesTo, firstShareFields, fieldsRight, ofKind, decode, stepBytes}
 use Rattle.readings.specs.Forms.Sight.{shareNewIn, refusalIn, partyMay, mayStand, limit, givesIn, sharesFirst, minesIn, lastIn}
 use Rattle.steps.proofs.RightFields.{share-listed, give-listed, pool-listed, miner-listed, include-listed, bump-listed}
 use Rattle.output.specs.Forms.Emitted.{places}

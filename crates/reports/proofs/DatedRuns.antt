@@ -1,15 +1,13 @@
 -- A journal run step by step on a position with its counts: what is left to do from each step on.
 -- Assumes nothing.
 use Prim.Native.Nat.{ℕ, _+_, _*_, _≤_, _<_}
-use mathlib.Core.Path.{_≡_, refl, sym, ap, _∙_}
-use mathlib.Core.Bool.{true, false}
+use mathlib.Core.Path.{_≡_, sym, _∙_}
 use mathlib.Core.List.{List, [], _∷_}
-use lib.Dec.{eqb}
 use lib.ListN.{length}
 use borrow.Author.Tests.{eq-eqb, ne-eqb}
 use Rattle.laws.specs.Failing.{firstFailing}
 use Rattle.sheet.specs.Refusal.{accepted}
-use Rattle.position.specs.Play.{FourBytes, journalSteps, callTests}
+use Rattle.position.specs.Play.{journalSteps, callTests}
 use Rattle.position.specs.Forms.Journal.{stepAt}
 use Rattle.dated.specs.declared.Dated.{Dated}
 use Rattle.dated.specs.declared.DatedRun.{DatedRun}

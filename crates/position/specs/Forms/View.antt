@@ -4,7 +4,6 @@ use Prim.Native.Nat.{ℕ}
 use mathlib.Core.List.{List}
 use Rattle.laws.specs.Mask.{unionBelow}
 use Rattle.laws.specs.Sets.{setBelow}
-use Rattle.sheet.specs.Field.{count}
 use Rattle.slots.specs.Slot.{sharedAny}
 use Rattle.slots.specs.Forms.Limited.{limitedSet}
 use Rattle.steps.specs.declared.View.{View}

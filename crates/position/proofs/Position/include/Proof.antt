@@ -5,7 +5,6 @@ use Rattle.position.specs.Position.{slot}
 use Rattle.position.specs.Effect.{withSlots}
 use native.Mathlib.Omega.{arith}
 use Prim.Native.Nat.{_<_}
-use borrow.Author.Tests.{eq-eqb}
 use borrow.Author.Needs.{needs}
 use Rattle.position.proofs.Position.include.Statement.{statement}
 use Rattle.position.proofs.Position.include.Tie as tie

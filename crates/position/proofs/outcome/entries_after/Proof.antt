@@ -1,6 +1,5 @@
 -- The block, or none.
 use Rattle.laws.specs.Booleans.{tests}
-use borrow.Author.Needs.{needs}
 use Rattle.position.proofs.outcome.entries_after.Statement.{statement}
 use Rattle.position.proofs.outcome.entries_after.Tie as tie
 

@@ -1,6 +1,5 @@
 -- What it makes of it, or what was there.
 use Rattle.laws.specs.Booleans.{tests}
-use borrow.Author.Needs.{needs}
 use Rattle.position.proofs.outcome.slot_after.Statement.{statement}
 use Rattle.position.proofs.outcome.slot_after.Tie as tie
 
