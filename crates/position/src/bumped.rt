@@ -6,14 +6,15 @@ use steps::View;
 use steps::bumped;
 ghost use Prim.Native.Nat.{_<_};
 ghost use mathlib.Core.Path.{_≡_};
-ghost use Rattle.sheet.specs.Field.{count, Sized};
+ghost use Rattle.sheet.specs.Field.{count};
+ghost use Rattle.sheet.specs.Checked.{Checked};
 ghost use Rattle.position.specs.Forms.View.{viewBelow};
 ghost use Rattle.position.specs.Effect.{afterBump};
 
 impl Position {
     // A bump of t: it and its waiting ancestors enter the block, and who conflicts with them leaves it.
     pub fn after_bump(mut self, sheet: &[u8], view: View, t: usize) -> Position
-        requires { ⌜ Sized (now sheet) ⌝ }
+        requires { ⌜ Checked (now sheet) ⌝ }
         requires { ⌜ view ≡ viewBelow (now sheet) (count (now sheet)) self ⌝ }
         requires { ⌜ t < count (now sheet) ⌝ }
         ensures { λ r. ⌜ r ≡ afterBump (now (sheet .entry)) t self ⌝ }

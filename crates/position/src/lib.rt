@@ -2,6 +2,7 @@
 ghost use Prim.Native.Nat.{_<_};
 ghost use mathlib.Core.Path.{_≡_};
 ghost use Rattle.sheet.specs.Field.{count, Sized};
+ghost use Rattle.sheet.specs.Checked.{Checked};
 ghost use Rattle.slots.specs.Forms.Limited.{limitedSet};
 ghost use Rattle.position.specs.Forms.View.{viewBelow};
 
@@ -72,7 +73,7 @@ impl Position {
 
     // The view of the sheet's transactions.
     pub fn view(self, sheet: &[u8]) -> View
-        requires { ⌜ Sized (now sheet) ⌝ }
+        requires { ⌜ Checked (now sheet) ⌝ }
         ensures { λ r. ⌜ r ≡ viewBelow (now (sheet .entry)) (count (now (sheet .entry))) self ⌝ }
     {
         self.view_with(sheet, limited::limited(sheet))

@@ -5,14 +5,15 @@ use steps::View;
 use steps::mined;
 ghost use Prim.Native.Nat.{_+_, _<_};
 ghost use mathlib.Core.Path.{_≡_};
-ghost use Rattle.sheet.specs.Field.{count, Sized};
+ghost use Rattle.sheet.specs.Field.{count};
+ghost use Rattle.sheet.specs.Checked.{Checked};
 ghost use Rattle.position.specs.Forms.View.{viewBelow};
 ghost use Rattle.position.specs.Effect.{afterMine};
 
 impl Position {
     // A mined block: its entries are confirmed and leave the pool, and who conflicts with another of them leaves it too.
     pub fn after_entries(mut self, sheet: &[u8], view: View) -> Position
-        requires { ⌜ Sized (now sheet) ⌝ }
+        requires { ⌜ Checked (now sheet) ⌝ }
         requires { ⌜ view ≡ viewBelow (now sheet) (count (now sheet)) self ⌝ }
         requires { ⌜ self .mined < 10000 ⌝ }
         ensures { λ r. ⌜ r ≡ afterMine (now (sheet .entry)) self ⌝ }

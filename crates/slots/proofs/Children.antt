@@ -1,15 +1,18 @@
--- A child of a transaction in a set, looked for from one member to the next.
+-- A child of a transaction in a set, looked for from one member to the next, above the transaction itself.
 -- Assumes nothing.
 use Prim.Native.Nat.{ℕ, _+_, _<_}
-use mathlib.Core.Path.{_≡_, sym, _∙_}
+use native.Mathlib.Omega.{arith}
+use mathlib.Core.Path.{_≡_, refl, sym, _∙_}
 use mathlib.Core.Bool.{true, false, and-false}
 use mathlib.Core.List.{List}
 use borrow.Author.Tests.{eq-eqb, ne-eqb}
-use Rattle.laws.specs.Below.{any-start, any-more, any-found, any-upto}
+use Rattle.laws.specs.Below.{any-more, any-found, any-upto, any-all-false}
 use Rattle.laws.specs.Mask.{bit}
-use Rattle.sheet.specs.Field.{parent}
+use Rattle.sheet.specs.Field.{count, parent}
+use Rattle.sheet.specs.Checked.{Checked}
 use Rattle.slots.specs.Forms.Next.{Next}
 use Rattle.sheet.specs.Forms.Parents.{childThere, isParentBelow}
+use Rattle.slots.proofs.Parents.{child-spends, parent-lower}
 
 module _ (s : List ℕ) (m p : ℕ) where
   no-member : (k : ℕ) → bit m k ≡ false → childThere s (bit m) p k ≡ false
@@ -20,11 +23,15 @@ module _ (s : List ℕ) (m p : ℕ) where
   unfolding childThere
   other-child k up e f = rw (ne-eqb p (parent s k) (λ q. f (e ∙ sym q))) (and-false (bit m k))
 
-  -- none below the first member, and none up to the next
-  pub child-first : (n k : ℕ) → Next m 0 n k → isParentBelow s (bit m) k p ≡ false
+  -- none up to the transaction itself, none below the first member after it, and none up to the next
+  child-above : (k : ℕ) → Checked s → p < count s → k < p + 1 → childThere s (bit m) p k ≡ false
+  child-above k ok l h =
+      other-child k (parent s k) refl (λ e. absurd (omega (arith, h, e, parent-lower ok k (omega (arith, h, l)) (child-spends ok k (omega (arith, e, l))))))
+
+  pub child-first : (n k : ℕ) → Checked s → p < count s → Next m (p + 1) n k → isParentBelow s (bit m) k p ≡ false
   unfolding isParentBelow
-  child-first n k h =
-      any-upto 0 k (childThere s (bit m) p) (any-start (childThere s (bit m) p)) (λ j l i. no-member j (h .gap j l i))
+  child-first n k ok l h =
+      any-upto (p + 1) k (childThere s (bit m) p) (any-all-false (p + 1) (childThere s (bit m) p) (λ j i. child-above j ok l i)) (λ j a b. no-member j (h .gap j a b))
 
   pub child-next : (n k r up : ℕ) → Next m (k + 1) n r → isParentBelow s (bit m) k p ≡ false → up ≡ parent s k → (up ≡ p → ⊥)
       → isParentBelow s (bit m) r p ≡ false

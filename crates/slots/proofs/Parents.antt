@@ -1,11 +1,11 @@
 -- Parents on a checked sheet: what is no opening has a lower number for its parent, which is a transaction too.
 -- Assumes nothing.
-use Prim.Native.Nat.{ℕ, _<_}
+use Prim.Native.Nat.{ℕ, _≤_, _<_}
 use native.Mathlib.Omega.{arith}
 use mathlib.Core.Path.{_≡_}
 use mathlib.Core.Bool.{false}
 use mathlib.Core.List.{List}
-use borrow.Author.Tests.{ne-eqb}
+use borrow.Author.Tests.{eqb-true, ne-eqb}
 use Rattle.laws.specs.Booleans.{either, clash}
 use Rattle.sheet.specs.Field.{count, parent, opening}
 use Rattle.sheet.specs.Checked.{Checked}
@@ -21,6 +21,11 @@ module _ {s : List ℕ} (ok : Checked s) (t : ℕ) (l : t < count s) where
 
   pub parent-below : opening s t ≡ false → parent s t < count s
   parent-below o = let h = parent-lower o in omega arith
+
+  pub parent-none : 32 ≤ parent s t → parent s t ≡ 255
+  unfolding opening
+  parent-none h =
+      either (ok .entries t l .parent-lower) (eqb-true (parent s t) 255) (λ a. absurd (omega (arith, h, a, l, ok .sized .few)))
 
   pub parent-has : parent s t < t → opening s t ≡ false
   parent-has h = child-spends ok t (omega arith)

@@ -7,18 +7,20 @@ ghost use mathlib.Core.Path.{_≡_};
 ghost use mathlib.Core.Bool.{false};
 ghost use Rattle.laws.specs.Mask.{bit};
 ghost use Rattle.laws.specs.Sets.{setBelow};
-ghost use Rattle.sheet.specs.Field.{count, Sized};
+ghost use Rattle.sheet.specs.Field.{count};
+ghost use Rattle.sheet.specs.Checked.{Checked};
 ghost use Rattle.slots.specs.Conflict.{conflictIn, otherConflictIn};
 ghost use Rattle.slots.specs.Forms.Conflict.{foundIn};
 ghost use Rattle.sheet.specs.Forms.Parents.{isParentBelow, Parents};
 
-// Whether a child of `up` is in the set.
+// Whether a child of `up` is in the set. Children have higher numbers.
 fn child_in(sheet: &[u8], there: u32, up: usize) -> bool
-    requires { ⌜ Sized (now sheet) ⌝ }
+    requires { ⌜ Checked (now sheet) ⌝ }
+    requires { ⌜ up < count (now sheet) ⌝ }
     ensures { λ r. ⌜ r ≡ isParentBelow (now (sheet .entry)) (bit there) (count (now (sheet .entry))) up ⌝ }
 {
     let n = sheet::field::count(sheet);
-    let mut k = next::next(there, 0, n);
+    let mut k = next::next(there, up + 1, n);
     while k < n {
         if sheet::field::parent(sheet, k) == up {
             return true;
@@ -30,7 +32,7 @@ fn child_in(sheet: &[u8], there: u32, up: usize) -> bool
 
 // Whether a rival of t is in the set. An opening rivals only itself.
 pub fn conflict_in(sheet: &[u8], there: u32, t: usize) -> bool
-    requires { ⌜ Sized (now sheet) ⌝ }
+    requires { ⌜ Checked (now sheet) ⌝ }
     requires { ⌜ t < count (now sheet) ⌝ }
     ensures { λ r. ⌜ r ≡ conflictIn (now (sheet .entry)) (bit there) t ⌝ }
 {
@@ -42,7 +44,7 @@ pub fn conflict_in(sheet: &[u8], there: u32, t: usize) -> bool
 
 // Whether a rival of t but t itself is in the set.
 fn other_conflict_in(sheet: &[u8], there: u32, t: usize) -> bool
-    requires { ⌜ Sized (now sheet) ⌝ }
+    requires { ⌜ Checked (now sheet) ⌝ }
     requires { ⌜ t < count (now sheet) ⌝ }
     ensures { λ r. ⌜ r ≡ otherConflictIn (now (sheet .entry)) (bit there) t ⌝ }
 {
@@ -51,7 +53,7 @@ fn other_conflict_in(sheet: &[u8], there: u32, t: usize) -> bool
 
 // Whether a rival of t is in the set, t itself not being there, where `parents` are those of its members. An opening rivals only itself.
 fn conflict_by(sheet: &[u8], there: u32, parents: u32, t: usize) -> bool
-    requires { ⌜ Sized (now sheet) ⌝ }
+    requires { ⌜ Checked (now sheet) ⌝ }
     requires { ⌜ t < count (now sheet) ⌝ }
     requires { ⌜ Parents (now sheet) (bit there) (count (now sheet)) parents ⌝ }
     requires { ⌜ bit there t ≡ false ⌝ }
@@ -61,15 +63,12 @@ fn conflict_by(sheet: &[u8], there: u32, parents: u32, t: usize) -> bool
     if up < 32 {
         return set::has(parents, up);
     }
-    if up == 255 {
-        return false;
-    }
-    conflict_in(sheet, there, t)
+    false
 }
 
 // Whether a rival of t, or with `others` a rival but t itself, is in the set, where `parents` are those of its members.
 fn found_by(sheet: &[u8], there: u32, parents: u32, others: bool, t: usize) -> bool
-    requires { ⌜ Sized (now sheet) ⌝ }
+    requires { ⌜ Checked (now sheet) ⌝ }
     requires { ⌜ t < count (now sheet) ⌝ }
     requires { ⌜ Parents (now sheet) (bit there) (count (now sheet)) parents ⌝ }
     ensures { λ r. ⌜ r ≡ foundIn (now (sheet .entry)) (bit there) others t ⌝ }
@@ -85,7 +84,7 @@ fn found_by(sheet: &[u8], there: u32, parents: u32, others: bool, t: usize) -> b
 
 // The transactions that have a rival in the set, or with `others` a rival but themselves.
 pub fn conflicts_of(sheet: &[u8], there: u32, others: bool) -> u32
-    requires { ⌜ Sized (now sheet) ⌝ }
+    requires { ⌜ Checked (now sheet) ⌝ }
     ensures { λ r. ⌜ r ≡ setBelow (count (now (sheet .entry))) (foundIn (now (sheet .entry)) (bit there) others) ⌝ }
 {
     if there == 0 {

@@ -5,6 +5,7 @@ ghost use Prim.Native.Nat.{_<_};
 ghost use mathlib.Core.Path.{_≡_};
 ghost use Rattle.laws.specs.Sets.{setBelow};
 ghost use Rattle.sheet.specs.Field.{count, Sized};
+ghost use Rattle.sheet.specs.Checked.{Checked};
 ghost use Rattle.slots.specs.Forms.Limited.{hasLock, limitedSet};
 
 // The transactions that have a lock.
@@ -24,7 +25,7 @@ fn locked(sheet: &[u8]) -> u32
 
 // The transactions that can have a deadline: those of which some rival has a lock.
 pub fn limited(sheet: &[u8]) -> u32
-    requires { ⌜ Sized (now sheet) ⌝ }
+    requires { ⌜ Checked (now sheet) ⌝ }
     ensures { λ r. ⌜ r ≡ limitedSet (now (sheet .entry)) ⌝ }
 {
     conflict::conflicts_of(sheet, locked(sheet), false)

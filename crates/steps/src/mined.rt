@@ -8,12 +8,13 @@ use slots::signatures;
 ghost use Prim.Native.Nat.{_<_};
 ghost use mathlib.Core.Path.{_≡_};
 ghost use Rattle.sheet.specs.Field.{count, Sized};
+ghost use Rattle.sheet.specs.Checked.{Checked};
 ghost use Rattle.steps.specs.Mined.{confirmEntry};
 ghost use Rattle.steps.specs.Forms.Blocks.{struckIn, minedSlot};
 
 // Those with another rival in the block. None is asked for where the whole pool is in the block.
 pub fn struck(sheet: &[u8], view: View) -> u32
-    requires { ⌜ Sized (now sheet) ⌝ }
+    requires { ⌜ Checked (now sheet) ⌝ }
     ensures { λ r. ⌜ r ≡ struckIn (now (sheet .entry)) view ⌝ }
 {
     if view.pool | view.block == view.block {

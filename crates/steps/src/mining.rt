@@ -10,12 +10,13 @@ ghost use mathlib.Core.Bool.{not, _||_};
 ghost use lib.Dec.{eqb};
 ghost use Rattle.laws.specs.Mask.{bit};
 ghost use Rattle.laws.specs.Failing.{firstFailing};
-ghost use Rattle.sheet.specs.Field.{count, Sized};
+ghost use Rattle.sheet.specs.Field.{count};
+ghost use Rattle.sheet.specs.Checked.{Checked};
 ghost use Rattle.steps.specs.Forms.Mining.{includeTestsIn, mineTestsIn, bumpTestsIn};
 
 // The first test of kind 5 that fails, 0 where none does.
 pub fn include_refusal(sheet: &[u8], view: View, any: bool, t: usize) -> u32
-    requires { ⌜ Sized (now sheet) ⌝ }
+    requires { ⌜ Checked (now sheet) ⌝ }
     requires { ⌜ t < count (now sheet) ⌝ }
     ensures { λ r. ⌜ r ≡ firstFailing (includeTestsIn (now (sheet .entry)) view any t) ⌝ }
 {

@@ -5,7 +5,7 @@ use Rattle.lists.proofs.listing.write_list.Statement.{statement}
 use Rattle.lists.proofs.listing.write_list.Tie as tie
 
 view-requires : tie.Need-view-requires
-view-requires c κs = c .before .before .before .pre .checked .sized
+view-requires c κs = c .before .before .before .pre .checked
 
 outlook-requires : tie.Need-outlook-requires
 outlook-requires c κs = let q = c .before .before .before .before .pre in (q, c .view .ensures)

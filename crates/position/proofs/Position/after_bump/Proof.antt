@@ -39,7 +39,7 @@ next-requires c κs = search needs
 loop-holds : tie.Need-loop-holds Inv-loop μ-loop
 loop-holds c =
     let l : length (c .before .before .before .before .before .before .args .t1 .slots) ≡ 32 = search (length-of-map, c .before .before .before .before .before .before .good) in
-    (c .next .ensures .high, rewritten-start _ _ _ _ (bumped-outside _ _ _ (c .before .before .before .before .before .before .pre .0 .few) (c .before .before .before .before .before .before .pre .1 .0) _ _ _ (c .before .before .before .before .entering .ensures)) _ (c .before .count .ensures .is) _ l (c .next .ensures))
+    (c .next .ensures .high, rewritten-start _ _ _ _ (bumped-outside _ _ _ (c .before .before .before .before .before .before .pre .0 .sized .few) (c .before .before .before .before .before .before .pre .1 .0) _ _ _ (c .before .before .before .before .entering .ensures)) _ (c .before .count .ensures .is) _ l (c .next .ensures))
 
 mul-x : tie.Need-mul-x Inv-loop μ-loop
 mul-x c = search needs
@@ -67,14 +67,14 @@ loop-less c = search needs
 
 loop-again : tie.Need-loop-again Inv-loop μ-loop
 unfolding withSlots slot
-loop-again c = (c .next2 .ensures .high, rewritten-more _ _ _ _ (bumped-outside _ _ _ (c .before .before .before .before .before .before .before .before .before .before .before .pre .0 .few) (c .before .before .before .before .before .before .before .before .before .before .before .pre .1 .0) _ _ _ (c .before .before .before .before .before .before .before .before .before .entering .ensures)) _ (c .before .before .before .before .before .before .count .ensures .is) _ _ _ _ (c .before .before .before .before .loop .inv .1) (c .before .bumped-slot .ensures) (c .next2 .ensures))
+loop-again c = (c .next2 .ensures .high, rewritten-more _ _ _ _ (bumped-outside _ _ _ (c .before .before .before .before .before .before .before .before .before .before .before .pre .0 .sized .few) (c .before .before .before .before .before .before .before .before .before .before .before .pre .1 .0) _ _ _ (c .before .before .before .before .before .before .before .before .before .entering .ensures)) _ (c .before .before .before .before .before .before .count .ensures .is) _ _ _ _ (c .before .before .before .before .loop .inv .1) (c .before .bumped-slot .ensures) (c .next2 .ensures))
 
 returns : tie.Need-returns Inv-loop μ-loop
 unfolding afterBump changeSlots withSlots
 returns c =
     let s = now (c .before .before .before .before .before .before .before .before .args .sheet) in
-    rewritten-done _ _ _ _ (bumped-outside _ _ _ (c .before .before .before .before .before .before .before .before .pre .0 .few) (c .before .before .before .before .before .before .before .before .pre .1 .0) _ _ _ (c .before .before .before .before .before .before .entering .ensures)) _ (c .before .before .before .count .ensures .is) _ _ (c .before .loop .inv .1) (c .before .loop .inv .0) (c .loop-test .left)
-    ∙ rw (bumped-right s (c .before .before .before .before .before .before .before .before .args .t1) (c .before .before .before .before .before .before .before .before .args .t) (c .before .before .before .before .before .before .entering .result) (c .before .before .before .before .before .conflicts-of .result) (c .before .before .before .before .before .before .before .before .pre .0 .few) (c .before .before .before .before .before .before .before .before .pre .1 .1) (c .before .before .before .before .before .before .entering .ensures ∙ ap (λ (v : View). setBelow (count s) (entersIn v (lineSet s (c .before .before .before .before .before .before .before .before .args .t)))) (c .before .before .before .before .before .before .before .before .pre .1 .0)) (c .before .before .before .before .before .conflicts-of .ensures)) refl
+    rewritten-done _ _ _ _ (bumped-outside _ _ _ (c .before .before .before .before .before .before .before .before .pre .0 .sized .few) (c .before .before .before .before .before .before .before .before .pre .1 .0) _ _ _ (c .before .before .before .before .before .before .entering .ensures)) _ (c .before .before .before .count .ensures .is) _ _ (c .before .loop .inv .1) (c .before .loop .inv .0) (c .loop-test .left)
+    ∙ rw (bumped-right s (c .before .before .before .before .before .before .before .before .args .t1) (c .before .before .before .before .before .before .before .before .args .t) (c .before .before .before .before .before .before .entering .result) (c .before .before .before .before .before .conflicts-of .result) (c .before .before .before .before .before .before .before .before .pre .0 .sized .few) (c .before .before .before .before .before .before .before .before .pre .1 .1) (c .before .before .before .before .before .before .entering .ensures ∙ ap (λ (v : View). setBelow (count s) (entersIn v (lineSet s (c .before .before .before .before .before .before .before .before .args .t)))) (c .before .before .before .before .before .before .before .before .pre .1 .0)) (c .before .before .before .before .before .conflicts-of .ensures)) refl
 
 pub after-bump-spec : {M : Type 1} → statement M
 after-bump-spec =

@@ -22,7 +22,7 @@ unfolding stepRefusal tests bumpTests bumpTestsIn
 returns c = refuses _ _ _ _ _ (rw (← (c .before .before .before .wide .ensures .is), ← (c .before .before .owed .ensures)) (c .before .bump-refusal .ensures)) (c .if1 .taken)
 
 after-bump-requires : tie.Need-after-bump-requires
-after-bump-requires c κs = let p = c .before .before .before .before .before .before .pre in (p .0 .checked .sized, (p .1 .0, rw (c .before .before .before .wide .ensures .is) (p .1 .1)))
+after-bump-requires c κs = let p = c .before .before .before .before .before .before .pre in (p .0 .checked, (p .1 .0, rw (c .before .before .before .wide .ensures .is) (p .1 .1)))
 
 returns-2 : tie.Need-returns-2
 unfolding stepRefusal tests bumpTests bumpTestsIn effect

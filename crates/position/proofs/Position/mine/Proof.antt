@@ -26,7 +26,7 @@ unfolding mineTests
 after-entries-requires c κs =
     let p = c .before .before .before .before .before .before .pre in
     let z = entries-accepted _ _ _ (c .before .entries-after .ensures) (c .if1 .taken) in
-    (p .0 .checked .sized, (p .1, ltb-true _ _ (passed _ refl (sym (mine-answer _ _ _ (c .before .before .before .before .before .before .pre .0 .checked) _ _ _ (c .before .before .before .before .before .before .pre .1) (c .before .before .before .any-owed .ensures) (c .before .before .mine-refusal .ensures)) ∙ z) 23)))
+    (p .0 .checked, (p .1, ltb-true _ _ (passed _ refl (sym (mine-answer _ _ _ (c .before .before .before .before .before .before .pre .0 .checked) _ _ _ (c .before .before .before .before .before .before .pre .1) (c .before .before .before .any-owed .ensures) (c .before .before .mine-refusal .ensures)) ∙ z) 23)))
 
 returns : tie.Need-returns
 unfolding stepRefusal tests effect

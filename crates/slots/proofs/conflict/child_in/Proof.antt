@@ -19,11 +19,14 @@ abbrev μ-loop : tie.MeasureT-loop
 count-requires : tie.Need-count-requires Inv-loop μ-loop
 count-requires c κs = search needs
 
+add-next : tie.Need-add-next Inv-loop μ-loop
+add-next c = search needs
+
 next-requires : tie.Need-next-requires Inv-loop μ-loop
 next-requires c κs = search needs
 
 loop-holds : tie.Need-loop-holds Inv-loop μ-loop
-loop-holds c = (c .next .ensures .high, c .next .ensures .here, child-first _ _ _ _ _ (c .next .ensures))
+loop-holds c = (c .next .ensures .high, c .next .ensures .here, child-first _ _ _ _ _ (search needs) (search needs) (c .next .ensures))
 
 parent-requires : tie.Need-parent-requires Inv-loop μ-loop
 parent-requires c κs = search needs
@@ -31,8 +34,8 @@ parent-requires c κs = search needs
 returns : tie.Need-returns Inv-loop μ-loop
 returns c = rw (← (c .before .before .before .before .before .count .ensures .is)) (child-found _ _ _ _ _ _ (c .before .before .loop-test .taken) (c .before .before .before .loop .inv .1 (c .before .before .loop-test .taken)) (c .before .parent .ensures .is) (c .if1 .taken))
 
-add-next : tie.Need-add-next Inv-loop μ-loop
-add-next c = search needs
+add-next-2 : tie.Need-add-next-2 Inv-loop μ-loop
+add-next-2 c = search needs
 
 next-requires-2 : tie.Need-next-requires-2 Inv-loop μ-loop
 next-requires-2 c κs = search needs
@@ -54,11 +57,12 @@ child-in-spec =
     Inv-loop
     μ-loop
     count-requires
+    add-next
     next-requires
     loop-holds
     parent-requires
     returns
-    add-next
+    add-next-2
     next-requires-2
     loop-less
     loop-again

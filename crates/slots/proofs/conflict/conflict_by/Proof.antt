@@ -1,4 +1,5 @@
 -- A child of its parent, or for an opening none.
+use Rattle.slots.proofs.Parents.{parent-none}
 use Rattle.slots.proofs.ByParents.{by-opening, answer-parent}
 use mathlib.Core.Path.{sym, _∙_}
 use borrow.Author.Needs.{needs}
@@ -15,13 +16,7 @@ returns : tie.Need-returns
 returns c = c .has .ensures ∙ answer-parent _ _ _ _ _ (c .before .before .before .before .pre .1 .1 .0) (c .before .before .parent .ensures .is) (c .before .if1 .taken)
 
 returns-2 : tie.Need-returns-2
-returns-2 c = by-opening _ _ _ (c .before .before .before .before .pre .1 .1 .1) (sym (c .before .before .parent .ensures .is) ∙ c .if2 .taken)
-
-conflict-in-requires : tie.Need-conflict-in-requires
-conflict-in-requires c κs = search needs
-
-returns-3 : tie.Need-returns-3
-returns-3 c = search needs
+returns-2 c = by-opening _ _ _ (c .before .before .before .pre .1 .1 .1) (parent-none (search needs) _ (search needs) (rw (← (c .before .parent .ensures .is)) (c .if1 .left)))
 
 pub conflict-by-spec : {M : Type 1} → statement M
 conflict-by-spec =
@@ -30,6 +25,4 @@ conflict-by-spec =
     parent-requires
     has-requires
     returns
-    returns-2
-    conflict-in-requires
-    returns-3)
+    returns-2)

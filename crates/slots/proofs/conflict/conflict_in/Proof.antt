@@ -1,5 +1,6 @@
 -- An opening itself, or a child of its parent.
 use Rattle.slots.proofs.ByParents.{answer-opening, answer-child}
+use Rattle.slots.proofs.Parents.{parent-below}
 use mathlib.Core.Path.{sym, _∙_}
 use borrow.Author.Needs.{needs}
 use Rattle.slots.proofs.conflict.conflict_in.Statement.{statement}
@@ -18,7 +19,7 @@ parent-requires : tie.Need-parent-requires
 parent-requires c κs = search needs
 
 child-in-requires : tie.Need-child-in-requires
-child-in-requires c κs = search needs
+child-in-requires c κs = let h = parent-below (search needs) _ (search needs) (sym (c .before .before .opening .ensures) ∙ c .before .if1 .left) in (search needs, rw (c .parent .ensures .is) h)
 
 returns-2 : tie.Need-returns-2
 returns-2 c = c .child-in .ensures ∙ answer-child _ _ _ _ (sym (c .before .before .before .opening .ensures) ∙ c .before .before .if1 .left) (c .before .parent .ensures .is)
