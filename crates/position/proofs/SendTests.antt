@@ -26,6 +26,7 @@ use Rattle.slots.specs.Signatures.{sharedSecrets}
 use Rattle.slots.specs.Deadline.{deadline}
 use Rattle.slots.proofs.ConflictSets.{conflictIn-same}
 use Rattle.slots.proofs.Parents.{parent-below}
+use Rattle.slots.proofs.Deadlines.{deadline-by}
 use Rattle.slots.proofs.Since.{lockHeight-since, deadline-since}
 use Rattle.steps.specs.declared.View.{View}
 use Rattle.steps.specs.Forms.Parent.{slotAbove, blockAbove}
@@ -97,9 +98,10 @@ module _ (allowed : Bool) (s u : List ℕ) (p : Position) (ok : Checked s) (part
       ≡ poolTests allowed s u p party t destination
   unfolding poolTestsIn poolTests viewBelow
   pool-tests =
-      ap (λ x. x ++ ((stepDeadline, ltb (p .mined) (deadline s (perDay u) (λ k. blockOf p (parent s t)) t)) ∷ []))
+      rw (deadline-by s (ok .sized .few) (perDay u) (blockOf p (parent s t)) t l)
+      (ap (λ x. x ++ ((stepDeadline, ltb (p .mined) (deadline s (perDay u) (λ k. blockOf p (parent s t)) t)) ∷ []))
       (send-tests (sentSet (viewBelow s (count s) p)) (sent p) (sent-bit s p (ok .sized .few)))
-      ∙ ap (λ d. sendTests allowed s u p (sent p) party t destination ++ ((stepDeadline, ltb (p .mined) d) ∷ [])) (deadline-parent s u p t)
+      ∙ ap (λ d. sendTests allowed s u p (sent p) party t destination ++ ((stepDeadline, ltb (p .mined) d) ∷ [])) (deadline-parent s u p t))
 
   pub miner-tests : minerTestsIn allowed s u (viewBelow s (count s) p) (slot p t) (blockOf p (parent s t)) party t destination
       ≡ minerTests allowed s u p party t destination

@@ -8,7 +8,7 @@ use mathlib.Core.Bool.{Bool, true, false, _&&_}
 use mathlib.Core.List.{List}
 use lib.Dec.{eqb, ltb}
 use borrow.Author.Tests.{ltb-true, not-false}
-use Rattle.laws.specs.Booleans.{pick, and-parts, fails-by}
+use Rattle.laws.specs.Booleans.{pick, split, and-parts, fails-by}
 use Rattle.laws.specs.Least.{leastBelow}
 use Rattle.laws.specs.Mask.{bit}
 use Rattle.laws.specs.Sets.{setBelow, set-bit, set-same}
@@ -17,7 +17,7 @@ use Rattle.sheet.specs.LockHeight.{never, lockHeight}
 use Rattle.slots.specs.Conflict.{conflict, conflictIn}
 use Rattle.slots.specs.Deadline.{deadline}
 use Rattle.slots.specs.Forms.Conflict.{foundIn}
-use Rattle.slots.specs.Forms.Limited.{hasLock, limitedSet}
+use Rattle.slots.specs.Forms.Limited.{hasLock, limitedSet, deadlineBy}
 use Rattle.slots.proofs.Conflicts.{conflict-siblings, conflict-opening, none-in}
 use Rattle.slots.proofs.ConflictSets.{conflictIn-same}
 
@@ -78,3 +78,8 @@ module _ (s : List ℕ) (few : count s ≤ 32) where
   unfolding limitedSet
   deadline-unlimited d block t l h =
       deadline-unlocked s d block t (sym (set-bit (count s) (conflictIn s (hasLock s)) few t l) ∙ h)
+
+  pub deadline-by : (d since t : ℕ) → t < count s → deadlineBy s d (limitedSet s) since t ≡ deadline s d (λ k. since) t
+  unfolding deadlineBy
+  deadline-by d since t l =
+      split (bit (limitedSet s) t) (λ y. rw y) (λ y. rw y (sym (deadline-unlimited d (λ k. since) t l y)))

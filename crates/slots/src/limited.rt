@@ -1,12 +1,15 @@
 // The transactions that can have a deadline.
 use crate::conflict;
+use crate::deadline;
+use crate::lock_height;
 use sheet::set;
 ghost use Prim.Native.Nat.{_<_};
 ghost use mathlib.Core.Path.{_≡_};
 ghost use Rattle.laws.specs.Sets.{setBelow};
 ghost use Rattle.sheet.specs.Field.{count, Sized};
 ghost use Rattle.sheet.specs.Checked.{Checked};
-ghost use Rattle.slots.specs.Forms.Limited.{hasLock, limitedSet};
+ghost use Rattle.slots.specs.Forms.Height.{Height};
+ghost use Rattle.slots.specs.Forms.Limited.{hasLock, limitedSet, deadlineBy};
 
 // The transactions that have a lock.
 fn locked(sheet: &[u8]) -> u32
@@ -29,4 +32,16 @@ pub fn limited(sheet: &[u8]) -> u32
     ensures { λ r. ⌜ r ≡ limitedSet (now (sheet .entry)) ⌝ }
 {
     conflict::conflicts_of(sheet, locked(sheet), false)
+}
+
+// The deadline of t, where `since` is its parent's block and `limited` are those that can have one.
+pub fn deadline_by(sheet: &[u8], per_day: u16, limited: u32, since: u16, t: usize) -> u32
+    requires { ⌜ Sized (now sheet) ⌝ }
+    requires { ⌜ t < count (now sheet) ⌝ }
+    ensures { λ r. ⌜ Height (deadlineBy (now (sheet .entry)) «per_day» limited since t) r ⌝ }
+{
+    if !set::has(limited, t) {
+        return lock_height::NEVER;
+    }
+    deadline::deadline(sheet, per_day, since, t)
 }

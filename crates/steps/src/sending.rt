@@ -5,7 +5,7 @@ use crate::parent;
 use sheet::refusal;
 use slots::Slot;
 use slots::conflict;
-use slots::deadline;
+use slots::limited;
 use slots::lock_height;
 use slots::party;
 use slots::signatures;
@@ -16,7 +16,7 @@ ghost use Rattle.laws.specs.Failing.{firstFailing};
 ghost use Rattle.sheet.specs.Field.{count, Sized};
 ghost use Rattle.sheet.specs.LockHeight.{lockHeight};
 ghost use Rattle.sheet.specs.Checked.{Checked, Fit};
-ghost use Rattle.slots.specs.Deadline.{deadline};
+ghost use Rattle.slots.specs.Forms.Limited.{deadlineBy};
 ghost use Rattle.slots.specs.Slot.{entryFor, withPool, withShared};
 ghost use Rattle.slots.specs.Signatures.{exposedMask};
 ghost use Rattle.steps.specs.Forms.View.{sentSet, placedSet, keysIn, senderIn};
@@ -68,13 +68,13 @@ fn unlocked(sheet: &[u8], per_day: u16, since: u16, mined: u16, t: usize) -> boo
     lock_height::lock_height(sheet, per_day, since, t) < lock_height::wide(mined) + 1
 }
 
-// Whether the deadline of t is ahead.
-fn in_time(sheet: &[u8], per_day: u16, since: u16, mined: u16, t: usize) -> bool
+// Whether the deadline of t is ahead, where `limited` are those that can have one.
+fn in_time(sheet: &[u8], per_day: u16, limited: u32, since: u16, mined: u16, t: usize) -> bool
     requires { ⌜ Sized (now sheet) ⌝ }
     requires { ⌜ t < count (now sheet) ⌝ }
-    ensures { λ r. ⌜ r ≡ ltb mined (deadline (now (sheet .entry)) «per_day» (λ k. since) t) ⌝ }
+    ensures { λ r. ⌜ r ≡ ltb mined (deadlineBy (now (sheet .entry)) «per_day» limited since t) ⌝ }
 {
-    lock_height::wide(mined) < deadline::deadline(sheet, per_day, since, t)
+    lock_height::wide(mined) < limited::deadline_by(sheet, per_day, limited, since, t)
 }
 
 // The first that fails of the tests that kinds 3 and 4 share, the lock before the signatures.
@@ -141,7 +141,7 @@ pub fn pool_refusal(
     if first != 0 {
         return first;
     }
-    if !in_time(sheet, per_day, since, view.mined, t) {
+    if !in_time(sheet, per_day, view.limited, since, view.mined, t) {
         return refusal::STEP_DEADLINE;
     }
     refusal::ACCEPTED

@@ -12,7 +12,7 @@ use Rattle.sheet.specs.LockHeight.{lockHeight}
 use Rattle.slots.specs.declared.Slot.{Slot}
 use Rattle.slots.specs.Conflict.{noConflict}
 use Rattle.slots.specs.Ancestry.{hasParent}
-use Rattle.slots.specs.Deadline.{deadline}
+use Rattle.slots.specs.Forms.Limited.{deadlineBy}
 use Rattle.slots.specs.Destination.{isPayee}
 use Rattle.slots.specs.Signatures.{signed}
 use Rattle.steps.specs.declared.View.{View}
@@ -32,7 +32,7 @@ sendTestsIn allowed s d there have since mined t =
 unfoldable pub poolTestsIn : Bool → List ℕ → List ℕ → View → Slot → ℕ → ℕ → ℕ → ℕ → List (ℕ × Bool)
 poolTestsIn allowed s u v x since party t destination =
     sendTestsIn allowed s (perDay u) (sentSet v) (senderIn s v x party destination) since (v .mined) t
-    ++ ((stepDeadline, ltb (v .mined) (deadline s (perDay u) (λ k. since) t)) ∷ [])
+    ++ ((stepDeadline, ltb (v .mined) (deadlineBy s (perDay u) (v .limited) since t)) ∷ [])
 
 -- 4 "Hand to miner"
 unfoldable pub minerTestsIn : Bool → List ℕ → List ℕ → View → Slot → ℕ → ℕ → ℕ → ℕ → List (ℕ × Bool)
