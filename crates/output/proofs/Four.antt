@@ -1,14 +1,15 @@
 -- The four destinations of a kind and a transaction byte.
 -- Assumes nothing.
-use Prim.Native.Nat.{ℕ, _+_, _*_}
-use native.Mathlib.Nat.{add-zero}
+use Prim.Native.Nat.{ℕ, _+_, _*_, _/_, _^_, _<_}
+use native.Mathlib.Nat.{add-zero, one-mul, one-le-pow, div-lt-iff-lt-mul}
+use native.Mathlib.Omega.{arith}
 use mathlib.Core.Path.{_≡_, refl, sym, ap, _∙_, fun-ext}
 use mathlib.Core.Bool.{Bool, false}
 use mathlib.Core.List.{List, [], _∷_}
 use lib.Bits.{bitOr}
 use lib.ListN.{getD}
 use Rattle.laws.specs.Booleans.{or-neither}
-use Rattle.laws.specs.Bits.{bit-or, no-bit}
+use Rattle.laws.specs.Bits.{bit-or, no-bit, bit-above}
 use Rattle.laws.specs.Gather.{gather, gather-empty}
 use Rattle.laws.specs.Mask.{bit}
 use Rattle.output.specs.Forms.Emitted.{emitted, emittedAt, opens, opensFor, opensBelow, opensLast, belowBytes, lastBytes}
@@ -62,3 +63,12 @@ none-below below actor k e =
     (λ t.
     let w = no-bits _ _ _ _ t e in
     none-at (opensBelow below k t) (k + 1) actor t (ap (λ i. bit (getD below i 0) t) (add-zero (4 * k)) ∙ w .0) (w .1) (w .2) (w .3))
+
+-- none with byte 255 where the set has no bit from place 4 k on
+pub none-last : (last actor k : ℕ) → last / 2 ^ (4 * k) ≡ 0 → lastBytes last actor k ≡ []
+unfolding lastBytes opensLast
+none-last last actor k e =
+    let z : last / 2 ^ (4 * k) < 1 = rw e (omega arith) in
+    let h : last < 2 ^ (4 * k) = rw (one-mul (2 ^ (4 * k))) at (div-lt-iff-lt-mul (one-le-pow (4 * k) 2 (omega arith)) .0 z) in
+    let none : (d : ℕ) → bit last (4 * k + d) ≡ false = λ d. bit-above last (4 * k) (4 * k + d) h (omega arith) in
+    none-at (opensLast last k) (k + 1) actor 255 (none 0) (none 1) (none 2) (none 3)

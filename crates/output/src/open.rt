@@ -7,10 +7,13 @@ ghost use Rattle.laws.specs.Mask.{bit};
 ghost use Rattle.laws.specs.Over.{over};
 ghost use Rattle.output.specs.Forms.Emitted.{emitted, emittedAt, opens, opensFor, belowBytes, lastBytes, kindBytes, actorBytes, Counted, Ones};
 
-// The number of a mask's bits.
+// The number of a mask's bits; none at once where it is empty.
 fn ones(mask: u32) -> usize
     ensures { λ r. ⌜ Ones mask r ⌝ }
 {
+    if mask == 0 {
+        return 0;
+    }
     u32::count_ones(mask) as usize
 }
 
@@ -114,7 +117,7 @@ fn write_below(below: [u32; 28], actor: u8, k: usize, out: &mut [u8]) -> usize
     at
 }
 
-// The steps of kind k + 1 with transaction byte 255.
+// The steps of kind k + 1 with transaction byte 255: none at once where no kind from it on has any.
 fn write_last(last: u32, actor: u8, k: usize, out: &mut [u8]) -> usize
     requires { ⌜ k < 7 ⌝ }
     requires { ⌜ length (lastBytes last actor k) ≤ length (now out) ⌝ }
@@ -122,6 +125,9 @@ fn write_last(last: u32, actor: u8, k: usize, out: &mut [u8]) -> usize
     ensures { λ _. ⌜ now (out .exit) ≡ over (lastBytes last actor k) (now (out .entry)) ⌝ }
 {
     let i = 4 * k;
+    if last >> i == 0 {
+        return 0;
+    }
     let on = [
         has(last, i),
         has(last, i + 1),

@@ -1,11 +1,22 @@
 -- The four bits of byte 255.
-use Rattle.output.proofs.Four.{four-last}
+use Rattle.output.proofs.Four.{four-last, none-last}
+use Rattle.laws.specs.Over.{over-none}
+use mathlib.Core.Path.{refl}
 use borrow.Author.Needs.{needs}
 use Rattle.output.proofs.open.write_last.Statement.{statement}
 use Rattle.output.proofs.open.write_last.Tie as tie
 
 mul-i : tie.Need-mul-i
 mul-i c = search needs
+
+cast-if1 : tie.Need-cast-if1
+cast-if1 c = search needs
+
+shr-if1 : tie.Need-shr-if1
+shr-if1 c = search needs
+
+returns : tie.Need-returns
+returns c = let a = c .before .before .args in rw (none-last (a .last) (a .actor) (a .k) (c .if1 .taken)) (refl, over-none _)
 
 has-requires : tie.Need-has-requires
 has-requires c κs = search needs
@@ -35,14 +46,14 @@ cast-write-at : tie.Need-cast-write-at
 cast-write-at c = search needs
 
 write-at-requires : tie.Need-write-at-requires
-write-at-requires c κs = rw (four-last _ _ _ _ _ _ _ (c .before .before .before .before .has .ensures) (c .before .before .before .has2 .ensures) (c .before .before .has3 .ensures) (c .before .has4 .ensures)) (c .before .before .before .before .before .before .pre .1)
+write-at-requires c κs = rw (four-last _ _ _ _ _ _ _ (c .before .before .before .before .has .ensures) (c .before .before .before .has2 .ensures) (c .before .before .has3 .ensures) (c .before .has4 .ensures)) (c .before .before .before .before .before .before .before .pre .1)
 
 same-length : tie.Need-same-length
 same-length c = search needs
 
-returns : tie.Need-returns
-returns c =
-    let a = c .before .before .before .before .before .before .before .before .before .args in
+returns-2 : tie.Need-returns-2
+returns-2 c =
+    let a = c .before .before .before .before .before .before .before .before .before .before .args in
     let e = four-last (a .last) (a .actor) (a .k) _ _ _ _ (c .before .before .before .before .before .before .before .has .ensures) (c .before .before .before .before .before .before .has2 .ensures) (c .before .before .before .before .before .has3 .ensures) (c .before .before .before .before .has4 .ensures) in
     let w = c .before .before .write-at .ensures in
     rw e at w
@@ -52,6 +63,9 @@ write-last-spec =
     tie.close
     (tie.spec
     mul-i
+    cast-if1
+    shr-if1
+    returns
     has-requires
     add-has
     has-requires-2
@@ -63,4 +77,4 @@ write-last-spec =
     cast-write-at
     write-at-requires
     same-length
-    returns)
+    returns-2)
