@@ -26,7 +26,7 @@ use Rattle.position.specs.StepRefusal.{tests, stepRefusal}
 use Rattle.position.specs.Effect.{effect}
 use Rattle.position.specs.Play.{FourBytes, step, play}
 use Rattle.moves.proofs.AfterBlocks.{none-stands}
-use Rattle.moves.proofs.Starts.{start-slot, start-length, start-mined}
+use Rattle.position.proofs.Starts.{start-slot, start-length, start-mined}
 use Rattle.position.proofs.StepCases.{StepCase, taken, turned-down, step-case}
 use Rattle.agreement.proofs.Sound.{Settled, Sound}
 use Rattle.agreement.proofs.Waiting.{waits-none}

@@ -16,7 +16,7 @@ use Rattle.position.specs.Position.{start, shared, holds}
 use Rattle.steps.specs.Names.{sigAlice, sigBob, secretAlice, secretBob}
 use Rattle.position.proofs.Opened.{opened}
 use Rattle.moves.proofs.Provenance.{Stands}
-use Rattle.moves.proofs.Starts.{start-slot}
+use Rattle.position.proofs.Starts.{start-slot}
 use Rattle.careful.proofs.Places.{nothing-entered}
 use Rattle.careful.proofs.Setting.{sheet}
 use Rattle.careful.proofs.Invariant.{Touched, Invariant}

@@ -78,7 +78,7 @@ pub fn start(sheet: &[u8], setup: &[u8]) -> Viewed
     ensures { λ r. ⌜ r .view ≡ viewBelow (now (sheet .entry)) (count (now (sheet .entry))) (r .dated .position) ⌝ }
 {
     let position = journal::start(sheet);
-    let view = position.view(sheet);
+    let view = journal::start_view(sheet);
     let opened = noted([opens::NEVER; 32], position, sheet, setup, view);
     Viewed {
         dated: Dated { position, opened },

@@ -16,7 +16,6 @@ pub mod MovedShare
 pub mod MovedGive
 pub mod Moved
 pub mod Quiet
-pub mod Starts
 pub mod WellformedSlots
 pub mod Wellformeds
 pub mod Totals

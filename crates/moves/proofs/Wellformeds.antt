@@ -40,7 +40,7 @@ use Rattle.position.proofs.Changed.{one-length, all-length}
 use Rattle.position.proofs.Decoding.{destination-within}
 use Rattle.moves.proofs.MovedGive.{give-right}
 use Rattle.moves.proofs.Sending.{sent-to-pool}
-use Rattle.moves.proofs.Starts.{start-slot, start-length}
+use Rattle.position.proofs.Starts.{start-slot, start-length}
 use Rattle.position.proofs.StepCases.{StepCase, taken, turned-down, step-case}
 use Rattle.moves.proofs.WellformedSlots.{MaskOf, well-empty, well-pool, well-block, well-confirmed, well-shared, well-mark, well-later}
 

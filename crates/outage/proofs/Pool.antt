@@ -34,7 +34,7 @@ use Rattle.position.specs.StepRefusal.{stepRefusal}
 use Rattle.position.specs.Effect.{leavesPool, afterMine, effect}
 use Rattle.position.specs.Play.{FourBytes, step, play}
 use Rattle.position.proofs.StepCases.{StepCase, taken, turned-down, step-case}
-use Rattle.moves.proofs.Starts.{start-slot}
+use Rattle.position.proofs.Starts.{start-slot}
 use Rattle.moves.proofs.AfterShares.{share-pool, give-pool}
 use Rattle.moves.proofs.AfterSends.{send-pool, hand-pool, include-pool}
 use Rattle.moves.proofs.AfterBlocks.{none-stands, mine-blocks, mine-pool, mine-mined, bump-pool}

@@ -3,6 +3,7 @@ pub mod Decoding
 pub mod StepCases
 pub mod Changed
 pub mod Views
+pub mod Starts
 pub mod Fits
 pub mod BlockSets
 pub mod NoEntries

@@ -2,12 +2,13 @@
 use crate::Position;
 use crate::Stepped;
 use slots::Slot;
+use slots::limited;
 use steps::View;
 ghost use Prim.Native.Nat.{_+_, _≤_};
 ghost use mathlib.Core.Path.{_≡_};
 ghost use lib.ListN.{length};
 ghost use Rattle.sheet.specs.Field.{count};
-ghost use Rattle.sheet.specs.Checked.{Fit};
+ghost use Rattle.sheet.specs.Checked.{Checked, Fit};
 ghost use Rattle.position.specs.Forms.View.{viewBelow};
 ghost use Rattle.position.specs.Forms.Journal.{stepAt};
 ghost use Rattle.position.specs.Play.{step};
@@ -37,6 +38,24 @@ pub fn start(sheet: &[u8]) -> Position
         slots: [empty; 32],
         mined: 0,
         keys: [alice, bob, 0, carol, 0, 0],
+    }
+}
+
+// The view of that position.
+pub fn start_view(sheet: &[u8]) -> View
+    requires { ⌜ Checked (now sheet) ⌝ }
+    ensures { λ r. ⌜ r ≡ viewBelow (now (sheet .entry)) (count (now (sheet .entry))) (start (now (sheet .entry))) ⌝ }
+{
+    let position = start(sheet);
+    let keys = position.keys;
+    View {
+        pool: 0,
+        block: 0,
+        confirmed: 0,
+        limited: limited::limited(sheet),
+        mined: 0,
+        shared: 0,
+        keys,
     }
 }
 

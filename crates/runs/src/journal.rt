@@ -2,16 +2,20 @@
 use position::Position;
 use position::Ran;
 use position::journal::start;
+use position::journal::start_view;
 use position::journal::step_seen;
 use position::seen;
 use sheet::refusal;
+use steps::View;
 ghost use Prim.Native.Nat.{_<_, _≤_};
 ghost use mathlib.Core.Path.{_≡_};
 ghost use lib.ListN.{length};
 ghost use Rattle.laws.specs.Failing.{firstFailing};
 ghost use Rattle.sheet.specs.Refusal.{accepted};
 ghost use Rattle.sheet.specs.Check.{sheetRefusal};
+ghost use Rattle.sheet.specs.Field.{count};
 ghost use Rattle.sheet.specs.Checked.{Fit};
+ghost use Rattle.position.specs.Forms.View.{viewBelow};
 ghost use Rattle.position.specs.Play.{journalSteps, runFrom, journalRight, callTests, run};
 
 // 24: whole steps, and no more bytes than a journal may have.
@@ -51,19 +55,17 @@ fn ran_to(refusal: u32, k: usize, position: Position) -> Ran
     }
 }
 
-// The steps of a journal up to the first refused one, from a position on: the refusal, the steps accepted, and the position after
-// these.
-pub fn run_from(from: Position, sheet: &[u8], setup: &[u8], journal: &[u8]) -> Ran
+// The steps of a journal up to the first refused one, from a position on, whose view this is: the refusal, the steps accepted, and the
+// position after these.
+fn run_seen(from: Position, sheet: &[u8], setup: &[u8], seen: View, journal: &[u8]) -> Ran
     requires { ⌜ Fit (now sheet) (now setup) ⌝ }
+    requires { ⌜ seen ≡ viewBelow (now sheet) (count (now sheet)) from ⌝ }
     requires { ⌜ length (now journal) ≤ 65536 ⌝ }
     ensures { λ r. ⌜ r ≡ runFrom (now (sheet .entry)) (now (setup .entry)) (journalSteps (now (journal .entry))) 0 from ⌝ }
 {
     let n = journal.len() / 4;
-    if n == 0 {
-        return ran_to(refusal::ACCEPTED, 0, from);
-    }
     let mut position = from;
-    let mut view = from.view(sheet);
+    let mut view = seen;
     let mut k: usize = 0;
     while k < n {
         let stepped = step_seen(position, sheet, setup, view, journal, 4 * k);
@@ -88,6 +90,16 @@ pub fn run_from(from: Position, sheet: &[u8], setup: &[u8], journal: &[u8]) -> R
     ran_to(refusal::ACCEPTED, k, position)
 }
 
+// The same, with the view made here.
+pub fn run_from(from: Position, sheet: &[u8], setup: &[u8], journal: &[u8]) -> Ran
+    requires { ⌜ Fit (now sheet) (now setup) ⌝ }
+    requires { ⌜ length (now journal) ≤ 65536 ⌝ }
+    ensures { λ r. ⌜ r ≡ runFrom (now (sheet .entry)) (now (setup .entry)) (journalSteps (now (journal .entry))) 0 from ⌝ }
+{
+    let seen = from.view(sheet);
+    run_seen(from, sheet, setup, seen, journal)
+}
+
 // The run of a journal from the empty journal's position, after the other checks, on a sheet that passed its own.
 pub fn ran_checked(sheet: &[u8], setup: &[u8], journal: &[u8]) -> Ran
     requires { ⌜ sheetRefusal (now sheet) ≡ accepted ⌝ }
@@ -98,7 +110,11 @@ pub fn ran_checked(sheet: &[u8], setup: &[u8], journal: &[u8]) -> Ran
     if refusal != 0 {
         return ran_to(refusal, 0, position);
     }
-    run_from(position, sheet, setup, journal)
+    if journal.len() == 0 {
+        return ran_to(refusal::ACCEPTED, 0, position);
+    }
+    let seen = start_view(sheet);
+    run_seen(position, sheet, setup, seen, journal)
 }
 
 // The run of a journal from the empty journal's position, after all checks.

@@ -1,0 +1,19 @@
+-- Nothing stands, is confirmed or shared.
+use Rattle.position.proofs.Starts.{start-seen}
+use mathlib.Core.Path.{ap}
+use Rattle.position.specs.declared.Position.{Position}
+use borrow.Author.Needs.{needs}
+use Rattle.position.proofs.journal.start_view.Statement.{statement}
+use Rattle.position.proofs.journal.start_view.Tie as tie
+
+start-requires : tie.Need-start-requires
+start-requires c κs = search needs
+
+limited-requires : tie.Need-limited-requires
+limited-requires c κs = search needs
+
+returns : tie.Need-returns
+returns c = start-seen _ _ _ _ (c .limited .ensures) (ap (λ (p : Position). p .keys) (c .before .before .start .ensures))
+
+pub start-view-spec : {M : Type 1} → statement M
+start-view-spec = tie.close (tie.spec start-requires limited-requires returns)
