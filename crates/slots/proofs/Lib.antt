@@ -12,3 +12,5 @@ pub mod ByParents
 pub mod Children
 pub mod Trailing
 pub mod Deadlines
+pub mod AnyMember
+pub mod OtherRivals

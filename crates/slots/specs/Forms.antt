@@ -1,4 +1,5 @@
 pub mod Conflict
+pub mod Contested
 pub mod Height
 pub mod Limited
 pub mod Line

@@ -5,6 +5,7 @@ ghost use Rattle.slots.specs.Slot.{withPool, withBlock, withConfirmed, s
 
 pub mod ancestry;
 pub mod conflict;
+pub mod contested;
 pub mod deadline;
 pub mod limited;
 pub mod lock_height;

@@ -1,0 +1,74 @@
+-- None below k is a rival of t but itself.
+use Rattle.slots.proofs.OtherRivals.{otherRival, other-itself, other-stranger, other-found, none-before, none-after}
+use Rattle.laws.specs.Below.{anyBelow, any-more}
+use mathlib.Core.Bool.{false}
+use mathlib.Core.Path.{_≡_}
+use Prim.Native.Nat.{_<_, _-_}
+use borrow.Author.Needs.{needs}
+use Rattle.slots.proofs.contested.has_rival.Statement.{statement}
+use Rattle.slots.proofs.contested.has_rival.Tie as tie
+
+abbrev Inv-loop : tie.InvT-loop
+Inv-loop sheet t n up k₀ k = (up < k) × (anyBelow k (otherRival sheet t) ≡ false)
+
+abbrev μ-loop : tie.MeasureT-loop
+μ-loop sheet t n up k₀ k = n - k
+
+count-requires : tie.Need-count-requires Inv-loop μ-loop
+count-requires c κs = search needs
+
+parent-requires : tie.Need-parent-requires Inv-loop μ-loop
+parent-requires c κs = search needs
+
+add-k : tie.Need-add-k Inv-loop μ-loop
+add-k c = search needs
+
+loop-holds : tie.Need-loop-holds Inv-loop μ-loop
+loop-holds c = (search needs, none-before _ _ _ (c .parent .ensures .is) (c .before .before .before .pre .0) (c .before .before .before .pre .1))
+
+add-k-2 : tie.Need-add-k-2 Inv-loop μ-loop
+add-k-2 c = search needs
+
+loop-less : tie.Need-loop-less Inv-loop μ-loop
+loop-less c = search needs
+
+loop-again : tie.Need-loop-again Inv-loop μ-loop
+loop-again c = (search needs, any-more _ _ (c .before .before .loop .inv .1) (other-itself _ _ _ (c .if1 .taken)))
+
+parent-requires-2 : tie.Need-parent-requires-2 Inv-loop μ-loop
+parent-requires-2 c κs = search needs
+
+returns : tie.Need-returns Inv-loop μ-loop
+returns c = other-found _ _ _ (c .before .before .before .before .before .parent .ensures .is) _ _ (c .before .before .before .before .before .before .before .before .pre .0 .sized .few) (search needs) (c .before .before .before .before .loop .inv .0) (c .before .before .if1 .left) (c .before .parent2 .ensures .is) (c .if2 .taken)
+
+add-k-3 : tie.Need-add-k-3 Inv-loop μ-loop
+add-k-3 c = search needs
+
+loop-less-2 : tie.Need-loop-less-2 Inv-loop μ-loop
+loop-less-2 c = search needs
+
+loop-again-2 : tie.Need-loop-again-2 Inv-loop μ-loop
+loop-again-2 c = (search needs, any-more _ _ (c .before .before .before .before .loop .inv .1) (other-stranger _ _ _ (c .before .before .before .before .before .parent .ensures .is) _ _ (c .before .parent2 .ensures .is) (c .if2 .left)))
+
+returns-2 : tie.Need-returns-2 Inv-loop μ-loop
+returns-2 c = none-after _ _ _ (c .before .loop .inv .1) (search needs)
+
+pub has-rival-spec : {M : Type 1} → statement M
+has-rival-spec =
+    tie.close
+    (tie.spec
+    Inv-loop
+    μ-loop
+    count-requires
+    parent-requires
+    add-k
+    loop-holds
+    add-k-2
+    loop-less
+    loop-again
+    parent-requires-2
+    returns
+    add-k-3
+    loop-less-2
+    loop-again-2
+    returns-2)

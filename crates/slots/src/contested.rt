@@ -1,0 +1,48 @@
+// Whether anyone has a rival in a set (document 01: rivals), told from the sheet: where no member has a rival but itself, nobody has.
+use crate::next;
+ghost use Prim.Native.Nat.{_<_};
+ghost use mathlib.Core.Path.{_≡_};
+ghost use mathlib.Core.Bool.{true};
+ghost use Rattle.laws.specs.Mask.{bit};
+ghost use Rattle.sheet.specs.Field.{count};
+ghost use Rattle.sheet.specs.Checked.{Checked};
+ghost use Rattle.slots.specs.Conflict.{otherConflictIn};
+ghost use Rattle.slots.specs.Forms.Contested.{contestedIn};
+
+// Whether t has a rival but itself. Children come after their parent, and no number after an opening's.
+fn has_rival(sheet: &[u8], t: usize) -> bool
+    requires { ⌜ Checked (now sheet) ⌝ }
+    requires { ⌜ t < count (now sheet) ⌝ }
+    ensures { λ r. ⌜ r ≡ otherConflictIn (now (sheet .entry)) (λ k. true) t ⌝ }
+{
+    let n = sheet::field::count(sheet);
+    let up = sheet::field::parent(sheet, t);
+    let mut k = up + 1;
+    while k < n {
+        if k == t {
+            k += 1;
+            continue;
+        }
+        if sheet::field::parent(sheet, k) == up {
+            return true;
+        }
+        k += 1;
+    }
+    false
+}
+
+// Whether some member of the set has a rival but itself.
+pub fn contested(sheet: &[u8], there: u32) -> bool
+    requires { ⌜ Checked (now sheet) ⌝ }
+    ensures { λ r. ⌜ r ≡ contestedIn (now (sheet .entry)) (bit there) ⌝ }
+{
+    let n = sheet::field::count(sheet);
+    let mut k = next::next(there, 0, n);
+    while k < n {
+        if has_rival(sheet, k) {
+            return true;
+        }
+        k = next::next(there, k + 1, n);
+    }
+    false
+}
