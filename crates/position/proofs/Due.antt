@@ -10,7 +10,7 @@ use lib.Dec.{eqb}
 use lib.ListN.{length}
 use borrow.Author.Tests.{eq-eqb, ne-eqb}
 use Rattle.laws.specs.Booleans.{split}
-use Rattle.laws.specs.Below.{anyBelow, any-start, any-more, any-found, any-upto, any-same, any-all-false}
+use Rattle.laws.specs.Below.{anyBelow, any-same, any-all-false}
 use Rattle.laws.specs.Mask.{bit}
 use Rattle.laws.specs.Bits.{bit-and, no-bit}
 use Rattle.laws.specs.Sets.{set-bit, bit-outside}
@@ -20,6 +20,7 @@ use Rattle.sheet.specs.LockHeight.{never}
 use Rattle.slots.specs.Deadline.{deadline}
 use Rattle.slots.specs.Forms.Limited.{limitedSet}
 use Rattle.slots.specs.Forms.Next.{Next}
+use Rattle.slots.proofs.AnyMember.{any-first, any-next-member, any-member}
 use Rattle.slots.proofs.Deadlines.{deadline-unlimited}
 use Rattle.steps.specs.declared.View.{View}
 use Rattle.position.specs.declared.Position.{Position}
@@ -29,30 +30,29 @@ use Rattle.position.specs.Forms.View.{viewBelow, sinceIn}
 use Rattle.position.specs.Forms.Owed.{dueIn}
 use Rattle.position.proofs.SendTests.{deadline-parent, since-parent}
 
--- a loop over a set: none below its first member, and none up to the next
+-- a loop over a set: none outside it, none below its first member, and none up to the next
 module _ (s : List ℕ) (d : ℕ) (p : Position) (m among : ℕ) where
   no-member : (t : ℕ) → bit among t ≡ false → dueIn s d p m among t ≡ false
   unfolding dueIn
   no-member t e = rw e
 
+  dueNext : ℕ → Bool
+  dueNext t = eqb (m + 1) (deadline s d (λ k. sinceIn s p t) t)
+
   pub due-first : (n t : ℕ) → Next among 0 n t → anyBelow t (dueIn s d p m among) ≡ false
-  due-first n t h = any-upto 0 t (dueIn s d p m among) (any-start (dueIn s d p m among)) (λ k l i. no-member k (h .gap k l i))
+  unfolding dueIn dueNext
+  due-first n t h = any-first among dueNext n t h
 
   -- where h is the deadline that the code found
   pub due-next : (n t r b h : ℕ) → Next among (t + 1) n r → anyBelow t (dueIn s d p m among) ≡ false → b ≡ sinceIn s p t
       → h ≡ deadline s d (λ k. b) t → (m + 1 ≡ h → ⊥) → anyBelow r (dueIn s d p m among) ≡ false
-  unfolding dueIn
-  due-next n t r b h g e f a o =
-      any-upto (t + 1) r (dueIn s d p m among)
-      (any-more t (dueIn s d p m among) e
-      (rw (← f, ← a, ne-eqb (m + 1) h o) (and-false (bit among t))))
-      (λ k l i. no-member k (g .gap k l i))
+  unfolding dueIn dueNext
+  due-next n t r b h g e f a o = any-next-member among dueNext n t r g e (rw (← f, ← a, ne-eqb (m + 1) h o) refl)
 
   pub due-found : (n t b h : ℕ) → t < n → bit among t ≡ true → b ≡ sinceIn s p t → h ≡ deadline s d (λ k. b) t → m + 1 ≡ h
       → true ≡ anyBelow n (dueIn s d p m among)
-  unfolding dueIn
-  due-found n t b h l e f a o =
-      sym (any-found n t (dueIn s d p m among) l (rw (e, ← f, ← a, eq-eqb (m + 1) h o)))
+  unfolding dueIn dueNext
+  due-found n t b h l e f a o = any-member among dueNext n t l e (rw (← f, ← a, eq-eqb (m + 1) h o) refl)
 
 -- where v is the view that the code found
 module _ (s u : List ℕ) (p : Position) (v : View) (few : count s ≤ 32) (slots : length (p .slots) ≡ 32) (e : v ≡ viewBelow s (count s) p) (word : v .block < 4294967296) (mined : v .mined < 65536) where
