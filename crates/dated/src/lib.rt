@@ -8,8 +8,8 @@ use steps::parent;
 ghost use Prim.Native.Nat.{_+_, _≤_};
 ghost use mathlib.Core.Path.{_≡_};
 ghost use lib.ListN.{length};
-ghost use Rattle.sheet.specs.Field.{count, Sized};
-ghost use Rattle.sheet.specs.Checked.{Fit};
+ghost use Rattle.sheet.specs.Field.{count};
+ghost use Rattle.sheet.specs.Checked.{Checked, Fit};
 ghost use Rattle.slots.specs.Forms.Limited.{limitedSet};
 ghost use Rattle.position.specs.Forms.View.{viewBelow};
 ghost use Rattle.position.specs.Forms.Journal.{stepAt};
@@ -88,7 +88,7 @@ pub fn start(sheet: &[u8], setup: &[u8]) -> Viewed
 
 // The view of the position that an accepted step led to, from the view before it and the step's kind and transaction byte.
 fn seen_after(view: View, position: Position, sheet: &[u8], kind: u8, t: u8) -> View
-    requires { ⌜ Sized (now sheet) ⌝ }
+    requires { ⌜ Checked (now sheet) ⌝ }
     requires { ⌜ view .limited ≡ limitedSet (now sheet) ⌝ }
     ensures { λ r. ⌜ r ≡ seenAfter (now (sheet .entry)) view position kind t ⌝ }
 {

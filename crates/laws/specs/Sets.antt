@@ -6,7 +6,8 @@ use native.Mathlib.Numerals.{add-one}
 use native.Mathlib.Omega.{arith}
 use mathlib.Core.Path.{_≡_, refl, sym, ap, _∙_}
 use mathlib.Core.Bool.{Bool, true, false, not, _&&_, _||_, Bool·beq, or-false, and-true, and-false}
-use lib.Bits.{bitAnd, bitOr}
+use lib.Bits.{bitAnd, bitOr, and-le-l, or-lt}
+use lib.Pow.{pow-pos, pow-lt}
 use lib.Dec.{eqb}
 use borrow.Author.Tests.{eq-eqb, ne-eqb}
 use Rattle.laws.specs.Booleans.{pick, split, clash, either, and-parts, beq-same}
@@ -92,6 +93,47 @@ set-bit (suc n) p l k h =
     ∙ either (eq-or-lt-of-le (le-of-suc-le-suc h))
     (λ e. rw (e, none-above n p (omega arith) n (omega arith) (omega arith), eq-eqb n n refl) (and-true (p n)))
     (λ m. rw (set-bit n p (omega arith) k m, ne-eqb k n (λ e. omega (arith, e)), and-false (p n)) (or-false (p k)))
+
+-- a set of the numbers below n is a word of n bits, and of more
+joined-small : (m x n : ℕ) (on : Bool) → x < 2 ^ m → n < m → joined x on n < 2 ^ m
+unfolding joined
+joined-small m x n true h l = or-lt m x (2 ^ n) h (pow-lt l)
+joined-small m x n false h l = h
+
+pub set-small : (m n : ℕ) (p : ℕ → Bool) → n ≤ m → setBelow n p < 2 ^ m
+unfolding setBelow
+set-small m zero p l = pow-pos m
+set-small m (suc n) p l = joined-small m (setBelow n p) n (p n) (set-small m n p (omega arith)) l
+
+-- two words of n bits with the same bits
+digit-same : (a b : ℕ) → a < 2 → b < 2 → eqb a 1 ≡ eqb b 1 → a ≡ b
+digit-same a b h k e =
+    either (digit a h)
+    (λ x. either (digit b k) (λ y. x ∙ sym y) (λ y. clash {b = true} refl (rw (x, y) at (sym e))))
+    (λ x. either (digit b k) (λ y. clash {b = true} refl (rw (x, y) at e)) (λ y. x ∙ sym y))
+
+word-same : (n a b : ℕ) → a < 2 ^ n → b < 2 ^ n → ((k : ℕ) → k < n → bit a k ≡ bit b k) → a ≡ b
+word-same zero a b h k f = omega arith
+word-same (suc n) a b h k f =
+    let x : a < 2 * 2 ^ n = rw (pow-succ' 2 n) at h in
+    let y : b < 2 * 2 ^ n = rw (pow-succ' 2 n) at k in
+    let high : a / 2 ≡ b / 2 =
+    word-same n (a / 2) (b / 2) (omega (arith, x)) (omega (arith, y)) (λ i l. sym (bit-half a i) ∙ f (suc i) (omega (arith, l)) ∙ bit-half b i) in
+    let low : a % 2 ≡ b % 2 = digit-same (a % 2) (b % 2) (omega arith) (omega arith) (sym (bit-first a) ∙ f 0 (omega arith) ∙ bit-first b) in
+    omega (arith, high, low)
+
+-- the members of a set that another has not
+pub set-outside : (n : ℕ) (p : ℕ → Bool) (m : ℕ) → n ≤ 32 → m < 4294967296
+    → bitAnd (setBelow n p) (4294967295 - m) ≡ setBelow n (λ k. p k && not (bit m k))
+set-outside n p m few h =
+    let l = set-small n n p (omega arith) in
+    word-same n (bitAnd (setBelow n p) (4294967295 - m)) (setBelow n (λ k. p k && not (bit m k)))
+    (omega (arith, l, and-le-l (setBelow n p) (4294967295 - m)))
+    (set-small n n (λ k. p k && not (bit m k)) (omega arith))
+    (λ k i.
+    bit-and (setBelow n p) (4294967295 - m) k
+    ∙ rw (set-bit n p few k i, bit-outside m k h (omega (arith, i, few)))
+    (sym (set-bit n (λ j. p j && not (bit m j)) few k i)))
 
 -- a loop that makes a set: its start, a turn, its end
 pub set-start : (p : ℕ → Bool) → 0 ≡ setBelow 0 p

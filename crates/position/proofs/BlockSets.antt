@@ -64,11 +64,10 @@ set-meets-other s e member t few l h =
 -- where something waits outside the block
 mined-among : (s : List ℕ) (p : Position) (b m : ℕ) → count s ≤ 32 → b ≡ viewBelow s (count s) p .block
     → m ≡ setBelow (count s) (foundIn s (bit (viewBelow s (count s) p .block)) true)
-    → rewriteFirst (count s) (minedSlot s (p .mined + 1) b m) (p .slots) ≡ rewriteFirst (count s) (mineSlot s p) (p .slots)
+    → (t : ℕ) → t < count s → minedSlot s (p .mined + 1) b m t (slot p t) ≡ mineSlot s p t (slot p t)
 unfolding minedSlot mineSlot leavesPool viewBelow
-mined-among s p b m few f e =
-    rewrite-same (count s) (minedSlot s (p .mined + 1) b m) (mineSlot s p) (p .slots)
-    (λ t x l. rw (f, e, set-bit (count s) (inBlock p) few t l, set-meets-other s (setBelow (count s) (inBlock p)) (inBlock p) t few l (set-bit (count s) (inBlock p) few)))
+mined-among s p b m few f e t l =
+    rw (f, e, set-bit (count s) (inBlock p) few t l, set-meets-other s (setBelow (count s) (inBlock p)) (inBlock p) t few l (set-bit (count s) (inBlock p) few)) refl
 
 -- where the whole pool is in the block nobody else leaves it, whatever the set
 module _ (s : List ℕ) (p : Position) (b : ℕ) (few : count s ≤ 32) (f : b ≡ viewBelow s (count s) p .block)
@@ -93,19 +92,19 @@ module _ (s : List ℕ) (p : Position) (b : ℕ) (few : count s ≤ 32) (f : b �
       let c = confirm-out s (p .mined + 1) t p y in
       rw (c) (sym (pool-out (bit b t || inAncestry s (bit m) t) (slot p t) a) ∙ pool-out (inBlock p t || meetsOther s (inBlock p) t) (slot p t) a))
 
-  pub mined-whole : (m : ℕ) → rewriteFirst (count s) (minedSlot s (p .mined + 1) b m) (p .slots) ≡ rewriteFirst (count s) (mineSlot s p) (p .slots)
-  unfolding slot
-  mined-whole m = rewrite-at (count s) (minedSlot s (p .mined + 1) b m) (mineSlot s p) (p .slots) emptySlot (λ t l. mined-alone m t l)
-
 -- where v is the view that the code found
-pub mined-right : (s : List ℕ) (p : Position) (v : View) (m : ℕ) → count s ≤ 32 → v ≡ viewBelow s (count s) p → m ≡ struckIn s v
-    → rewriteFirst (count s) (minedSlot s (p .mined + 1) (v .block) m) (p .slots) ≡ rewriteFirst (count s) (mineSlot s p) (p .slots)
-unfolding struckIn
-mined-right s p v m few e h =
-    let b = ap (λ (x : View). x .block) e in
-    split (eqb (bitOr (v .pool) (v .block)) (v .block))
-    (λ y. mined-whole s p (v .block) few b (rw e at (eqb-true (bitOr (v .pool) (v .block)) (v .block) y)) m)
-    (λ y. mined-among s p (v .block) m few b ((h ∙ rw y refl) ∙ ap (λ (x : View). setBelow (count s) (foundIn s (bit (x .block)) true)) e))
+module _ (s : List ℕ) (p : Position) (v : View) (m : ℕ) (few : count s ≤ 32) (e : v ≡ viewBelow s (count s) p) (h : m ≡ struckIn s v) where
+  pub mined-at : (t : ℕ) → t < count s → minedSlot s (p .mined + 1) (v .block) m t (slot p t) ≡ mineSlot s p t (slot p t)
+  unfolding struckIn
+  mined-at t l =
+      let b = ap (λ (x : View). x .block) e in
+      split (eqb (bitOr (v .pool) (v .block)) (v .block))
+      (λ y. mined-alone s p (v .block) few b (rw e at (eqb-true (bitOr (v .pool) (v .block)) (v .block) y)) m t l)
+      (λ y. mined-among s p (v .block) m few b ((h ∙ rw y refl) ∙ ap (λ (x : View). setBelow (count s) (foundIn s (bit (x .block)) true)) e) t l)
+
+  pub mined-right : rewriteFirst (count s) (minedSlot s (p .mined + 1) (v .block) m) (p .slots) ≡ rewriteFirst (count s) (mineSlot s p) (p .slots)
+  unfolding slot
+  mined-right = rewrite-at (count s) (minedSlot s (p .mined + 1) (v .block) m) (mineSlot s p) (p .slots) emptySlot mined-at
 
 -- those that enter
 enters-bit : (s : List ℕ) (p : Position) (t k : ℕ) → count s ≤ 32 → t < count s → k < count s

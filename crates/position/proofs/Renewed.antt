@@ -1,19 +1,19 @@
--- The view renewed after a step that moved entries: outside a set nothing stands in the pool or in the block before and after it, and no
--- confirmation and no shared signature goes.
+-- The view renewed after a step that moved entries: outside a set the slots stay as they are, and no confirmation and no shared signature
+-- goes.
 -- Assumes nothing.
 use Prim.Native.Nat.{ℕ, zero, suc, _+_, _≤_, _<_}
 use native.Mathlib.Nat.{eq-or-lt-of-le, le-of-suc-le-suc, le-antisymm}
 use native.Mathlib.Numerals.{add-one}
 use native.Mathlib.Omega.{arith}
 use mathlib.Core.Path.{_≡_, refl, sym, ap, _∙_}
-use mathlib.Core.Bool.{Bool, true, false}
+use mathlib.Core.Bool.{Bool, true, false, not, _&&_, and-true, and-false}
 use mathlib.Core.List.{List}
 use lib.Bits.{bitOr}
 use lib.Dec.{eqb, ltb}
 use borrow.Author.Tests.{ltb-true, ltb-false, lt-ltb, le-ltb, eqb-true, eqb-false}
-use Rattle.laws.specs.Booleans.{pick, split, either}
+use Rattle.laws.specs.Booleans.{pick, split, either, clash}
 use Rattle.laws.specs.Mask.{bit, unionBelow}
-use Rattle.laws.specs.Sets.{joined, setBelow, set-same}
+use Rattle.laws.specs.Sets.{joined, setBelow, set-same, set-outside}
 use Rattle.laws.specs.Unions.{set-grown, union-grown, union-same}
 use Rattle.slots.specs.declared.Slot.{Slot}
 use Rattle.slots.specs.Slot.{sharedAny}
@@ -54,6 +54,12 @@ module _ (there : ℕ) (q : Position) (v : View) where
 abbrev mixed : {A : Type 0} → ℕ → (ℕ → A) → (ℕ → A) → ℕ → A
 mixed t a b k = pick (ltb k t) (a k) (b k)
 
+mixed-here : {A : Type 0} (t : ℕ) (a b : ℕ → A) → mixed (suc t) a b t ≡ a t
+mixed-here t a b = rw (lt-ltb t (suc t) (omega arith))
+
+mixed-before : {A : Type 0} (t : ℕ) (a b : ℕ → A) → mixed t a b t ≡ b t
+mixed-before t a b = rw (le-ltb t t (omega arith))
+
 -- one place more by a
 mixed-other : {A : Type 0} (t : ℕ) (a b : ℕ → A) (k : ℕ) → eqb k t ≡ false → mixed (suc t) a b k ≡ mixed t a b k
 mixed-other t a b k n =
@@ -69,19 +75,46 @@ passed-over t a b e k =
     (λ y. let z = eqb-true k t y in rw (z, le-ltb t t (omega arith), lt-ltb t (suc t) (omega arith)) (sym e))
     (λ y. sym (mixed-other t a b k y))
 
-confirmed-same : (p q : Position) (t : ℕ) → slot q t ≡ slot p t → isConfirmed q t ≡ isConfirmed p t
-unfolding isConfirmed blockOf
-confirmed-same p q t e = ap (λ (x : Slot). ltb 0 (x .height)) e
+-- the members below n, first none, then one more, at last all by a
+module _ (n : ℕ) (a b : ℕ → Bool) where
+  set-none-yet : setBelow n b ≡ setBelow n (mixed 0 a b)
+  set-none-yet = set-same n _ _ (λ k l. rw (le-ltb k 0 (omega arith)) refl)
 
-module _ (s : List ℕ) (n there : ℕ) (p q : Position) (v : View) (e : v ≡ viewBelow s n p)
-    (out : (k : ℕ) → k < n → bit there k ≡ false → (slot q k ≡ slot p k) × (inPool q k ≡ false) × (inBlock q k ≡ false))
+  set-passed : (t : ℕ) → a t ≡ b t → setBelow n (mixed t a b) ≡ setBelow n (mixed (suc t) a b)
+  set-passed t e = set-same n _ _ (λ k l. passed-over t a b e k)
+
+  set-joined : (t : ℕ) → t < n → (b t ≡ true → a t ≡ true) → joined (setBelow n (mixed t a b)) (a t) t ≡ setBelow n (mixed (suc t) a b)
+  set-joined t l more =
+      ap (λ x. joined (setBelow n (mixed t a b)) x t) (sym (mixed-here t a b))
+      ∙ set-grown t n (mixed t a b) (mixed (suc t) a b) l (mixed-other t a b) (λ y. rw (mixed-here t a b) (more (rw (mixed-before t a b) at y)))
+
+  set-all : setBelow n (mixed n a b) ≡ setBelow n a
+  set-all = set-same n _ _ (λ k l. rw (lt-ltb k n l) refl)
+
+-- those that pass outside a set
+abbrev outOf : ℕ → (ℕ → Bool) → ℕ → Bool
+outOf there passes k = passes k && not (bit there k)
+
+out-member : {X : Type 0} (there : ℕ) (passes : ℕ → Bool) (k : ℕ) → bit there k ≡ true → outOf there passes k ≡ true → X
+out-member there passes k y h = clash {b = true} refl (rw (y, and-false (passes k)) at (sym h))
+
+out-other : (there : ℕ) (passes : ℕ → Bool) (k : ℕ) → bit there k ≡ false → outOf there passes k ≡ passes k
+out-other there passes k y = rw y (and-true (passes k))
+
+-- tests of a slot that stays
+slot-same : (p q : Position) (t : ℕ) → slot q t ≡ slot p t → (inPool q t ≡ inPool p t) × (inBlock q t ≡ inBlock p t) × (isConfirmed q t ≡ isConfirmed p t)
+unfolding inPool inBlock isConfirmed blockOf
+slot-same p q t e = (rw e refl, rw e refl, ap (λ (x : Slot). ltb 0 (x .height)) e)
+
+module _ (s : List ℕ) (n there : ℕ) (p q : Position) (v : View) (few : n ≤ 32) (word : there < 4294967296) (e : v ≡ viewBelow s n p)
+    (out : (k : ℕ) → k < n → bit there k ≡ false → slot q k ≡ slot p k)
     (more : (k : ℕ) → k < n → (isConfirmed p k ≡ true → isConfirmed q k ≡ true) × (bitOr (sharedAny (slot p k)) (sharedAny (slot q k)) ≡ sharedAny (slot q k))) where
   -- the first t transactions seen in q, of the others what is kept of p
   halfway : ℕ → View
   halfway t =
       record {
-        pool = setBelow t (inPool q);
-        block = setBelow t (inBlock q);
+        pool = setBelow n (mixed t (inPool q) (outOf there (inPool p)));
+        block = setBelow n (mixed t (inBlock q) (outOf there (inBlock p)));
         confirmed = setBelow n (mixed t (isConfirmed q) (isConfirmed p));
         limited = v .limited;
         mined = q .mined;
@@ -89,56 +122,54 @@ module _ (s : List ℕ) (n there : ℕ) (p q : Position) (v : View) (e : v ≡ v
         keys = q .keys;
       }
 
-  here : {A : Type 0} (t : ℕ) (a b : ℕ → A) → mixed (suc t) a b t ≡ a t
-  here t a b = rw (lt-ltb t (suc t) (omega arith))
-
-  before : {A : Type 0} (t : ℕ) (a b : ℕ → A) → mixed t a b t ≡ b t
-  before t a b = rw (le-ltb t t (omega arith))
-
-  none-yet : viewKept v q ≡ halfway 0
-  unfolding viewKept halfway setBelow viewBelow
+  none-yet : viewKept v there q ≡ halfway 0
+  unfolding viewKept halfway viewBelow
   none-yet =
-      let a : setBelow n (isConfirmed p) ≡ setBelow n (mixed 0 (isConfirmed q) (isConfirmed p)) = set-same n _ _ (λ k l. rw (le-ltb k 0 (omega arith)) refl) in
-      let b : unionBelow n (λ k. sharedAny (slot p k)) ≡ unionBelow n (mixed 0 (λ k. sharedAny (slot q k)) (λ k. sharedAny (slot p k))) = union-same n _ _ (λ k l. rw (le-ltb k 0 (omega arith)) refl) in
-      rw (e, a, b) refl
+      let x = set-outside n (inPool p) there few word ∙ set-none-yet n (inPool q) (outOf there (inPool p)) in
+      let y = set-outside n (inBlock p) there few word ∙ set-none-yet n (inBlock q) (outOf there (inBlock p)) in
+      let z = set-none-yet n (isConfirmed q) (isConfirmed p) in
+      let w : unionBelow n (λ k. sharedAny (slot p k)) ≡ unionBelow n (mixed 0 (λ k. sharedAny (slot q k)) (λ k. sharedAny (slot p k))) = union-same n _ _ (λ k l. rw (le-ltb k 0 (omega arith)) refl) in
+      rw (e, x, y, z, w) refl
 
   -- a member is joined
-  member-joined : (t : ℕ) → t < n → viewWith (halfway t) t (slot q t) ≡ halfway (suc t)
-  unfolding viewWith halfway setBelow inPool inBlock isConfirmed blockOf
-  member-joined t l =
-      let f = mixed t (isConfirmed q) (isConfirmed p) in
-      let g = mixed (suc t) (isConfirmed q) (isConfirmed p) in
-      let a : joined (setBelow n f) (g t) t ≡ setBelow n g =
-      set-grown t n f g l (mixed-other t (isConfirmed q) (isConfirmed p)) (λ y. rw (here t (isConfirmed q) (isConfirmed p)) (more t l .0 (rw (before t (isConfirmed q) (isConfirmed p)) at y))) in
-      let x = mixed t (λ k. sharedAny (slot q k)) (λ k. sharedAny (slot p k)) in
-      let y = mixed (suc t) (λ k. sharedAny (slot q k)) (λ k. sharedAny (slot p k)) in
-      let b : bitOr (unionBelow n x) (y t) ≡ unionBelow n y =
-      union-grown t n x y l (mixed-other t (λ k. sharedAny (slot q k)) (λ k. sharedAny (slot p k))) (rw (here t (λ k. sharedAny (slot q k)) (λ k. sharedAny (slot p k)), before t (λ k. sharedAny (slot q k)) (λ k. sharedAny (slot p k))) (more t l .1)) in
-      rw (← a, ← b, here t (isConfirmed q) (isConfirmed p), here t (λ k. sharedAny (slot q k)) (λ k. sharedAny (slot p k))) refl
+  member-joined : (t : ℕ) → t < n → bit there t ≡ true → viewWith (halfway t) t (slot q t) ≡ halfway (suc t)
+  unfolding viewWith halfway inPool inBlock isConfirmed blockOf
+  member-joined t l o =
+      let x = set-joined n (inPool q) (outOf there (inPool p)) t l (out-member there (inPool p) t o) in
+      let y = set-joined n (inBlock q) (outOf there (inBlock p)) t l (out-member there (inBlock p) t o) in
+      let z = set-joined n (isConfirmed q) (isConfirmed p) t l (more t l .0) in
+      let f = mixed t (λ k. sharedAny (slot q k)) (λ k. sharedAny (slot p k)) in
+      let g = mixed (suc t) (λ k. sharedAny (slot q k)) (λ k. sharedAny (slot p k)) in
+      let w : bitOr (unionBelow n f) (g t) ≡ unionBelow n g =
+      union-grown t n f g l (mixed-other t (λ k. sharedAny (slot q k)) (λ k. sharedAny (slot p k))) (rw (mixed-here t (λ k. sharedAny (slot q k)) (λ k. sharedAny (slot p k)), mixed-before t (λ k. sharedAny (slot q k)) (λ k. sharedAny (slot p k))) (more t l .1)) in
+      rw (← x, ← y, ← z, ← w, mixed-here t (λ k. sharedAny (slot q k)) (λ k. sharedAny (slot p k))) refl
 
   -- nothing changes by another
   other-passed : (t : ℕ) → t < n → bit there t ≡ false → halfway t ≡ halfway (suc t)
-  unfolding halfway setBelow joined
+  unfolding halfway
   other-passed t l o =
-      let w = out t l o in
-      let same = confirmed-same p q t (w .0) in
-      let a : setBelow n (mixed t (isConfirmed q) (isConfirmed p)) ≡ setBelow n (mixed (suc t) (isConfirmed q) (isConfirmed p)) =
-      set-same n _ _ (λ k m. passed-over t (isConfirmed q) (isConfirmed p) same k) in
-      let b : unionBelow n (mixed t (λ k. sharedAny (slot q k)) (λ k. sharedAny (slot p k))) ≡ unionBelow n (mixed (suc t) (λ k. sharedAny (slot q k)) (λ k. sharedAny (slot p k))) =
-      union-same n _ _ (λ k m. passed-over t (λ k. sharedAny (slot q k)) (λ k. sharedAny (slot p k)) (ap sharedAny (w .0)) k) in
-      rw (w .1, w .2, a, b) refl
+      let h = out t l o in
+      let same = slot-same p q t h in
+      let x = set-passed n (inPool q) (outOf there (inPool p)) t (same .0 ∙ sym (out-other there (inPool p) t o)) in
+      let y = set-passed n (inBlock q) (outOf there (inBlock p)) t (same .1 ∙ sym (out-other there (inBlock p) t o)) in
+      let z = set-passed n (isConfirmed q) (isConfirmed p) t (same .2) in
+      let w : unionBelow n (mixed t (λ k. sharedAny (slot q k)) (λ k. sharedAny (slot p k))) ≡ unionBelow n (mixed (suc t) (λ k. sharedAny (slot q k)) (λ k. sharedAny (slot p k))) =
+      union-same n _ _ (λ k m. passed-over t (λ k. sharedAny (slot q k)) (λ k. sharedAny (slot p k)) (ap sharedAny h) k) in
+      rw (x, y, z, w) refl
 
-  upto : (t : ℕ) → t ≤ n → viewJoined t (bit there) q (viewKept v q) ≡ halfway t
+  upto : (t : ℕ) → t ≤ n → viewJoined t (bit there) q (viewKept v there q) ≡ halfway t
   unfolding viewJoined
   upto zero l = none-yet
   upto (suc t) l =
       split (bit there t)
-      (λ y. rw (y, upto t (omega (arith, l))) (member-joined t l))
+      (λ y. rw (y, upto t (omega (arith, l))) (member-joined t l y))
       (λ y. rw (y, upto t (omega (arith, l))) (other-passed t l y))
 
-  pub renewed-right : viewJoined n (bit there) q (viewKept v q) ≡ viewBelow s n q
+  pub renewed-right : viewJoined n (bit there) q (viewKept v there q) ≡ viewBelow s n q
   unfolding viewBelow halfway
   renewed-right =
-      let a : setBelow n (mixed n (isConfirmed q) (isConfirmed p)) ≡ setBelow n (isConfirmed q) = set-same n _ _ (λ k l. rw (lt-ltb k n l) refl) in
-      let b : unionBelow n (mixed n (λ k. sharedAny (slot q k)) (λ k. sharedAny (slot p k))) ≡ unionBelow n (λ k. sharedAny (slot q k)) = union-same n _ _ (λ k l. rw (lt-ltb k n l) refl) in
-      upto n (omega arith) ∙ rw (a, b, e) refl
+      let x = set-all n (inPool q) (outOf there (inPool p)) in
+      let y = set-all n (inBlock q) (outOf there (inBlock p)) in
+      let z = set-all n (isConfirmed q) (isConfirmed p) in
+      let w : unionBelow n (mixed n (λ k. sharedAny (slot q k)) (λ k. sharedAny (slot p k))) ≡ unionBelow n (λ k. sharedAny (slot q k)) = union-same n _ _ (λ k l. rw (lt-ltb k n l) refl) in
+      upto n (omega arith) ∙ rw (x, y, z, w, e) refl

@@ -1,18 +1,19 @@
 -- A step that may change several slots: the view renewed is that of the position after it.
 -- Assumes nothing.
-use Prim.Native.Nat.{ℕ, _+_, _<_, _≤_}
+use Prim.Native.Nat.{ℕ, _+_, _^_, _<_, _≤_}
 use native.Mathlib.Omega.{arith}
 use mathlib.Core.Path.{_≡_, refl, sym, ap, subst, _∙_}
 use mathlib.Core.Bool.{Bool, true, false}
 use mathlib.Core.Logic.{_⊎_, inl, inr}
 use mathlib.Core.List.{List}
-use lib.Bits.{bitOr, or-self}
+use lib.Bits.{bitOr, or-lt, or-self}
 use lib.Dec.{eqb, ltb}
 use lib.ListN.{length, getD, List·getD-eq-default}
 use borrow.Author.Tests.{eqb-true, eq-eqb, ltb-true, ltb-false, lt-ltb}
 use Rattle.laws.specs.Booleans.{pick, split, either, clash}
 use Rattle.laws.specs.Each.{rewriteFirst, length-rewriteFirst}
 use Rattle.laws.specs.Mask.{bit}
+use Rattle.laws.specs.Sets.{set-small}
 use Rattle.sheet.specs.Field.{count}
 use Rattle.sheet.specs.Checked.{Fit}
 use Rattle.slots.specs.declared.Slot.{Slot}
@@ -23,8 +24,9 @@ use Rattle.slots.specs.Signatures.{exposedMask}
 use Rattle.steps.specs.declared.View.{View}
 use Rattle.steps.specs.Decode.{fieldsRight, stepBytes}
 use Rattle.steps.specs.Mined.{confirmEntry}
+use Rattle.steps.specs.Forms.Blocks.{struckIn, touchedIn}
 use Rattle.steps.proofs.RightFields.{give-listed, pool-listed, miner-listed, include-listed}
-use Rattle.steps.proofs.Unmoved.{pool-out, block-out}
+use Rattle.steps.proofs.Unmoved.{block-out}
 use Rattle.position.specs.declared.Position.{Position}
 use Rattle.position.specs.declared.Stepped.{Stepped}
 use Rattle.position.specs.Position.{slot, inPool, inBlock, blockOf, isConfirmed}
@@ -32,10 +34,11 @@ use Rattle.position.specs.Owed.{waiting, enters}
 use Rattle.position.specs.Effect.{withSlots, changeSlots, withMined, leavesPool, mineSlot, afterMine, leavesBlock, bumpSlot, afterBump, effect}
 use Rattle.position.specs.Play.{FourBytes, decodeBytes, step}
 use Rattle.position.specs.Forms.View.{viewBelow}
-use Rattle.position.specs.Forms.Seen.{changesMany, viewKept, viewJoined, viewRenewed}
+use Rattle.position.specs.Forms.Seen.{changesMany, changedSet, viewKept, viewJoined, viewRenewed}
+use Rattle.position.proofs.BlockSets.{mined-at}
 use Rattle.position.proofs.Changed.{all-slot}
 use Rattle.position.proofs.Decoding.{decodes}
-use Rattle.position.proofs.NoEntries.{outside, confirm-none}
+use Rattle.position.proofs.NoEntries.{outside, mined-outside}
 use Rattle.position.proofs.Renewed.{renewed-right}
 use Rattle.position.proofs.SeenAfter.{share-adds}
 use Rattle.position.proofs.StepCases.{StepCase, taken, turned-down, step-case}
@@ -60,17 +63,13 @@ changed-or-not s f p k h =
     (List·getD-eq-default (rewriteFirst (count s) f (p .slots)) emptySlot {n = k} (rw (length-rewriteFirst (count s) f (p .slots)) b)
     ∙ sym (List·getD-eq-default (p .slots) emptySlot {n = k} b)))
 
--- by a change of each slot that leaves alone those without an entry, and takes nothing
-module _ (s : List ℕ) (f : ℕ → Slot → Slot) (p q : Position) (v : View) (few : count s ≤ 32) (e : v ≡ viewBelow s (count s) p)
+-- by a change of each slot that leaves alone those outside a set, and takes nothing
+module _ (s : List ℕ) (f : ℕ → Slot → Slot) (there : ℕ) (p q : Position) (v : View) (few : count s ≤ 32) (word : there < 4294967296) (e : v ≡ viewBelow s (count s) p)
     (changed : (k : ℕ) → slot q k ≡ slot (changeSlots s f p) k)
-    (none : (k : ℕ) → slot p k .pool ≡ 0 → slot p k .block ≡ 0 → f k (slot p k) ≡ slot p k)
+    (same : (k : ℕ) → k < count s → bit there k ≡ false → f k (slot p k) ≡ slot p k)
     (keeps : (k : ℕ) → Keeps (slot p k) (f k (slot p k))) where
-  stays : (k : ℕ) → k < count s → bit (bitOr (v .pool) (v .block)) k ≡ false → (slot q k ≡ slot p k) × (inPool q k ≡ false) × (inBlock q k ≡ false)
-  unfolding inPool inBlock standing
-  stays k l h =
-      let w = outside s p v few e k l h in
-      let same : slot q k ≡ slot p k = changed k ∙ either (changed-or-not s f p k l) (λ a. a ∙ none k (w .1) (w .2)) (λ a. a) in
-      (same, rw (same, w .1) refl, rw (same, w .2) refl)
+  stays : (k : ℕ) → k < count s → bit there k ≡ false → slot q k ≡ slot p k
+  stays k l h = changed k ∙ either (changed-or-not s f p k l) (λ a. a ∙ same k l h) (λ a. a)
 
   more : (k : ℕ) → k < count s → (isConfirmed p k ≡ true → isConfirmed q k ≡ true) × (bitOr (sharedAny (slot p k)) (sharedAny (slot q k)) ≡ sharedAny (slot q k))
   unfolding isConfirmed blockOf
@@ -79,8 +78,8 @@ module _ (s : List ℕ) (f : ℕ → Slot → Slot) (p q : Position) (v : View) 
       (λ a. subst (λ (y : Slot). Keeps (slot p k) y) (sym (changed k ∙ a)) (keeps k))
       (λ a. subst (λ (y : Slot). Keeps (slot p k) y) (sym (changed k ∙ a)) (keeps-same (slot p k)))
 
-  pub renewed-by : viewJoined (count s) (bit (bitOr (v .pool) (v .block))) q (viewKept v q) ≡ viewBelow s (count s) q
-  renewed-by = renewed-right s (count s) (bitOr (v .pool) (v .block)) p q v e stays more
+  renewed-by : viewJoined (count s) (bit there) q (viewKept v there q) ≡ viewBelow s (count s) q
+  renewed-by = renewed-right s (count s) there p q v few word e stays more
 
 -- a mined block
 module _ (s : List ℕ) (p : Position) where
@@ -100,10 +99,6 @@ module _ (s : List ℕ) (p : Position) where
   unfolding mineSlot
   mine-keeps k = out-keeps (leavesPool s (inBlock p) k) (slot p k) _ (confirm-keeps (p .mined + 1) k (slot p k) (omega arith))
 
-  mine-none : (k : ℕ) → slot p k .pool ≡ 0 → slot p k .block ≡ 0 → mineSlot s p k (slot p k) ≡ slot p k
-  unfolding mineSlot
-  mine-none k a b = rw (confirm-none s (p .mined + 1) k (slot p k) b) (sym (pool-out (leavesPool s (inBlock p) k) (slot p k) a))
-
   bump-keeps : (t k : ℕ) → Keeps (slot p k) (bumpSlot s p t k (slot p k))
   unfolding bumpSlot withBlock sharedAny sharedFor
   bump-keeps t k =
@@ -111,6 +106,7 @@ module _ (s : List ℕ) (p : Position) where
       (λ y. rw y (keeps-same (slot p k)))
       (λ y. split (leavesBlock s (enters s p t) k) (λ z. rw (y, z) (keeps-same (slot p k))) (λ z. rw (y, z) (keeps-same (slot p k))))
 
+  -- without an entry
   not-entering : (t k : ℕ) → slot p k .pool ≡ 0 → enters s p t k ≡ false
   unfolding enters waiting inPool standing
   not-entering t k a = rw a
@@ -118,6 +114,30 @@ module _ (s : List ℕ) (p : Position) where
   bump-none : (t k : ℕ) → slot p k .pool ≡ 0 → slot p k .block ≡ 0 → bumpSlot s p t k (slot p k) ≡ slot p k
   unfolding bumpSlot
   bump-none t k a b = rw (not-entering t k a) (sym (block-out (leavesBlock s (enters s p t) k) (slot p k) b))
+
+-- outside the set that a step may change
+module _ (s : List ℕ) (p : Position) (v : View) (few : count s ≤ 32) (e : v ≡ viewBelow s (count s) p) where
+  mine-same : (k : ℕ) → k < count s → bit (touchedIn v (struckIn s v)) k ≡ false → mineSlot s p k (slot p k) ≡ slot p k
+  unfolding slot
+  mine-same k l h = sym (mined-at s p v (struckIn s v) few e refl k l) ∙ mined-outside s p v few e (p .mined + 1) (struckIn s v) (touchedIn v (struckIn s v)) refl .same k l h
+
+  bump-same : (t k : ℕ) → k < count s → bit (bitOr (v .pool) (v .block)) k ≡ false → bumpSlot s p t k (slot p k) ≡ slot p k
+  bump-same t k l h = let w = outside s p v few e k l h in bump-none s p t k (w .1) (w .2)
+
+  pool-word : v .pool < 2 ^ 32
+  unfolding viewBelow
+  pool-word = rw e (set-small 32 (count s) (inPool p) few)
+
+  block-word : v .block < 2 ^ 32
+  unfolding viewBelow
+  block-word = rw e (set-small 32 (count s) (inBlock p) few)
+
+  both-word : bitOr (v .pool) (v .block) < 2 ^ 32
+  both-word = or-lt 32 (v .pool) (v .block) pool-word block-word
+
+  touched-word : (m : ℕ) → touchedIn v m < 2 ^ 32
+  unfolding touchedIn
+  touched-word m = split (eqb m 0) (λ y. rw y block-word) (λ y. rw y both-word)
 
 -- the steps of each kind, where v is the view before them
 module _ (s u : List ℕ) (p : Position) (v : View) (fit : Fit s u) (e : v ≡ viewBelow s (count s) p) where
@@ -127,14 +147,22 @@ module _ (s u : List ℕ) (p : Position) (v : View) (fit : Fit s u) (e : v ≡ v
 
   by-kind : (x : Step) → fieldsRight s u x ≡ true → changesMany v (getD (stepBytes x) 0 0) (getD (stepBytes x) 2 0) ≡ true
       → viewRenewed s v (getD (stepBytes x) 0 0) (effect s p x) ≡ viewBelow s (count s) (effect s p x)
-  unfolding stepBytes changesMany viewRenewed effect afterMine afterBump withMined slot
+  unfolding stepBytes changesMany viewRenewed changedSet effect afterMine afterBump withMined slot
   by-kind (Share a t to) h o = refl
   by-kind (Give a i to) h o = not-listed i 8 (give-listed s u a i to (Give a i to) refl (fit .checked .signatures-few) h) (omega arith) o
   by-kind (SendToPool a t to) h o = not-listed t (count s) (pool-listed s u a t to (SendToPool a t to) refl h) (fit .checked .sized .few) o
   by-kind (HandToMiner a t to) h o = not-listed t (count s) (miner-listed s u a t to (HandToMiner a t to) refl h) (fit .checked .sized .few) o
   by-kind (Include a t to) h o = not-listed t (count s) (include-listed s u a t to (Include a t to) refl h) (fit .checked .sized .few) o
-  by-kind (Mine a t to) h o = renewed-by s (mineSlot s p) p (afterMine s p) v (fit .checked .sized .few) e (λ k. refl) (mine-none s p) (mine-keeps s p)
-  by-kind (Bump a t to) h o = renewed-by s (bumpSlot s p t) p (afterBump s t p) v (fit .checked .sized .few) e (λ k. refl) (bump-none s p t) (bump-keeps s p t)
+  by-kind (Mine a t to) h o =
+      let few = fit .checked .sized .few in
+      renewed-by s (mineSlot s p) (touchedIn v (struckIn s v)) p (afterMine s p) v few (touched-word s p v few e (struckIn s v)) e (λ k. refl)
+      (mine-same s p v few e)
+      (mine-keeps s p)
+  by-kind (Bump a t to) h o =
+      let few = fit .checked .sized .few in
+      renewed-by s (bumpSlot s p t) (bitOr (v .pool) (v .block)) p (afterBump s t p) v few (both-word s p v few e) e (λ k. refl)
+      (bump-same s p v few e t)
+      (bump-keeps s p t)
 
   -- a step of four bytes, where r is what the code got from it
   pub renewed-after : (b : FourBytes) (r : Stepped) → r ≡ step s u p b → r .refusal ≡ 0 → changesMany v (b .kind) (b .transaction) ≡ true

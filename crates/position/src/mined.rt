@@ -20,7 +20,7 @@ impl Position {
     {
         let leaving = mined::struck(sheet, view);
         let block = self.mined + 1;
-        let there = view.pool | view.block;
+        let there = mined::touched(view, leaving);
         let n = sheet::field::count(sheet);
         let mut t = next::next(there, 0, n);
         while t < n {

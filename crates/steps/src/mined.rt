@@ -4,15 +4,16 @@ use sheet::set;
 use slots::Slot;
 use slots::ancestry;
 use slots::conflict;
+use slots::contested;
 use slots::signatures;
 ghost use Prim.Native.Nat.{_<_};
 ghost use mathlib.Core.Path.{_≡_};
 ghost use Rattle.sheet.specs.Field.{count, Sized};
 ghost use Rattle.sheet.specs.Checked.{Checked};
 ghost use Rattle.steps.specs.Mined.{confirmEntry};
-ghost use Rattle.steps.specs.Forms.Blocks.{struckIn, minedSlot};
+ghost use Rattle.steps.specs.Forms.Blocks.{struckIn, touchedIn, minedSlot};
 
-// Those with another rival in the block. None is asked for where the whole pool is in the block.
+// Those with another rival in the block. None is asked for where the whole pool is in the block, or no entry has a rival.
 pub fn struck(sheet: &[u8], view: View) -> u32
     requires { ⌜ Checked (now sheet) ⌝ }
     ensures { λ r. ⌜ r ≡ struckIn (now (sheet .entry)) view ⌝ }
@@ -20,7 +21,20 @@ pub fn struck(sheet: &[u8], view: View) -> u32
     if view.pool | view.block == view.block {
         return 0;
     }
+    if !contested::contested(sheet, view.block) {
+        return 0;
+    }
     conflict::conflicts_of(sheet, view.block, true)
+}
+
+// The slots that a mined block may change: its entries', and where somebody is struck those of what waits too.
+pub fn touched(view: View, leaving: u32) -> u32
+    ensures { λ r. ⌜ r ≡ touchedIn view leaving ⌝ }
+{
+    if leaving == 0 {
+        return view.block;
+    }
+    view.pool | view.block
 }
 
 // A block entry is confirmed, and what it exposes is shared.

@@ -23,6 +23,10 @@ use Rattle.steps.specs.Mined.{confirmEntry}
 unfoldable pub struckIn : List ℕ → View → ℕ
 struckIn s v = pick (eqb (bitOr (v .pool) (v .block)) (v .block)) 0 (setBelow (count s) (foundIn s (bit (v .block)) true))
 
+-- the slots that a mined block may change: its entries', and where somebody is struck those of what waits too
+unfoldable pub touchedIn : View → ℕ → ℕ
+touchedIn v leaving = pick (eqb leaving 0) (v .block) (bitOr (v .pool) (v .block))
+
 -- confirmed in block b if it was in the block, out of the pool if it enters the chain or its line meets the set
 unfoldable pub minedSlot : List ℕ → ℕ → ℕ → ℕ → ℕ → Slot → Slot
 minedSlot s b entering leaving t x = pick (bit entering t || inAncestry s (bit leaving) t) (withPool 0 (confirmEntry s b t x)) (confirmEntry s b t x)

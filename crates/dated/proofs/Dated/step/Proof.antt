@@ -28,7 +28,7 @@ shared-slice-read-seen-after-2 c = search needs
 seen-after-requires : tie.Need-seen-after-requires
 seen-after-requires c κs =
     let k = c .before .before .before .before .before .before .before .before .before .before in
-    (k .pre .0 .checked .sized, view-limited _ _ _ _ (k .pre .1 .0))
+    (k .pre .0 .checked, view-limited _ _ _ _ (k .pre .1 .0))
 
 noted-requires : tie.Need-noted-requires
 unfolding stepAt

@@ -26,6 +26,9 @@ struck-requires c κs = search needs
 add-block : tie.Need-add-block Inv-loop μ-loop
 add-block c = search needs
 
+touched-requires : tie.Need-touched-requires Inv-loop μ-loop
+touched-requires c κs = search needs
+
 count-requires : tie.Need-count-requires Inv-loop μ-loop
 count-requires c κs = search needs
 
@@ -35,7 +38,7 @@ next-requires c κs = search needs
 loop-holds : tie.Need-loop-holds Inv-loop μ-loop
 loop-holds c =
     let l : length (c .before .before .before .before .before .args .t1 .slots) ≡ 32 = search (length-of-map, c .before .before .before .before .before .good) in
-    (c .next .ensures .high, rewritten-start _ _ _ _ (mined-outside _ _ _ (c .before .before .before .before .before .pre .0 .sized .few) (c .before .before .before .before .before .pre .1 .0) _ _ _) _ (c .before .count .ensures .is) _ l (c .next .ensures))
+    (c .next .ensures .high, rewritten-start _ _ _ _ (mined-outside _ _ _ (c .before .before .before .before .before .pre .0 .sized .few) (c .before .before .before .before .before .pre .1 .0) _ _ _ (c .before .before .touched .ensures)) _ (c .before .count .ensures .is) _ l (c .next .ensures))
 
 mul-x : tie.Need-mul-x Inv-loop μ-loop
 mul-x c = search needs
@@ -63,13 +66,13 @@ loop-less c = search needs
 
 loop-again : tie.Need-loop-again Inv-loop μ-loop
 unfolding withSlots slot
-loop-again c = (c .next2 .ensures .high, rewritten-more _ _ _ _ (mined-outside _ _ _ (c .before .before .before .before .before .before .before .before .before .before .pre .0 .sized .few) (c .before .before .before .before .before .before .before .before .before .before .pre .1 .0) _ _ _) _ (c .before .before .before .before .before .before .count .ensures .is) _ _ _ _ (c .before .before .before .before .loop .inv .1) (c .before .mined-slot .ensures) (c .next2 .ensures))
+loop-again c = (c .next2 .ensures .high, rewritten-more _ _ _ _ (mined-outside _ _ _ (c .before .before .before .before .before .before .before .before .before .before .pre .0 .sized .few) (c .before .before .before .before .before .before .before .before .before .before .pre .1 .0) _ _ _ (c .before .before .before .before .before .before .before .touched .ensures)) _ (c .before .before .before .before .before .before .count .ensures .is) _ _ _ _ (c .before .before .before .before .loop .inv .1) (c .before .mined-slot .ensures) (c .next2 .ensures))
 
 returns : tie.Need-returns Inv-loop μ-loop
 unfolding afterMine withMined changeSlots withSlots
 returns c =
     let s = now (c .before .before .before .before .before .before .before .args .sheet) in
-    let done = rewritten-done _ _ _ _ (mined-outside _ _ _ (c .before .before .before .before .before .before .before .pre .0 .sized .few) (c .before .before .before .before .before .before .before .pre .1 .0) _ _ _) _ (c .before .before .before .count .ensures .is) _ _ (c .before .loop .inv .1) (c .before .loop .inv .0) (c .loop-test .left) in
+    let done = rewritten-done _ _ _ _ (mined-outside _ _ _ (c .before .before .before .before .before .before .before .pre .0 .sized .few) (c .before .before .before .before .before .before .before .pre .1 .0) _ _ _ (c .before .before .before .before .touched .ensures)) _ (c .before .before .before .count .ensures .is) _ _ (c .before .loop .inv .1) (c .before .loop .inv .0) (c .loop-test .left) in
     ap (withMined (c .before .before .before .before .before .before .before .args .t1 .mined + 1)) done
     ∙ rw (mined-right s (c .before .before .before .before .before .before .before .args .t1) (c .before .before .before .before .before .before .before .args .view) (c .before .before .before .before .before .struck .result) (c .before .before .before .before .before .before .before .pre .0 .sized .few) (c .before .before .before .before .before .before .before .pre .1 .0) (c .before .before .before .before .before .struck .ensures)) refl
 
@@ -81,6 +84,7 @@ after-entries-spec =
     μ-loop
     struck-requires
     add-block
+    touched-requires
     count-requires
     next-requires
     loop-holds

@@ -54,7 +54,7 @@ loop-again c =
 
 returns : tie.Need-returns Inv-loop μ-loop
 unfolding viewKept
-returns c = rw (← (c .before .before .before .before .count .ensures .is)) (joined-done _ _ _ _ _ _ (c .before .loop .inv .0) (c .loop-test .left) (c .before .loop .inv .2))
+returns c = rw (← (c .before .before .before .before .before .before .count .ensures .is)) (joined-done _ _ _ _ _ _ (c .before .loop .inv .0) (c .loop-test .left) (c .before .loop .inv .2))
 
 pub view-over-spec : {M : Type 1} → statement M
 view-over-spec =

@@ -1,6 +1,8 @@
 -- None, or those that the search finds.
+use Rattle.slots.proofs.OtherRivals.{uncontested-none}
 use Rattle.steps.specs.Forms.Blocks.{struckIn}
-use borrow.Author.Tests.{eq-eqb, ne-eqb}
+use mathlib.Core.Path.{sym, _∙_}
+use borrow.Author.Tests.{eq-eqb, ne-eqb, not-true}
 use borrow.Author.Needs.{needs}
 use Rattle.steps.proofs.mined.struck.Statement.{statement}
 use Rattle.steps.proofs.mined.struck.Tie as tie
@@ -9,12 +11,20 @@ returns : tie.Need-returns
 unfolding struckIn
 returns c = rw (eq-eqb _ _ (c .if1 .taken))
 
-conflicts-of-requires : tie.Need-conflicts-of-requires
-conflicts-of-requires c κs = search needs
+contested-requires : tie.Need-contested-requires
+contested-requires c κs = search needs
 
 returns-2 : tie.Need-returns-2
 unfolding struckIn
-returns-2 c = rw (ne-eqb _ _ (c .before .if1 .left)) (c .conflicts-of .ensures)
+returns-2 c = rw (ne-eqb _ _ (c .before .before .if1 .left)) (uncontested-none _ _ (sym (c .before .contested .ensures) ∙ not-true _ (c .if2 .taken)))
+
+conflicts-of-requires : tie.Need-conflicts-of-requires
+conflicts-of-requires c κs = search needs
+
+returns-3 : tie.Need-returns-3
+unfolding struckIn
+returns-3 c = rw (ne-eqb _ _ (c .before .before .before .if1 .left)) (c .conflicts-of .ensures)
 
 pub struck-spec : {M : Type 1} → statement M
-struck-spec = tie.close (tie.spec returns conflicts-of-requires returns-2)
+struck-spec =
+    tie.close (tie.spec returns contested-requires returns-2 conflicts-of-requires returns-3)
