@@ -26,7 +26,7 @@ use Rattle.steps.specs.Forms.Parent.{slotAbove, blockAbove}
 use Rattle.steps.specs.Forms.View.{keysIn}
 use Rattle.position.specs.declared.Position.{Position}
 use Rattle.position.specs.Position.{slot, keys, blockOf}
-use Rattle.position.specs.Conduct.{isOpen, isCareful, mayShare, mayGive, sendAllowed, payingFirst, conductAllows}
+use Rattle.position.specs.Conduct.{isOpen, mayShare, mayGive, sendAllowed, payingFirst, conductAllows}
 use Rattle.position.specs.Tests.{shareTests, giveTests, poolTests, minerTests, includeTests}
 use Rattle.position.specs.StepRefusal.{tests, stepRefusal}
 use Rattle.position.specs.Effect.{withSlots, changeSlot, withKey, shareOne, afterShare, afterGive, afterSend, afterHandIn, afterInclude, withMined, effect}
@@ -140,9 +140,9 @@ pub entries-of : (r block entries : ℕ) → entries ≡ pick (eqb r accepted) b
 entries-of r block entries e h z = sym (e ∙ rw (eq-eqb r accepted z)) ∙ h
 
 -- under open conduct a party may send anything
-pub sends-open : (s u : List ℕ) (p : Position) (party t : ℕ) → conduct u ≡ 0 → true ≡ (sendAllowed s u p party t && payingFirst s u p party t)
-unfolding sendAllowed payingFirst isOpen isCareful
-sends-open s u p party t e = rw (payingFirst, e)
+pub sends-open : (s u : List ℕ) (p : Position) (party t : ℕ) → conduct u ≡ 0 → true ≡ sendAllowed s u p party t
+unfolding sendAllowed isOpen
+sends-open s u p party t e = rw e
 
 -- and share and give anything
 pub any-open : (u : List ℕ) (b : Bool) → conduct u ≡ 0 → true ≡ (isOpen u || b)

@@ -2,7 +2,7 @@
 -- Assumes nothing.
 use Prim.Native.Nat.{ℕ, _≤_, _<_}
 use native.Mathlib.Omega.{arith}
-use mathlib.Core.Path.{_≡_, sym, ap, _∙_}
+use mathlib.Core.Path.{_≡_, refl, sym, ap, _∙_}
 use mathlib.Core.Bool.{Bool, true, false, not, _&&_, _||_, and-true, and-false, Bool·not-not}
 use mathlib.Core.List.{List}
 use lib.Dec.{eqb, ltb}
@@ -26,7 +26,7 @@ use Rattle.steps.specs.Forms.Sending.{paysIn}
 use Rattle.position.specs.declared.Position.{Position}
 use Rattle.position.specs.Position.{slot, inPool, blockOf, isConfirmed, sent, shared, keys, holds}
 use Rattle.position.specs.Forms.View.{viewBelow, sinceIn}
-use Rattle.position.specs.Forms.Outlook.{openOutlook, outlook}
+use Rattle.position.specs.Forms.Outlook.{openOutlook, outlook, sendOutlook}
 use Rattle.position.specs.Conduct.{isOpen, isCareful, phase, late, successUnshared, aliceShares, mayShare, aliceGives, bobGives, mayGive, secretSafe, safeToSend, sendAllowed, payingPasses, canPay, payingFirst}
 use Rattle.sheet.specs.Checked.{Fit}
 use Rattle.position.proofs.Fits.{named}
@@ -50,16 +50,21 @@ module _ (s u : List ℕ) (p : Position) where
   unfolding outlook openOutlook giveAllowedIn aliceGivesIn bobGivesIn mayGive aliceGives bobGives
   give-outlook party i = split (isOpen u) (λ y. rw y) (λ y. rw y)
 
-  pub send-outlook : (party t : ℕ) → sendAllowedIn s (outlook s u p) party t ≡ sendAllowed s u p party t
-  unfolding outlook openOutlook sendAllowedIn safeToSendIn secretSafeIn sendAllowed safeToSend secretSafe
-  send-outlook party t = split (isOpen u) (λ y. rw y) (λ y. rw y)
+  -- of what sends ask for, and of the whole
+  pub send-outlook : (party t : ℕ) → sendAllowedIn s (sendOutlook u p) party t ≡ sendAllowed s u p party t
+  unfolding sendOutlook sendAllowedIn safeToSendIn secretSafeIn sendAllowed safeToSend secretSafe
+  send-outlook party t = refl
+
+  whole-sends : (party t : ℕ) → sendAllowedIn s (outlook s u p) party t ≡ sendAllowedIn s (sendOutlook u p) party t
+  unfolding outlook openOutlook sendOutlook sendAllowedIn safeToSendIn secretSafeIn
+  whole-sends party t = split (isOpen u) (λ y. rw y) (λ y. rw y)
 
   -- `back` says that the party is careful and can send a transaction that pays it
   pub held-outlook : (back : Bool) (party t : ℕ) → back ≡ (isCareful u && canPay s u p party)
       → sendHeldIn s (outlook s u p) back party t ≡ (sendAllowed s u p party t && payingFirst s u p party t)
   unfolding sendHeldIn payingFirst
   held-outlook back party t e =
-      rw (send-outlook party t, e)
+      rw (whole-sends party t, send-outlook party t, e)
       (ap (λ x. sendAllowed s u p party t && x)
       (split (isCareful u)
       (λ y. split (isContract s t) (λ z. rw (y, z, payingFirst, and-true (canPay s u p party))) (λ z. rw (y, z, payingFirst, and-false (canPay s u p party))))
@@ -67,7 +72,7 @@ module _ (s u : List ℕ) (p : Position) where
 
   -- of one transaction, and of any
   pub pays-outlook : Checked s → length (p .slots) ≡ 32 → (party t : ℕ) → t < count s
-      → paysIn (sendAllowedIn s (outlook s u p) party t) s u (viewBelow s (count s) p) (slot p t) (sinceIn s p t) party t
+      → paysIn (sendAllowedIn s (sendOutlook u p) party t) s u (viewBelow s (count s) p) (slot p t) (sinceIn s p t) party t
       ≡ elim (isPayee s t party) [ true ↦ payingPasses s u p party t | false ↦ false ]
   unfolding paysIn payingPasses
   pays-outlook ok n party t l =
@@ -83,12 +88,12 @@ module _ (s u : List ℕ) (p : Position) where
       (λ y. rw y)
 
   pub any-pays : Checked s → length (p .slots) ≡ 32 → (party : ℕ)
-      → anyBelow (count s) (λ t. paysIn (sendAllowedIn s (outlook s u p) party t) s u (viewBelow s (count s) p) (slot p t) (sinceIn s p t) party t)
+      → anyBelow (count s) (λ t. paysIn (sendAllowedIn s (sendOutlook u p) party t) s u (viewBelow s (count s) p) (slot p t) (sinceIn s p t) party t)
       ≡ canPay s u p party
   unfolding canPay
   any-pays ok n party =
       any-same (count s)
-      (λ t. paysIn (sendAllowedIn s (outlook s u p) party t) s u (viewBelow s (count s) p) (slot p t) (sinceIn s p t) party t)
+      (λ t. paysIn (sendAllowedIn s (sendOutlook u p) party t) s u (viewBelow s (count s) p) (slot p t) (sinceIn s p t) party t)
       (λ t. elim (isPayee s t party) [ true ↦ payingPasses s u p party t | false ↦ false ])
       (pays-outlook ok n party)
 
@@ -104,6 +109,13 @@ module _ (s u : List ℕ) (p : Position) where
       let w = h ∙ ap (λ (x : View). senderIn s x (slot p success) bob contract) g ∙ sender-view s p bob success contract in
       rw (n, e, a, b, c, d, w)
 
+-- what sends ask for, from its parts
+pub send-outlook-made : (u : List ℕ) (p : Position) (way ph : ℕ) (knows : Bool) → way ≡ conduct u → ph ≡ phase p → knows ≡ bit (keys p alice) secretBob
+    → record { free = eqb way 0; careful = eqb way 2; phase = ph; late = false; refund = false; unshared = eqb (slot p success .contract) 0; knows = knows; bobhas = 0 }
+    ≡ sendOutlook u p
+unfolding sendOutlook isOpen isCareful successUnshared shared sharedFor holds keys
+send-outlook-made u p way ph knows e a d = rw (e, a, d)
+
 -- what a loop over the transactions asks of each, with an outlook and a view at hand
 module _ (s u : List ℕ) (p : Position) (v : View) (o : Outlook) (party : ℕ) where
   unfoldable pub paysAt : ℕ → Bool
@@ -114,7 +126,7 @@ module _ (s u : List ℕ) (p : Position) (v : View) (o : Outlook) (party : ℕ) 
   unfolding paysAt sinceIn
   pays-turn t up since r a b d = rw (← a, ← b) d
 
-  module _ (fit : Fit s u) (slots : length (p .slots) ≡ 32) (view : v ≡ viewBelow s (count s) p) (read : o ≡ outlook s u p) where
+  module _ (fit : Fit s u) (slots : length (p .slots) ≡ 32) (view : v ≡ viewBelow s (count s) p) (read : o ≡ sendOutlook u p) where
     all-paid : anyBelow (count s) paysAt ≡ canPay s u p party
     unfolding paysAt
     all-paid = rw (view, read) (any-pays s u p (fit .checked) slots party)
@@ -125,32 +137,17 @@ module _ (s u : List ℕ) (p : Position) (v : View) (o : Outlook) (party : ℕ) 
     pub pays-none : (n k : ℕ) → n ≡ count s → k ≤ n → n ≤ k → anyBelow k paysAt ≡ false → false ≡ canPay s u p party
     pays-none n k e l m h = any-done k (count s) paysAt false (omega (arith, e, l)) (omega (arith, e, m)) h ∙ all-paid
 
--- a party that is held back, and one that is not
-module _ (s u : List ℕ) (p : Position) (o : Outlook) (party t : ℕ) (read : o ≡ outlook s u p) where
-  careful-read : o .careful ≡ isCareful u
-  careful-read = rw read (careful-outlook s u p)
+-- a party that is held back: `first` says that it is to pay first if it can; and a send by who may send and by paying first
+module _ (s u : List ℕ) (p : Position) (party t : ℕ) where
+  module _ (first : Bool) (is : first ≡ (isCareful u && isContract s t)) where
+    pub not-held : first ≡ false → false ≡ not (payingFirst s u p party t)
+    unfolding payingFirst
+    not-held h = rw (payingFirst, sym is ∙ h)
 
-  pub held-not-careful : not (o .careful) ≡ true → false ≡ not (payingFirst s u p party t)
-  unfolding payingFirst
-  held-not-careful h = rw (payingFirst, sym careful-read ∙ not-true (o .careful) h)
+    pub held-if-paid : (b : Bool) → first ≡ true → b ≡ canPay s u p party → b ≡ not (payingFirst s u p party t)
+    unfolding payingFirst
+    held-if-paid b h k = rw (payingFirst, sym is ∙ h) (k ∙ sym (Bool·not-not (canPay s u p party)))
 
-  pub held-not-contract : (r : Bool) → r ≡ isContract s t → not r ≡ true → false ≡ not (payingFirst s u p party t)
-  unfolding payingFirst
-  held-not-contract r e h = rw (payingFirst, sym e ∙ not-true r h, and-false (isCareful u))
-
-  pub held-if-paid : (r b : Bool) → not (o .careful) ≡ false → r ≡ isContract s t → not r ≡ false → b ≡ canPay s u p party
-      → b ≡ not (payingFirst s u p party t)
-  unfolding payingFirst
-  held-if-paid r b f e h k =
-      rw (payingFirst, sym careful-read ∙ not-false (o .careful) f, sym e ∙ not-false r h) (k ∙ sym (Bool·not-not (canPay s u p party)))
-
-  pub send-refused : (r : Bool) → r ≡ sendAllowedIn s o party t → not r ≡ true → false ≡ (sendAllowed s u p party t && payingFirst s u p party t)
-  send-refused r e h =
-      let w = sym (send-outlook s u p party t) ∙ rw (← read) (sym e) ∙ not-true r h in
-      rw w
-
-  pub send-passed : (r b : Bool) → r ≡ sendAllowedIn s o party t → not r ≡ false → b ≡ not (payingFirst s u p party t)
-      → not b ≡ (sendAllowed s u p party t && payingFirst s u p party t)
-  send-passed r b e h k =
-      let w = sym (send-outlook s u p party t) ∙ rw (← read) (sym e) ∙ not-false r h in
-      rw (w, k) (Bool·not-not (payingFirst s u p party t))
+  pub send-held : (may back r : Bool) → may ≡ sendAllowed s u p party t → back ≡ not (payingFirst s u p party t) → r ≡ (may && not back)
+      → r ≡ (sendAllowed s u p party t && payingFirst s u p party t)
+  send-held may back r a b h = h ∙ rw (a, b, Bool·not-not (payingFirst s u p party t))

@@ -13,13 +13,15 @@ ghost use Prim.Native.Nat.{_<_};
 ghost use mathlib.Core.Path.{_≡_};
 ghost use mathlib.Core.Bool.{not, _&&_, _||_};
 ghost use lib.Dec.{ltb};
+ghost use lib.ListN.{length};
 ghost use Rattle.sheet.specs.Field.{count};
 ghost use Rattle.sheet.specs.Checked.{Fit};
 ghost use Rattle.slots.specs.Slot.{standing};
+ghost use Rattle.slots.specs.Destination.{isContract};
 ghost use Rattle.position.specs.FirstShares.{firstSharesMade};
 ghost use Rattle.position.specs.Forms.FirstShares.{firstSet};
-ghost use Rattle.position.specs.Conduct.{isOpen, phase, late, mayShare, mayGive, canPay, payingFirst, sendAllowed};
-ghost use Rattle.position.specs.Forms.Outlook.{outlook};
+ghost use Rattle.position.specs.Conduct.{isOpen, isCareful, phase, late, mayShare, mayGive, canPay, sendAllowed};
+ghost use Rattle.position.specs.Forms.Outlook.{outlook, sendOutlook};
 ghost use Rattle.position.specs.Forms.View.{viewBelow};
 
 // Whether a transaction is in the pool or confirmed.
@@ -40,6 +42,25 @@ pub fn first_shares(party: u8) -> u32
         return 80;
     }
     120
+}
+
+// Whether t is one that a party sends only where it can send none that pays it: a contract transaction under careful conduct.
+pub fn pays_first(sheet: &[u8], setup: &[u8], t: usize) -> bool
+    requires { ⌜ Fit (now sheet) (now setup) ⌝ }
+    requires { ⌜ t < count (now sheet) ⌝ }
+    ensures { λ r. ⌜ r ≡ (isCareful (now (setup .entry)) && isContract (now (sheet .entry)) t) ⌝ }
+{
+    if sheet::setup::conduct(setup) != 2 {
+        return false;
+    }
+    party::is_contract(sheet, t)
+}
+
+// Whether a send that conduct allows but for paying first is allowed, where `back` says that the party is to pay first.
+pub fn unless_back(may: bool, back: bool) -> bool
+    ensures { λ r. ⌜ r ≡ (may && not back) ⌝ }
+{
+    may && !back
 }
 
 impl Position {
@@ -120,13 +141,32 @@ impl Position {
         }
     }
 
+    // What of it sends ask for.
+    fn send_outlook(self, setup: &[u8]) -> Outlook
+        requires { ⌜ length (now setup) ≡ 4 ⌝ }
+        ensures { λ r. ⌜ r ≡ sendOutlook (now (setup .entry)) self ⌝ }
+    {
+        let way = sheet::setup::conduct(setup);
+        let success = self.slots[2];
+        Outlook {
+            free: way == 0,
+            careful: way == 2,
+            phase: self.phase(),
+            late: false,
+            refund: false,
+            unshared: success.contract == 0,
+            knows: signatures::has(self.keys(0), 3),
+            bobhas: 0,
+        }
+    }
+
     // Whether a party can send a transaction that pays it.
-    pub fn can_pay(self, sheet: &[u8], setup: &[u8], view: View, o: Outlook, party: u8) -> bool
+    pub fn can_pay(self, sheet: &[u8], setup: &[u8], view: View, party: u8) -> bool
         requires { ⌜ Fit (now sheet) (now setup) ⌝ }
         requires { ⌜ view ≡ viewBelow (now sheet) (count (now sheet)) self ⌝ }
-        requires { ⌜ o ≡ outlook (now sheet) (now setup) self ⌝ }
         ensures { λ r. ⌜ r ≡ canPay (now (sheet .entry)) (now (setup .entry)) self party ⌝ }
     {
+        let o = self.send_outlook(setup);
         let n = sheet::field::count(sheet);
         let mut t: usize = 0;
         while t < n {
@@ -142,43 +182,14 @@ impl Position {
         false
     }
 
-    // Whether a careful party sends no contract transaction, of which t is one.
-    fn held_back(
-        self,
-        sheet: &[u8],
-        setup: &[u8],
-        view: View,
-        o: Outlook,
-        party: u8,
-        t: usize,
-    ) -> bool
+    // Whether conduct allows a party to send t, but for paying first.
+    pub fn may_send(self, sheet: &[u8], setup: &[u8], party: u8, t: usize) -> bool
         requires { ⌜ Fit (now sheet) (now setup) ⌝ }
-        requires { ⌜ view ≡ viewBelow (now sheet) (count (now sheet)) self ⌝ }
-        requires { ⌜ o ≡ outlook (now sheet) (now setup) self ⌝ }
         requires { ⌜ t < count (now sheet) ⌝ }
-        ensures { λ r. ⌜ r ≡ not (payingFirst (now (sheet .entry)) (now (setup .entry)) self party t) ⌝ }
+        ensures { λ r. ⌜ r ≡ sendAllowed (now (sheet .entry)) (now (setup .entry)) self party t ⌝ }
     {
-        if !o.careful {
-            return false;
-        }
-        if !party::is_contract(sheet, t) {
-            return false;
-        }
-        self.can_pay(sheet, setup, view, o, party)
-    }
-
-    // Whether conduct allows a party to send t.
-    pub fn may_send(self, sheet: &[u8], setup: &[u8], view: View, party: u8, t: usize) -> bool
-        requires { ⌜ Fit (now sheet) (now setup) ⌝ }
-        requires { ⌜ view ≡ viewBelow (now sheet) (count (now sheet)) self ⌝ }
-        requires { ⌜ t < count (now sheet) ⌝ }
-        ensures { λ r. ⌜ r ≡ (sendAllowed (now (sheet .entry)) (now (setup .entry)) self party t && payingFirst (now (sheet .entry)) (now (setup .entry)) self party t) ⌝ }
-    {
-        let o = self.outlook(sheet, setup, view);
-        if !o.send_allowed(sheet, party, t) {
-            return false;
-        }
-        !self.held_back(sheet, setup, view, o, party, t)
+        let o = self.send_outlook(setup);
+        o.send_allowed(sheet, party, t)
     }
 
     // Whether conduct allows a party to share t, or with 255 its first shares.

@@ -1,6 +1,8 @@
 // The steps: one method for each kind, one for any step, and one for any four bytes.
 use crate::Position;
 use crate::Stepped;
+use crate::conduct::pays_first;
+use crate::conduct::unless_back;
 use crate::effect;
 use crate::outcome;
 use sheet::refusal;
@@ -139,8 +141,9 @@ impl Position {
     {
         let destination = party::destination_number(to);
         let k = sheet::field::wide(t);
-        let allowed = sheet::setup::conduct(setup) == 0
-            || self.may_send(sheet, setup, view, party, k);
+        let may = sheet::setup::conduct(setup) == 0 || self.may_send(sheet, setup, party, k);
+        let back = pays_first(sheet, setup, k) && self.can_pay(sheet, setup, view, party);
+        let allowed = unless_back(may, back);
         let up = parent::slot_above(sheet, k);
         let above = self.slots[up];
         let since = parent::block_above(sheet, k, above.height);
@@ -182,8 +185,9 @@ impl Position {
     {
         let destination = party::destination_number(to);
         let k = sheet::field::wide(t);
-        let allowed = sheet::setup::conduct(setup) == 0
-            || self.may_send(sheet, setup, view, party, k);
+        let may = sheet::setup::conduct(setup) == 0 || self.may_send(sheet, setup, party, k);
+        let back = pays_first(sheet, setup, k) && self.can_pay(sheet, setup, view, party);
+        let allowed = unless_back(may, back);
         let up = parent::slot_above(sheet, k);
         let above = self.slots[up];
         let since = parent::block_above(sheet, k, above.height);

@@ -44,7 +44,7 @@ fn kept_back(
     if o.phase == 0 {
         return false;
     }
-    position.can_pay(sheet, setup, view, o, actor)
+    position.can_pay(sheet, setup, view, actor)
 }
 
 // What is the same for all steps of the actor.

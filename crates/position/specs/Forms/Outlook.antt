@@ -31,3 +31,17 @@ outlook s u p =
       knows = holds p alice secretBob;
       bobhas = senderHas s p bob success contract;
     })
+
+-- what of it sends ask for
+unfoldable pub sendOutlook : List ℕ → Position → Outlook
+sendOutlook u p =
+    record {
+      free = isOpen u;
+      careful = isCareful u;
+      phase = phase p;
+      late = false;
+      refund = false;
+      unshared = successUnshared p;
+      knows = holds p alice secretBob;
+      bobhas = 0;
+    }

@@ -12,10 +12,13 @@ use Rattle.position.proofs.Position.can_pay.Statement.{statement}
 use Rattle.position.proofs.Position.can_pay.Tie as tie
 
 abbrev Inv-loop : tie.InvT-loop
-Inv-loop sheet setup view o party self n t₀ t = (t ≤ n) × (anyBelow t (paysAt sheet setup self view o party) ≡ false)
+Inv-loop sheet setup view party self o n t₀ t = (t ≤ n) × (anyBelow t (paysAt sheet setup self view o party) ≡ false)
 
 abbrev μ-loop : tie.MeasureT-loop
-μ-loop sheet setup view o party self n t₀ t = n - t
+μ-loop sheet setup view party self o n t₀ t = n - t
+
+send-outlook-requires : tie.Need-send-outlook-requires Inv-loop μ-loop
+send-outlook-requires c κs = search needs
 
 count-requires : tie.Need-count-requires Inv-loop μ-loop
 count-requires c κs = search needs
@@ -47,8 +50,8 @@ pays-requires c κs = search needs
 returns : tie.Need-returns Inv-loop μ-loop
 unfolding slot
 returns c =
-    let l : length (c .before .before .before .before .before .before .before .before .before .before .before .args .t1 .slots) ≡ 32 = search (length-of-map, c .before .before .before .before .before .before .before .before .before .before .before .good) in
-    pays-found _ _ _ _ _ _ (c .before .before .before .before .before .before .before .before .before .before .before .pre .0) l (c .before .before .before .before .before .before .before .before .before .before .before .pre .1 .0) (c .before .before .before .before .before .before .before .before .before .before .before .pre .1 .1) _ _ (c .before .before .before .before .before .before .before .before .count .ensures .is) (c .before .before .before .before .before .before .loop-test .taken) (sym (pays-turn _ _ _ _ _ _ _ _ _ _ (c .before .before .before .before .slot-above .ensures .0) (c .before .before .block-above .ensures) (c .before .pays .ensures)) ∙ c .if1 .taken)
+    let l : length (c .before .before .before .before .before .before .before .before .before .before .before .before .args .t1 .slots) ≡ 32 = search (length-of-map, c .before .before .before .before .before .before .before .before .before .before .before .before .good) in
+    pays-found _ _ _ _ _ _ (c .before .before .before .before .before .before .before .before .before .before .before .before .pre .0) l (c .before .before .before .before .before .before .before .before .before .before .before .before .pre .1) (c .before .before .before .before .before .before .before .before .before .send-outlook .ensures) _ _ (c .before .before .before .before .before .before .before .before .count .ensures .is) (c .before .before .before .before .before .before .loop-test .taken) (sym (pays-turn _ _ _ _ _ _ _ _ _ _ (c .before .before .before .before .slot-above .ensures .0) (c .before .before .block-above .ensures) (c .before .pays .ensures)) ∙ c .if1 .taken)
 
 add-t : tie.Need-add-t Inv-loop μ-loop
 add-t c = search needs
@@ -62,8 +65,8 @@ loop-again c = (search needs, any-more _ _ (c .before .before .before .before .b
 
 returns-2 : tie.Need-returns-2 Inv-loop μ-loop
 returns-2 c =
-    let l : length (c .before .before .before .before .before .args .t1 .slots) ≡ 32 = search (length-of-map, c .before .before .before .before .before .good) in
-    pays-none _ _ _ _ _ _ (c .before .before .before .before .before .pre .0) l (c .before .before .before .before .before .pre .1 .0) (c .before .before .before .before .before .pre .1 .1) _ _ (c .before .before .count .ensures .is) (c .before .loop .inv .0) (c .loop-test .left) (c .before .loop .inv .1)
+    let l : length (c .before .before .before .before .before .before .args .t1 .slots) ≡ 32 = search (length-of-map, c .before .before .before .before .before .before .good) in
+    pays-none _ _ _ _ _ _ (c .before .before .before .before .before .before .pre .0) l (c .before .before .before .before .before .before .pre .1) (c .before .before .before .send-outlook .ensures) _ _ (c .before .before .count .ensures .is) (c .before .loop .inv .0) (c .loop-test .left) (c .before .loop .inv .1)
 
 pub can-pay-spec : {M : Type 1} → statement M
 can-pay-spec =
@@ -71,6 +74,7 @@ can-pay-spec =
     (tie.spec
     Inv-loop
     μ-loop
+    send-outlook-requires
     count-requires
     loop-holds
     mul-x
