@@ -1,18 +1,26 @@
 -- The tests of kinds 1 and 2, as the code finds them, are those of the rules.
 -- Assumes nothing.
-use Prim.Native.Nat.{ℕ}
-use mathlib.Core.Path.{_≡_, _∙_}
-use mathlib.Core.Bool.{Bool, _||_}
+use Prim.Native.Nat.{ℕ, zero, suc}
+use native.Mathlib.Omega.{arith}
+use mathlib.Core.Path.{_≡_, sym, _∙_}
+use mathlib.Core.Bool.{Bool, true, false, not, _&&_, _||_, and-false}
 use mathlib.Core.List.{List}
-use borrow.Author.Tests.{ne-eqb}
+use lib.Dec.{eqb, ltb}
+use borrow.Author.Tests.{eqb-true, ltb-true, ne-eqb}
+use Rattle.laws.specs.Booleans.{and-parts, or-right}
 use Rattle.laws.specs.Failing.{firstFailing}
+use Rattle.sheet.specs.Refusal.{accepted, stepConduct}
+use Rattle.slots.specs.Destination.{alice, bob}
+use Rattle.steps.specs.Names.{lockA, lockB}
 use Rattle.steps.specs.Decode.{noTransaction}
 use Rattle.steps.specs.Forms.Conduct.{conductTests}
 use Rattle.steps.specs.Forms.Sharing.{shareMetIn, giveMetIn}
 use Rattle.position.specs.declared.Position.{Position}
-use Rattle.position.specs.Position.{slot, keys, holds, marked}
+use Rattle.position.specs.Position.{slot, blockOf, isConfirmed, keys, holds, marked}
+use Rattle.position.specs.FirstShares.{firstSharesMade}
+use Rattle.position.specs.Forms.FirstShares.{isEarly}
 use Rattle.position.specs.Tests.{shareMet, shareTests, giveMet, giveTests}
-use Rattle.position.specs.Conduct.{isOpen, mayShare, mayGive}
+use Rattle.position.specs.Conduct.{isOpen, phase, mayShare, mayGive}
 
 -- of one transaction
 pub one-met : (s : List ℕ) (p : Position) (party t destination : ℕ) → (t ≡ noTransaction → ⊥)
@@ -31,3 +39,35 @@ module _ (s u : List ℕ) (p : Position) (allowed met : Bool) (party t destinati
       → r ≡ firstFailing (giveTests (isOpen u || mayGive s u p party t) p party t destination)
   unfolding giveTests conductTests giveMetIn giveMet holds
   give-answer f g = h ∙ rw (f, g)
+
+-- ---- the first shares: one of both is missing; phase 0 by the locks alone; and the returns of their test
+one-missing : (p : Position) (party : ℕ) → ltb party 2 ≡ true → firstSharesMade p party ≡ false → (firstSharesMade p alice && firstSharesMade p bob) ≡ false
+one-missing p zero l m = rw m
+one-missing p (suc zero) l m = rw (m, and-false (firstSharesMade p alice))
+one-missing p (suc (suc k)) l m = absurd (omega (arith, ltb-true (suc (suc k)) 2 l))
+
+early-phase : (p : Position) (party : ℕ) → isEarly party (slot p lockA) (slot p lockB) ≡ true → firstSharesMade p party ≡ false → phase p ≡ 0
+unfolding isEarly phase isConfirmed blockOf
+early-phase p party h m =
+    let x = and-parts (ltb party 2) (eqb (slot p lockA .height) 0 && eqb (slot p lockB .height) 0) h in
+    let y = and-parts (eqb (slot p lockA .height) 0) (eqb (slot p lockB .height) 0) (x .1) in
+    rw (eqb-true (slot p lockA .height) 0 (y .0), eqb-true (slot p lockB .height) 0 (y .1), one-missing p party (x .0) m)
+
+module _ (s u : List ℕ) (p : Position) (party : ℕ) (made : Bool) (is : made ≡ firstSharesMade p party) where
+  abbrev FirstAnswer : ℕ → Type 0
+  FirstAnswer r = r ≡ firstFailing (conductTests (isOpen u || mayShare s u p party noTransaction) (not (firstSharesMade p party)))
+
+  pub first-made : made ≡ true → FirstAnswer stepConduct
+  unfolding firstFailing conductTests
+  first-made h = rw (sym is ∙ h, and-false (isOpen u || mayShare s u p party noTransaction))
+
+  early-shares : made ≡ false → (e : Bool) → e ≡ isEarly party (slot p lockA) (slot p lockB) → e ≡ true → mayShare s u p party noTransaction ≡ true
+  unfolding mayShare
+  early-shares h e i j = rw (early-phase p party (sym i ∙ j) (sym is ∙ h))
+
+  pub first-early : made ≡ false → (e : Bool) → e ≡ isEarly party (slot p lockA) (slot p lockB) → e ≡ true → FirstAnswer accepted
+  unfolding firstFailing conductTests
+  first-early h e i j = rw (sym is ∙ h, or-right (isOpen u) (mayShare s u p party noTransaction) (early-shares h e i j))
+
+  pub first-else : made ≡ false → (a : Bool) (r : ℕ) → a ≡ (isOpen u || mayShare s u p party noTransaction) → r ≡ firstFailing (conductTests a true) → FirstAnswer r
+  first-else h a r i j = j ∙ rw (i, sym is ∙ h)

@@ -1,5 +1,6 @@
 // Conduct in a position.
 use crate::Position;
+use sheet::refusal;
 use slots::Slot;
 use slots::lock_height;
 use slots::next;
@@ -7,6 +8,7 @@ use slots::party;
 use slots::signatures;
 use steps::Outlook;
 use steps::View;
+use steps::conduct;
 use steps::parent;
 use steps::sending;
 ghost use Prim.Native.Nat.{_<_};
@@ -14,12 +16,16 @@ ghost use mathlib.Core.Path.{_≡_};
 ghost use mathlib.Core.Bool.{not, _&&_, _||_};
 ghost use lib.Dec.{ltb};
 ghost use lib.ListN.{length};
+ghost use Rattle.laws.specs.Failing.{firstFailing};
 ghost use Rattle.sheet.specs.Field.{count};
 ghost use Rattle.sheet.specs.Checked.{Fit};
 ghost use Rattle.slots.specs.Slot.{standing};
 ghost use Rattle.slots.specs.Destination.{isContract};
+ghost use Rattle.steps.specs.Names.{lockA, lockB};
+ghost use Rattle.steps.specs.Forms.Conduct.{conductTests};
+ghost use Rattle.position.specs.Position.{slot};
 ghost use Rattle.position.specs.FirstShares.{firstSharesMade};
-ghost use Rattle.position.specs.Forms.FirstShares.{firstSet};
+ghost use Rattle.position.specs.Forms.FirstShares.{firstSet, isEarly};
 ghost use Rattle.position.specs.Conduct.{isOpen, isCareful, phase, late, mayShare, mayGive, canPay, sendAllowed};
 ghost use Rattle.position.specs.Forms.Outlook.{outlook, sendOutlook};
 ghost use Rattle.position.specs.Forms.View.{viewBelow};
@@ -42,6 +48,19 @@ pub fn first_shares(party: u8) -> u32
         return 80;
     }
     120
+}
+
+// Whether a party is Alice or Bob, and neither lock, whose slots a and b are, is confirmed.
+pub fn is_early(party: u8, a: Slot, b: Slot) -> bool
+    ensures { λ r. ⌜ r ≡ isEarly party a b ⌝ }
+{
+    if 2 <= party {
+        return false;
+    }
+    if a.height != 0 {
+        return false;
+    }
+    b.height == 0
 }
 
 // Whether t is one that a party sends only where it can send none that pays it: a contract transaction under careful conduct.
@@ -200,6 +219,30 @@ impl Position {
     {
         let o = self.outlook(sheet, setup, view);
         o.share_allowed(party, t)
+    }
+
+    // 13 unless conduct allows a party its first shares and they are not made. An early one needs nothing else.
+    pub fn first_refusal(
+        self,
+        sheet: &[u8],
+        setup: &[u8],
+        view: View,
+        early: bool,
+        party: u8,
+    ) -> u32
+        requires { ⌜ Fit (now sheet) (now setup) ⌝ }
+        requires { ⌜ view ≡ viewBelow (now sheet) (count (now sheet)) self ⌝ }
+        requires { ⌜ early ≡ isEarly party (slot self lockA) (slot self lockB) ⌝ }
+        ensures { λ r. ⌜ r ≡ firstFailing (conductTests (isOpen (now (setup .entry)) || mayShare (now (sheet .entry)) (now (setup .entry)) self party 255) (not (firstSharesMade self party))) ⌝ }
+    {
+        if self.first_shares_made(party) {
+            return refusal::STEP_CONDUCT;
+        }
+        if early {
+            return refusal::ACCEPTED;
+        }
+        let allowed = self.may_share(sheet, setup, view, party, 255);
+        conduct::conduct_refusal(allowed, true)
     }
 
     // Whether conduct allows a party to give signature i.

@@ -1,6 +1,7 @@
 // The steps: one method for each kind, one for any step, and one for any four bytes.
 use crate::Position;
 use crate::Stepped;
+use crate::conduct::is_early;
 use crate::conduct::pays_first;
 use crate::conduct::unless_back;
 use crate::effect;
@@ -24,7 +25,9 @@ ghost use Rattle.sheet.specs.Field.{count};
 ghost use Rattle.sheet.specs.Checked.{Fit};
 ghost use Rattle.slots.specs.declared.Step.the-variants.{Share, Give, SendToPool, HandToMiner, Include, Mine, Bump};
 ghost use Rattle.steps.specs.Decode.{fieldsRight};
-ghost use Rattle.position.specs.Forms.FirstShares.{shareable};
+ghost use Rattle.steps.specs.Names.{lockA, lockB};
+ghost use Rattle.position.specs.Position.{slot};
+ghost use Rattle.position.specs.Forms.FirstShares.{isEarly, shareable};
 ghost use Rattle.position.specs.Play.{takeStep, step};
 ghost use Rattle.position.specs.Forms.View.{viewBelow};
 
@@ -45,7 +48,10 @@ impl Position {
         ensures { λ r. ⌜ r ≡ takeStep (now (sheet .entry)) (now (setup .entry)) self (Share party t to) ⌝ }
     {
         if t == 255 {
-            return self.share_all(sheet, setup, view, party, to);
+            let a = self.slots[0];
+            let b = self.slots[1];
+            let early = is_early(party, a, b);
+            return self.share_all(sheet, setup, view, early, party, to);
         }
         let destination = party::destination_number(to);
         let k = sheet::field::wide(t);
@@ -70,17 +76,17 @@ impl Position {
         sheet: &[u8],
         setup: &[u8],
         view: View,
+        early: bool,
         party: u8,
         to: Destination,
     ) -> Stepped
         requires { ⌜ Fit (now sheet) (now setup) ⌝ }
         requires { ⌜ view ≡ viewBelow (now sheet) (count (now sheet)) self ⌝ }
+        requires { ⌜ early ≡ isEarly party (slot self lockA) (slot self lockB) ⌝ }
         requires { ⌜ shareable (now sheet) 255 ≡ true ⌝ }
         ensures { λ r. ⌜ r ≡ takeStep (now (sheet .entry)) (now (setup .entry)) self (Share party 255 to) ⌝ }
     {
-        let allowed = self.may_share(sheet, setup, view, party, 255);
-        let met = !self.first_shares_made(party);
-        let refusal = conduct::conduct_refusal(allowed, met);
+        let refusal = self.first_refusal(sheet, setup, view, early, party);
         if refusal != 0 {
             return Stepped {
                 refusal,

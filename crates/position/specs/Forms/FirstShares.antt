@@ -1,4 +1,4 @@
--- The first shares as a set of transactions, and what may be shared.
+-- The first shares as a set of transactions, when they are early, and what may be shared.
 -- Assumes nothing.
 use Prim.Native.Nat.{ℕ}
 use mathlib.Core.Bool.{Bool, _&&_, _||_}
@@ -6,6 +6,7 @@ use mathlib.Core.List.{List}
 use lib.Dec.{eqb, ltb}
 use Rattle.laws.specs.Booleans.{pick}
 use Rattle.sheet.specs.Field.{count}
+use Rattle.slots.specs.declared.Slot.{Slot}
 use Rattle.slots.specs.Destination.{alice}
 use Rattle.steps.specs.Names.{timeout}
 use Rattle.steps.specs.Decode.{noTransaction}
@@ -13,6 +14,10 @@ use Rattle.steps.specs.Decode.{noTransaction}
 -- firstShares: 2^4 + 2^6, and 2^3 + 2^4 + 2^5 + 2^6
 unfoldable pub firstSet : ℕ → ℕ
 firstSet party = pick (eqb party alice) 80 120
+
+-- Alice or Bob, where neither lock, whose slots these are, is confirmed: of one whose first shares are not made this is phase 0
+unfoldable pub isEarly : ℕ → Slot → Slot → Bool
+isEarly party a b = ltb party 2 && (eqb (a .height) 0 && eqb (b .height) 0)
 
 -- a transaction of the sheet, or 255 on a sheet that has the first shares' transactions
 unfoldable pub shareable : List ℕ → ℕ → Bool

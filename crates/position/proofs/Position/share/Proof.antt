@@ -13,11 +13,21 @@ use borrow.Author.Needs.{needs}
 use Rattle.position.proofs.Position.share.Statement.{statement}
 use Rattle.position.proofs.Position.share.Tie as tie
 
+element-copy-out-a : tie.Need-element-copy-out-a
+element-copy-out-a c = search needs
+
+element-copy-out-b : tie.Need-element-copy-out-b
+element-copy-out-b c = search needs
+
+is-early-requires : tie.Need-is-early-requires
+is-early-requires c κs = search needs
+
 share-all-requires : tie.Need-share-all-requires
-share-all-requires c κs = let p = c .before .before .before .pre in (p .0, (p .1 .0, rw (← (c .if1 .taken)) (p .1 .1)))
+unfolding slot
+share-all-requires c κs = let p = c .before .before .before .before .before .before .pre in (p .0, (p .1 .0, (c .is-early .ensures, rw (← (c .before .before .before .if1 .taken)) (p .1 .1))))
 
 returns : tie.Need-returns
-returns c = rw (c .before .if1 .taken) (c .share-all .ensures)
+returns c = rw (c .before .before .before .before .if1 .taken) (c .share-all .ensures)
 
 destination-number-requires : tie.Need-destination-number-requires
 destination-number-requires c κs = search needs
@@ -74,6 +84,9 @@ pub share-spec : {M : Type 1} → statement M
 share-spec =
     tie.close
     (tie.spec
+    element-copy-out-a
+    element-copy-out-b
+    is-early-requires
     share-all-requires
     returns
     destination-number-requires

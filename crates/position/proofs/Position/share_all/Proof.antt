@@ -11,33 +11,19 @@ use borrow.Author.Needs.{needs}
 use Rattle.position.proofs.Position.share_all.Statement.{statement}
 use Rattle.position.proofs.Position.share_all.Tie as tie
 
-may-share-requires : tie.Need-may-share-requires
-may-share-requires c κs = search needs
-
-first-shares-made-requires : tie.Need-first-shares-made-requires
-first-shares-made-requires c κs = search needs
-
-conduct-refusal-requires : tie.Need-conduct-refusal-requires
-conduct-refusal-requires c κs = search needs
+first-refusal-requires : tie.Need-first-refusal-requires
+first-refusal-requires c κs = search needs
 
 returns : tie.Need-returns
 unfolding stepRefusal tests conductAllows shareMet
-returns c = refuses _ _ _ _ _ (share-answer _ _ _ _ _ _ _ _ _ (c .before .conduct-refusal .ensures) (c .before .before .before .may-share .ensures) (rw (c .before .before .first-shares-made .ensures) refl)) (c .if1 .taken)
+returns c = refuses _ _ _ _ _ (share-answer _ _ _ _ _ _ _ _ _ (c .before .first-refusal .ensures) refl refl) (c .if1 .taken)
 
 share-first-requires : tie.Need-share-first-requires
-share-first-requires c κs = let p = c .before .before .before .before .before .before .pre in (p .0 .checked .sized, share-first-fits _ _ (p .0 .checked .sized .few) (p .1 .1) refl)
+share-first-requires c κs = let p = c .before .before .before .before .pre in (p .0 .checked .sized, share-first-fits _ _ (p .0 .checked .sized .few) (p .1 .1 .1) refl)
 
 returns-2 : tie.Need-returns-2
 unfolding stepRefusal tests conductAllows shareMet effect afterShare
-returns-2 c = accepts _ _ _ _ _ _ (share-answer _ _ _ _ _ _ _ _ _ (c .before .before .conduct-refusal .ensures) (c .before .before .before .before .may-share .ensures) (rw (c .before .before .before .first-shares-made .ensures) refl)) (c .before .if1 .left) (c .share-first .ensures)
+returns-2 c = accepts _ _ _ _ _ _ (share-answer _ _ _ _ _ _ _ _ _ (c .before .before .first-refusal .ensures) refl refl) (c .before .if1 .left) (c .share-first .ensures)
 
 pub share-all-spec : {M : Type 1} → statement M
-share-all-spec =
-    tie.close
-    (tie.spec
-    may-share-requires
-    first-shares-made-requires
-    conduct-refusal-requires
-    returns
-    share-first-requires
-    returns-2)
+share-all-spec = tie.close (tie.spec first-refusal-requires returns share-first-requires returns-2)
