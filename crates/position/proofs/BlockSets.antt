@@ -9,9 +9,9 @@ use lib.Bits.{bitOr}
 use lib.Dec.{eqb, ltb}
 use lib.ListN.{getD}
 use borrow.Author.Tests.{eqb-true, ltb-false}
-use Rattle.laws.specs.Bits.{bit-or}
+use Rattle.laws.specs.Bits.{bit-or, no-bit}
 use Rattle.laws.specs.Booleans.{split, or-neither}
-use Rattle.laws.specs.Each.{rewriteFirst, rewrite-same}
+use Rattle.laws.specs.Each.{rewriteFirst}
 use Rattle.laws.specs.Mask.{bit}
 use Rattle.laws.specs.Sets.{setBelow, set-bit}
 use Rattle.sheet.specs.Field.{count}
@@ -26,12 +26,13 @@ use Rattle.position.specs.declared.Position.{Position}
 use Rattle.slots.specs.Slot.{emptySlot, standing}
 use Rattle.steps.specs.declared.View.{View}
 use Rattle.steps.specs.Mined.{confirmEntry}
-use Rattle.steps.proofs.Unmoved.{pool-out}
+use Rattle.steps.proofs.Unmoved.{pool-out, block-out}
 use Rattle.position.specs.Position.{slot, inPool, inBlock}
 use Rattle.position.specs.Owed.{waiting, enters}
 use Rattle.position.specs.Effect.{leavesPool, mineSlot, leavesBlock, bumpSlot}
 use Rattle.position.specs.Forms.View.{viewBelow}
-use Rattle.steps.specs.Forms.Blocks.{struckIn, minedSlot, bumpedSlot, entersIn}
+use Rattle.steps.specs.Forms.Blocks.{struckIn, minedSlot, displacedIn, bumpedSlot, entersIn}
+use Rattle.position.proofs.NoEntries.{out-of-block}
 
 -- two rules that agree at what stands at each place
 rewrite-at : {A : Type 0} (n : ℕ) (f g : ℕ → A → A) (l : List A) (d : A) → ((i : ℕ) → i < n → f i (getD l i d) ≡ g i (getD l i d)) → rewriteFirst n f l ≡ rewriteFirst n g l
@@ -115,11 +116,32 @@ enters-bit s p t k few l m =
     ∙ rw (set-bit (count s) (inPool p) few k m, set-bit (count s) (inBlock p) few k m, line-bit s t k (omega arith) (omega arith))
     (sym (and-assoc (inPool p k) (not (inBlock p k)) (isSelfOrAncestor s k t)))
 
-pub bumped-right : (s : List ℕ) (p : Position) (t e m : ℕ) → count s ≤ 32 → t < count s
-    → e ≡ setBelow (count s) (entersIn (viewBelow s (count s) p) (lineSet s t)) → m ≡ setBelow (count s) (foundIn s (bit e) false)
-    → rewriteFirst (count s) (bumpedSlot s e m) (p .slots) ≡ rewriteFirst (count s) (bumpSlot s p t) (p .slots)
-unfolding bumpedSlot bumpSlot leavesBlock
-bumped-right s p t e m few l f g =
-    let at : (k : ℕ) → k < count s → bit e k ≡ enters s p t k = λ k h. ap (λ x. bit x k) f ∙ enters-bit s p t k few l h in
-    rewrite-same (count s) (bumpedSlot s e m) (bumpSlot s p t) (p .slots)
-    (λ k x h. rw (g, at k h, set-meets s e (enters s p t) k few h at))
+module _ (s : List ℕ) (p : Position) (v : View) (t e m : ℕ) (few : count s ≤ 32) (l : t < count s) (f : v ≡ viewBelow s (count s) p)
+    (g : e ≡ setBelow (count s) (entersIn v (lineSet s t))) (h : m ≡ displacedIn s v e) where
+  entering-at : (k : ℕ) → k < count s → bit e k ≡ enters s p t k
+  entering-at k i =
+      (ap (λ x. bit x k) g ∙ ap (λ (w : View). bit (setBelow (count s) (entersIn w (lineSet s t))) k) f) ∙ enters-bit s p t k few l i
+
+  bumped-among : m ≡ setBelow (count s) (foundIn s (bit e) false) → (k : ℕ) → k < count s → bumpedSlot s e m k (slot p k) ≡ bumpSlot s p t k (slot p k)
+  unfolding bumpedSlot bumpSlot leavesBlock
+  bumped-among z k i = rw (z, entering-at k i, set-meets s e (enters s p t) k few i entering-at)
+
+  -- nobody leaves an empty block, whatever the set
+  bumped-alone : v .block ≡ 0 → (k : ℕ) → k < count s → bumpedSlot s e m k (slot p k) ≡ bumpSlot s p t k (slot p k)
+  unfolding bumpedSlot bumpSlot
+  bumped-alone z k i =
+      let a = out-of-block s p v few f k i (rw z (no-bit k)) in
+      split (enters s p t k)
+      (λ y. rw (entering-at k i, y))
+      (λ y. rw (entering-at k i, y) (sym (block-out (inAncestry s (bit m) k) (slot p k) a) ∙ block-out (leavesBlock s (enters s p t) k) (slot p k) a))
+
+  bumped-at : (k : ℕ) → k < count s → bumpedSlot s e m k (slot p k) ≡ bumpSlot s p t k (slot p k)
+  unfolding displacedIn
+  bumped-at =
+      split (eqb (v .block) 0)
+      (λ y. bumped-alone (eqb-true (v .block) 0 y))
+      (λ y. bumped-among (h ∙ rw y refl))
+
+  pub bumped-right : rewriteFirst (count s) (bumpedSlot s e m) (p .slots) ≡ rewriteFirst (count s) (bumpSlot s p t) (p .slots)
+  unfolding slot
+  bumped-right = rewrite-at (count s) (bumpedSlot s e m) (bumpSlot s p t) (p .slots) emptySlot bumped-at

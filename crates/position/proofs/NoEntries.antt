@@ -37,7 +37,7 @@ confirm-none s b t x e = rw e
 
 -- where v is the view of a position
 module _ (s : List ℕ) (p : Position) (v : View) (few : count s ≤ 32) (e : v ≡ viewBelow s (count s) p) where
-  out-of-block : (t : ℕ) → t < count s → bit (v .block) t ≡ false → slot p t .block ≡ 0
+  pub out-of-block : (t : ℕ) → t < count s → bit (v .block) t ≡ false → slot p t .block ≡ 0
   unfolding viewBelow inBlock
   out-of-block t l h =
       no-entry (slot p t .block) (sym (set-bit (count s) (inBlock p) few t l) ∙ ap (λ (x : View). bit (x .block) t) (sym e) ∙ h)

@@ -124,6 +124,7 @@ module _ (s : List ℕ) (p : Position) (v : View) (few : count s ≤ 32) (e : v 
   bump-same : (t k : ℕ) → k < count s → bit (bitOr (v .pool) (v .block)) k ≡ false → bumpSlot s p t k (slot p k) ≡ slot p k
   bump-same t k l h = let w = outside s p v few e k l h in bump-none s p t k (w .1) (w .2)
 
+  -- these sets are words of 32 bits
   pool-word : v .pool < 2 ^ 32
   unfolding viewBelow
   pool-word = rw e (set-small 32 (count s) (inPool p) few)

@@ -1,6 +1,5 @@
 // What a bump does to a position: kind 7.
 use crate::Position;
-use slots::conflict;
 use slots::next;
 use steps::View;
 use steps::bumped;
@@ -20,7 +19,7 @@ impl Position {
         ensures { λ r. ⌜ r ≡ afterBump (now (sheet .entry)) t self ⌝ }
     {
         let entering = bumped::entering(sheet, view, t);
-        let leaving = conflict::conflicts_of(sheet, entering, false);
+        let leaving = bumped::displaced(sheet, view, entering);
         let there = view.pool | view.block;
         let n = sheet::field::count(sheet);
         let mut k = next::next(there, 0, n);

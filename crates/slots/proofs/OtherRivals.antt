@@ -1,4 +1,4 @@
--- Rivals but oneself: they come after the parent; and of a set none of whose members has one, nobody has another rival there.
+-- Rivals but oneself: they come after the parent; and where no member of a set has one, nobody has another rival in the set.
 -- Assumes nothing.
 use Prim.Native.Nat.{ℕ, _+_, _≤_, _<_}
 use native.Mathlib.Omega.{arith}

@@ -1,4 +1,4 @@
-// Whether anyone has a rival in a set (document 01: rivals), told from the sheet: where no member has a rival but itself, nobody has.
+// Whether a set is contested: some member has a rival but itself (document 01: rivals). Else nobody has another rival in it.
 use crate::next;
 ghost use Prim.Native.Nat.{_<_};
 ghost use mathlib.Core.Path.{_≡_};
@@ -9,7 +9,7 @@ ghost use Rattle.sheet.specs.Checked.{Checked};
 ghost use Rattle.slots.specs.Conflict.{otherConflictIn};
 ghost use Rattle.slots.specs.Forms.Contested.{contestedIn};
 
-// Whether t has a rival but itself. Children come after their parent, and no number after an opening's.
+// Whether t has a rival but itself. A child comes after its parent; after an opening's 255 comes nobody.
 fn has_rival(sheet: &[u8], t: usize) -> bool
     requires { ⌜ Checked (now sheet) ⌝ }
     requires { ⌜ t < count (now sheet) ⌝ }

@@ -3,12 +3,14 @@ use crate::View;
 use sheet::set;
 use slots::Slot;
 use slots::ancestry;
+use slots::conflict;
 ghost use Prim.Native.Nat.{_<_};
 ghost use mathlib.Core.Path.{_≡_};
 ghost use Rattle.laws.specs.Sets.{setBelow};
 ghost use Rattle.sheet.specs.Field.{count, Sized};
+ghost use Rattle.sheet.specs.Checked.{Checked};
 ghost use Rattle.slots.specs.Forms.Line.{lineSet};
-ghost use Rattle.steps.specs.Forms.Blocks.{bumpedSlot, entersIn};
+ghost use Rattle.steps.specs.Forms.Blocks.{displacedIn, bumpedSlot, entersIn};
 
 // What a bump makes of one slot: it enters the block, or leaves it, or stays as it is.
 pub fn bumped_slot(sheet: &[u8], entering: u32, leaving: u32, t: usize, x: Slot) -> Slot
@@ -57,4 +59,15 @@ pub fn entering(sheet: &[u8], view: View, t: usize) -> u32
         k += 1;
     }
     found
+}
+
+// Those with a rival among the entering. None is asked for while the block is empty, since there nobody leaves it.
+pub fn displaced(sheet: &[u8], view: View, entering: u32) -> u32
+    requires { ⌜ Checked (now sheet) ⌝ }
+    ensures { λ r. ⌜ r ≡ displacedIn (now (sheet .entry)) view entering ⌝ }
+{
+    if view.block == 0 {
+        return 0;
+    }
+    conflict::conflicts_of(sheet, entering, false)
 }

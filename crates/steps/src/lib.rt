@@ -36,7 +36,7 @@ pub struct View {
     pub keys: [u8; 6],
 }
 
-// What conduct reads off a position, once for each step.
+// What conduct reads off a position.
 pub struct Outlook {
     // open conduct: nothing below is asked for
     pub free: bool,

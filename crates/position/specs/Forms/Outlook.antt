@@ -1,4 +1,4 @@
--- The outlook of a position: what conduct reads off it, once for each step.
+-- The outlook of a position: what conduct reads off it.
 -- Assumes nothing.
 use mathlib.Core.Bool.{true, false}
 use mathlib.Core.List.{List}

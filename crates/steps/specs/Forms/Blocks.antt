@@ -36,6 +36,10 @@ unfoldable pub bumpedSlot : List ℕ → ℕ → ℕ → ℕ → Slot → Slot
 bumpedSlot s entering leaving t x =
     pick (bit entering t) (withBlock (x .pool) x) (pick (inAncestry s (bit leaving) t) (withBlock 0 x) x)
 
+-- those with a rival among the entering; none while the block is empty, since there nobody leaves it
+unfoldable pub displacedIn : List ℕ → View → ℕ → ℕ
+displacedIn s v entering = pick (eqb (v .block) 0) 0 (setBelow (count s) (foundIn s (bit entering) false))
+
 -- the slots of the transactions outside the set `there` stay as they are by f
 pub record Outside (s : List ℕ) (f : ℕ → Slot → Slot) (there : ℕ) (l : List Slot) : Type 0 where
   pub same : (t : ℕ) → t < count s → bit there t ≡ false → f t (getD l t emptySlot) ≡ getD l t emptySlot

@@ -4,14 +4,10 @@ use Rattle.position.proofs.BlockSets.{bumped-right}
 use Rattle.position.proofs.NoEntries.{bumped-outside}
 use Rattle.position.specs.Effect.{withSlots, changeSlots, afterBump}
 use Rattle.position.specs.Position.{slot}
-use Rattle.steps.specs.Forms.Blocks.{bumpedSlot, entersIn}
-use Rattle.steps.specs.declared.View.{View}
-use Rattle.slots.specs.Forms.Line.{lineSet}
-use Rattle.sheet.specs.Field.{count}
-use Rattle.laws.specs.Sets.{setBelow}
+use Rattle.steps.specs.Forms.Blocks.{bumpedSlot}
 use Rattle.laws.specs.Each.{length-of-map}
 use lib.ListN.{length}
-use mathlib.Core.Path.{_≡_, refl, ap, _∙_}
+use mathlib.Core.Path.{_≡_, refl, _∙_}
 use Prim.Native.Nat.{_≤_, _-_}
 use denote.Ref.{now}
 use borrow.Author.Needs.{needs}
@@ -27,8 +23,8 @@ abbrev μ-loop : tie.MeasureT-loop
 entering-requires : tie.Need-entering-requires Inv-loop μ-loop
 entering-requires c κs = search needs
 
-conflicts-of-requires : tie.Need-conflicts-of-requires Inv-loop μ-loop
-conflicts-of-requires c κs = search needs
+displaced-requires : tie.Need-displaced-requires Inv-loop μ-loop
+displaced-requires c κs = search needs
 
 count-requires : tie.Need-count-requires Inv-loop μ-loop
 count-requires c κs = search needs
@@ -74,7 +70,7 @@ unfolding afterBump changeSlots withSlots
 returns c =
     let s = now (c .before .before .before .before .before .before .before .before .args .sheet) in
     rewritten-done _ _ _ _ (bumped-outside _ _ _ (c .before .before .before .before .before .before .before .before .pre .0 .sized .few) (c .before .before .before .before .before .before .before .before .pre .1 .0) _ _ _ (c .before .before .before .before .before .before .entering .ensures)) _ (c .before .before .before .count .ensures .is) _ _ (c .before .loop .inv .1) (c .before .loop .inv .0) (c .loop-test .left)
-    ∙ rw (bumped-right s (c .before .before .before .before .before .before .before .before .args .t1) (c .before .before .before .before .before .before .before .before .args .t) (c .before .before .before .before .before .before .entering .result) (c .before .before .before .before .before .conflicts-of .result) (c .before .before .before .before .before .before .before .before .pre .0 .sized .few) (c .before .before .before .before .before .before .before .before .pre .1 .1) (c .before .before .before .before .before .before .entering .ensures ∙ ap (λ (v : View). setBelow (count s) (entersIn v (lineSet s (c .before .before .before .before .before .before .before .before .args .t)))) (c .before .before .before .before .before .before .before .before .pre .1 .0)) (c .before .before .before .before .before .conflicts-of .ensures)) refl
+    ∙ rw (bumped-right s (c .before .before .before .before .before .before .before .before .args .t1) (c .before .before .before .before .before .before .before .before .args .view) (c .before .before .before .before .before .before .before .before .args .t) (c .before .before .before .before .before .before .entering .result) (c .before .before .before .before .before .displaced .result) (c .before .before .before .before .before .before .before .before .pre .0 .sized .few) (c .before .before .before .before .before .before .before .before .pre .1 .1) (c .before .before .before .before .before .before .before .before .pre .1 .0) (c .before .before .before .before .before .before .entering .ensures) (c .before .before .before .before .before .displaced .ensures)) refl
 
 pub after-bump-spec : {M : Type 1} → statement M
 after-bump-spec =
@@ -83,7 +79,7 @@ after-bump-spec =
     Inv-loop
     μ-loop
     entering-requires
-    conflicts-of-requires
+    displaced-requires
     count-requires
     next-requires
     loop-holds
