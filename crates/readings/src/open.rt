@@ -4,7 +4,6 @@ use crate::Sight;
 use sheet::set;
 use slots::Slot;
 use slots::party;
-use slots::signatures;
 use steps::Outlook;
 use steps::conduct;
 use steps::decode;
@@ -20,14 +19,11 @@ ghost use lib.Dec.{eqb};
 ghost use lib.ListN.{length};
 ghost use Rattle.laws.specs.Booleans.{pick};
 ghost use Rattle.laws.specs.Failing.{firstFailing};
-ghost use Rattle.laws.specs.Mask.{bit};
 ghost use Rattle.laws.specs.Sets.{setBelow};
 ghost use Rattle.sheet.specs.Field.{count, signatures, Sized};
 ghost use Rattle.sheet.specs.Setup.{perDay, stealth};
 ghost use Rattle.sheet.specs.Checked.{Checked, Fit};
-ghost use Rattle.slots.specs.Ancestry.{hasParent};
-ghost use Rattle.slots.specs.Signatures.{signed};
-ghost use Rattle.steps.specs.Forms.View.{keysIn, senderIn};
+ghost use Rattle.steps.specs.Forms.View.{keysIn};
 ghost use Rattle.steps.specs.Forms.Conduct.{shareAllowedIn, sendHeldIn, conductTests};
 ghost use Rattle.steps.specs.Forms.Sharing.{shareMetIn};
 ghost use Rattle.steps.specs.Forms.Sending.{poolTestsIn, minerTestsIn};
@@ -229,28 +225,7 @@ fn share_refusal(sheet: &[u8], sight: Sight, x: Slot, actor: u8, t: usize, desti
     conduct::conduct_refusal(allowed, met)
 }
 
-// Whether a transaction to be sent has its parent there and its signatures.
-fn ready(
-    sheet: &[u8],
-    sight: Sight,
-    there: u32,
-    x: Slot,
-    actor: u8,
-    t: usize,
-    destination: u8,
-) -> bool
-    requires { ⌜ Checked (now sheet) ⌝ }
-    requires { ⌜ t < count (now sheet) ⌝ }
-    ensures { λ r. ⌜ r ≡ (hasParent (now (sheet .entry)) (bit there) t && signed (now (sheet .entry)) (senderIn (now (sheet .entry)) (sight .view) x actor destination) t) ⌝ }
-{
-    if !parent::parent_there(sheet, there, t) {
-        return false;
-    }
-    let have = sight.view.sender(sheet, x, actor, destination);
-    signatures::signed(sheet, have, t)
-}
-
-// Kind 3. The parent and the signatures are tested first: the search for a rival takes longer.
+// Kind 3. The parent is tested first: most that are not open lack it.
 fn pool_accepted(
     sheet: &[u8],
     setup: &[u8],
@@ -265,7 +240,7 @@ fn pool_accepted(
     requires { ⌜ t < count (now sheet) ⌝ }
     ensures { λ r. ⌜ r ≡ eqb (firstFailing (poolTestsIn (sendHeldIn (now (sheet .entry)) (sight .outlook) (sight .back) actor t) (now (sheet .entry)) (now (setup .entry)) (sight .view) x since actor t destination)) 0 ⌝ }
 {
-    if !ready(sheet, sight, sight.view.sent(), x, actor, t, destination) {
+    if !parent::parent_there(sheet, sight.view.sent(), t) {
         return false;
     }
     let held = sight.outlook.send_held(sheet, sight.back, actor, t);
@@ -298,7 +273,7 @@ fn miner_accepted(
     requires { ⌜ t < count (now sheet) ⌝ }
     ensures { λ r. ⌜ r ≡ eqb (firstFailing (minerTestsIn (sendHeldIn (now (sheet .entry)) (sight .outlook) (sight .back) actor t) (now (sheet .entry)) (now (setup .entry)) (sight .view) x since actor t destination)) 0 ⌝ }
 {
-    if !ready(sheet, sight, sight.view.placed(), x, actor, t, destination) {
+    if !parent::parent_there(sheet, sight.view.placed(), t) {
         return false;
     }
     let held = sight.outlook.send_held(sheet, sight.back, actor, t);

@@ -1,4 +1,4 @@
--- A transaction whose parent is nowhere can be sent by neither kind.
+-- A transaction whose parent is not there cannot be sent, by neither kind if it is nowhere.
 -- Assumes nothing.
 use Prim.Native.Nat.{ℕ}
 use mathlib.Core.Path.{_≡_, refl, sym, _∙_}
@@ -40,19 +40,22 @@ sent-somewhere v k h =
     (λ y. bit-or (v .pool) (placedSet v) k ∙ rw y)
     (λ y. placed-somewhere v k (bit-or (v .block) (v .confirmed) k ∙ or-right (bit (v .block) k) (bit (v .confirmed) k) y))
 
-module _ (allowed : Bool) (s u : List ℕ) (v : View) (x : Slot) (since party t : ℕ) (none : hasParent s (bit (somewhere v)) t ≡ false) where
-  not-pooled : eqb (firstFailing (poolTestsIn allowed s u v x since party t party)) accepted ≡ false
+-- without its parent in the set that the kind looks at, whatever the other tests say
+module _ (allowed : Bool) (s u : List ℕ) (v : View) (x : Slot) (since party t d : ℕ) where
+  pub pool-orphan : hasParent s (bit (sentSet v)) t ≡ false → eqb (firstFailing (poolTestsIn allowed s u v x since party t d)) accepted ≡ false
   unfolding poolTestsIn sendTestsIn
-  not-pooled =
-      fails-by (eqb (firstFailing (poolTestsIn allowed s u v x since party t party)) accepted)
-      (λ e. clash (wider s (sentSet v) (somewhere v) t (sent-somewhere v) (passed _ refl (eqb-true _ accepted e) 15)) none)
+  pool-orphan none =
+      fails-by (eqb (firstFailing (poolTestsIn allowed s u v x since party t d)) accepted) (λ e. clash (passed _ refl (eqb-true _ accepted e) 15) none)
 
-  not-handed : eqb (firstFailing (minerTestsIn allowed s u v x since party t party)) accepted ≡ false
+  pub miner-orphan : hasParent s (bit (placedSet v)) t ≡ false → eqb (firstFailing (minerTestsIn allowed s u v x since party t d)) accepted ≡ false
   unfolding minerTestsIn sendTestsIn
-  not-handed =
-      fails-by (eqb (firstFailing (minerTestsIn allowed s u v x since party t party)) accepted)
-      (λ e. clash (wider s (placedSet v) (somewhere v) t (placed-somewhere v) (passed _ refl (eqb-true _ accepted e) 15)) none)
+  miner-orphan none =
+      fails-by (eqb (firstFailing (minerTestsIn allowed s u v x since party t d)) accepted) (λ e. clash (passed _ refl (eqb-true _ accepted e) 15) none)
 
-  pub pays-none : isPayee s t party ≡ true → false ≡ paysIn allowed s u v x since party t
-  unfolding paysIn
-  pays-none y = rw (y, not-pooled, not-handed)
+pub pays-none : (allowed : Bool) (s u : List ℕ) (v : View) (x : Slot) (since party t : ℕ) → hasParent s (bit (somewhere v)) t ≡ false
+    → isPayee s t party ≡ true → false ≡ paysIn allowed s u v x since party t
+unfolding paysIn
+pays-none allowed s u v x since party t none y =
+    let sent = fails-by (hasParent s (bit (sentSet v)) t) (λ e. clash (wider s (sentSet v) (somewhere v) t (sent-somewhere v) e) none) in
+    let placed = fails-by (hasParent s (bit (placedSet v)) t) (λ e. clash (wider s (placedSet v) (somewhere v) t (placed-somewhere v) e) none) in
+    rw (y, pool-orphan allowed s u v x since party t party sent, miner-orphan allowed s u v x since party t party placed)

@@ -1,11 +1,13 @@
--- Parent and signatures first, then all tests of the kind.
-use Rattle.readings.proofs.SendFirst.{pool-lacks}
+-- The parent first, then all tests of the kind.
+use Rattle.steps.proofs.NoParent.{pool-orphan}
+use mathlib.Core.Path.{sym, _∙_}
+use borrow.Author.Tests.{not-true}
 use borrow.Author.Needs.{needs}
 use Rattle.readings.proofs.open.pool_accepted.Statement.{statement}
 use Rattle.readings.proofs.open.pool_accepted.Tie as tie
 use Rattle.readings.proofs.open.pool_accepted.Reads as reads
 use Rattle.readings.proofs.open.pool_accepted.Lts as lts
-use Rattle.readings.proofs.open.ready.Reads as ready-reads
+use Rattle.steps.proofs.parent.parent_there.Reads as parent-there-reads
 use Rattle.steps.proofs.Outlook.send_held.Reads as send-held-reads
 use Rattle.steps.proofs.View.sent.Reads as sent-reads
 use Rattle.steps.proofs.sending.pool_refusal.Reads as pool-refusal-reads
@@ -13,11 +15,11 @@ use Rattle.steps.proofs.sending.pool_refusal.Reads as pool-refusal-reads
 sent-requires : tie.Need-sent-requires
 sent-requires c κs = search needs
 
-ready-requires : tie.Need-ready-requires
-ready-requires c κs = search needs
+parent-there-requires : tie.Need-parent-there-requires
+parent-there-requires c κs = search needs
 
 returns : tie.Need-returns
-returns c = pool-lacks _ _ _ _ _ _ _ _ _ _ _ (c .before .before .sent .ensures) (c .before .ready .ensures) (c .if1 .taken)
+returns c = sym (pool-orphan _ _ _ _ _ _ _ _ _ (rw (← (c .before .before .sent .ensures)) (sym (c .before .parent-there .ensures) ∙ not-true _ (c .if1 .taken))))
 
 send-held-requires : tie.Need-send-held-requires
 send-held-requires c κs = search needs
@@ -33,7 +35,7 @@ pool-accepted-spec =
     tie.close
     (tie.spec
     sent-requires
-    ready-requires
+    parent-there-requires
     returns
     send-held-requires
     pool-refusal-requires
