@@ -5,8 +5,9 @@ use mathlib.Core.Path.{_≡_, refl, _∙_}
 use mathlib.Core.Bool.{true, false}
 use mathlib.Core.List.{List, [], _∷_}
 use lib.Dec.{eqb}
-use borrow.Author.Tests.{eq-eqb, ne-eqb}
+use borrow.Author.Tests.{eqb-true, eq-eqb, ne-eqb}
 use Rattle.laws.specs.Booleans.{split}
+use Rattle.laws.specs.Sets.{removed}
 use Rattle.sheet.specs.Refusal.{accepted}
 use Rattle.sheet.specs.Field.{count}
 use Rattle.sheet.specs.Checked.{Fit}
@@ -15,9 +16,8 @@ use Rattle.position.specs.declared.Position.{Position}
 use Rattle.position.specs.declared.Stepped.{Stepped}
 use Rattle.position.specs.Play.{FourBytes, step}
 use Rattle.position.specs.Forms.View.{viewBelow}
-use Rattle.position.specs.Forms.Seen.{changesMany}
-use Rattle.position.proofs.RenewedAfter.{renewed-after}
-use Rattle.position.proofs.SeenAfter.{seen-after}
+use Rattle.position.specs.Forms.Seen.{changedSet, lowest}
+use Rattle.position.proofs.SeenAfter.{seen-none, seen-one, seen-many}
 use Rattle.dated.specs.declared.Dated.{Dated}
 use Rattle.dated.specs.declared.DatedRun.{DatedRun}
 use Rattle.dated.specs.Dated.{noted, datedStep, datedRunFrom}
@@ -54,9 +54,13 @@ module _ (s u : List ℕ) (d : Dated) (b : FourBytes) where
         → seenAfter s v (r .position) (b .kind) (b .transaction) ≡ viewBelow s (count s) (r .position)
     unfolding seenAfter
     seen-right v fit g z =
-        split (changesMany v (b .kind) (b .transaction))
-        (λ y. rw y (renewed-after s u (d .position) v fit g b r e z y))
-        (λ y. rw y (seen-after s u (d .position) v fit g b r e z y))
+        let there = changedSet v (b .kind) (b .transaction) in
+        split (eqb there 0)
+        (λ y. rw y (seen-none s u (d .position) v fit g b r e z there refl (eqb-true there 0 y)))
+        (λ y.
+        split (eqb (removed there (lowest there)) 0)
+        (λ x. rw (y, x) (seen-one s u (d .position) v fit g b r e z there refl (lowest there) refl (eqb-true (removed there (lowest there)) 0 x)))
+        (λ x. rw (y, x) (seen-many s u (d .position) v fit g b r e z _ refl)))
 
 -- a row of steps, by its first
 module _ (s u : List ℕ) where

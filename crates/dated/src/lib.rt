@@ -10,7 +10,6 @@ ghost use mathlib.Core.Path.{_≡_};
 ghost use lib.ListN.{length};
 ghost use Rattle.sheet.specs.Field.{count};
 ghost use Rattle.sheet.specs.Checked.{Checked, Fit};
-ghost use Rattle.slots.specs.Forms.Limited.{limitedSet};
 ghost use Rattle.position.specs.Forms.View.{viewBelow};
 ghost use Rattle.position.specs.Forms.Journal.{stepAt};
 ghost use Rattle.dated.specs.Dated.{noted, datedStart, datedStep};
@@ -89,13 +88,16 @@ pub fn start(sheet: &[u8], setup: &[u8]) -> Viewed
 // The view of the position that an accepted step led to, from the view before it and the step's kind and transaction byte.
 fn seen_after(view: View, position: Position, sheet: &[u8], kind: u8, t: u8) -> View
     requires { ⌜ Checked (now sheet) ⌝ }
-    requires { ⌜ view .limited ≡ limitedSet (now sheet) ⌝ }
     ensures { λ r. ⌜ r ≡ seenAfter (now (sheet .entry)) view position kind t ⌝ }
 {
-    if seen::changes_many(view, kind, t) {
-        return position.view_renewed(sheet, view, kind);
+    let there = seen::changed_set(view, kind, t);
+    if there == 0 {
+        return view.passed(position.mined, position.keys);
     }
-    let at = seen::changed_place(kind, t);
+    let at = seen::lowest(there);
+    if sheet::set::remove(there, at) != 0 {
+        return position.view_over(sheet, view, seen::narrowed(sheet, view, kind, there));
+    }
     let x = position.slots[at];
     view.after(at, x, position.mined, position.keys)
 }

@@ -22,4 +22,3 @@ pub mod ReportLengths
 pub mod Passing
 pub mod Renewed
 pub mod SeenAfter
-pub mod RenewedAfter

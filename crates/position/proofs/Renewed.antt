@@ -1,25 +1,27 @@
--- The view renewed after a step that moved entries: outside a set the slots stay as they are, and no confirmation and no shared signature
--- goes.
+-- The view carried over a step: outside a set the slots stay as they are, and no confirmation and no shared signature goes. It is made
+-- over all members of the set, or over its only one, or where it has none of what is kept.
 -- Assumes nothing.
-use Prim.Native.Nat.{ℕ, zero, suc, _+_, _≤_, _<_}
+use Prim.Native.Nat.{ℕ, zero, suc, _+_, _^_, _≤_, _<_}
 use native.Mathlib.Nat.{eq-or-lt-of-le, le-of-suc-le-suc, le-antisymm}
 use native.Mathlib.Numerals.{add-one}
 use native.Mathlib.Omega.{arith}
 use mathlib.Core.Path.{_≡_, refl, sym, ap, _∙_}
 use mathlib.Core.Bool.{Bool, true, false, not, _&&_, and-true, and-false}
 use mathlib.Core.List.{List}
-use lib.Bits.{bitOr}
+use lib.Bits.{bitOr, or-self}
+use lib.Pow.{pow-lt, pow-mono}
 use lib.Dec.{eqb, ltb}
-use borrow.Author.Tests.{ltb-true, ltb-false, lt-ltb, le-ltb, eqb-true, eqb-false}
+use borrow.Author.Tests.{ltb-true, ltb-false, lt-ltb, le-ltb, eqb-true, eqb-false, eq-eqb, ne-eqb}
 use Rattle.laws.specs.Booleans.{pick, split, either, clash}
 use Rattle.laws.specs.Mask.{bit, unionBelow}
-use Rattle.laws.specs.Sets.{joined, setBelow, set-same, set-outside}
-use Rattle.laws.specs.Unions.{set-grown, union-grown, union-same}
+use Rattle.laws.specs.Bits.{no-bit}
+use Rattle.laws.specs.Sets.{joined, removed, setBelow, set-same, set-outside, bit-joined, bit-removed}
+use Rattle.laws.specs.Unions.{or-assoc, set-grown, union-grown, union-same}
 use Rattle.slots.specs.declared.Slot.{Slot}
 use Rattle.slots.specs.Slot.{sharedAny}
 use Rattle.slots.specs.Forms.Next.{Next}
 use Rattle.steps.specs.declared.View.{View}
-use Rattle.steps.specs.Forms.View.{viewWith}
+use Rattle.steps.specs.Forms.View.{viewWith, viewAfter, viewPassed}
 use Rattle.position.specs.declared.Position.{Position}
 use Rattle.position.specs.Position.{slot, inPool, inBlock, blockOf, isConfirmed}
 use Rattle.position.specs.Forms.View.{viewBelow}
@@ -101,14 +103,34 @@ out-member there passes k y h = clash {b = true} refl (rw (y, and-false (passes 
 out-other : (there : ℕ) (passes : ℕ → Bool) (k : ℕ) → bit there k ≡ false → outOf there passes k ≡ passes k
 out-other there passes k y = rw y (and-true (passes k))
 
+-- no confirmation and no shared signature goes from x to y
+abbrev pub Keeps : Slot → Slot → Type 0
+Keeps x y = (ltb 0 (x .height) ≡ true → ltb 0 (y .height) ≡ true) × (bitOr (sharedAny x) (sharedAny y) ≡ sharedAny y)
+
+pub keeps-same : (x : Slot) → Keeps x x
+keeps-same x = ((λ h. h), or-self (sharedAny x))
+
+pub keeps-on : (x y z : Slot) → Keeps x y → Keeps y z → Keeps x z
+keeps-on x y z a b = (
+  (λ h. b .0 (a .0 h)),
+  ap (bitOr (sharedAny x)) (sym (b .1)) ∙ sym (or-assoc (sharedAny x) (sharedAny y) (sharedAny z)) ∙ ap (λ (m : ℕ). bitOr m (sharedAny z)) (a .1) ∙ b .1,
+)
+
+-- from p to q, of the slots below n those outside a set, whose members are below n, stay as they are, and the others keep these
+pub record Moved (n : ℕ) (p q : Position) (there : ℕ) : Type 0 where
+  pub small : there < 2 ^ n
+  pub out : (k : ℕ) → k < n → bit there k ≡ false → slot q k ≡ slot p k
+  pub keeps : (k : ℕ) → k < n → Keeps (slot p k) (slot q k)
+
 -- tests of a slot that stays
 slot-same : (p q : Position) (t : ℕ) → slot q t ≡ slot p t → (inPool q t ≡ inPool p t) × (inBlock q t ≡ inBlock p t) × (isConfirmed q t ≡ isConfirmed p t)
 unfolding inPool inBlock isConfirmed blockOf
 slot-same p q t e = (rw e refl, rw e refl, ap (λ (x : Slot). ltb 0 (x .height)) e)
 
-module _ (s : List ℕ) (n there : ℕ) (p q : Position) (v : View) (few : n ≤ 32) (word : there < 4294967296) (e : v ≡ viewBelow s n p)
-    (out : (k : ℕ) → k < n → bit there k ≡ false → slot q k ≡ slot p k)
-    (more : (k : ℕ) → k < n → (isConfirmed p k ≡ true → isConfirmed q k ≡ true) × (bitOr (sharedAny (slot p k)) (sharedAny (slot q k)) ≡ sharedAny (slot q k))) where
+module _ (s : List ℕ) (n there : ℕ) (p q : Position) (v : View) (few : n ≤ 32) (e : v ≡ viewBelow s n p) (moved : Moved n p q there) where
+  word : there < 4294967296
+  word = let m : 2 ^ n ≤ 2 ^ 32 = pow-mono few in omega (arith, m, moved .small)
+
   -- the first t transactions seen in q, of the others what is kept of p
   halfway : ℕ → View
   halfway t =
@@ -137,18 +159,18 @@ module _ (s : List ℕ) (n there : ℕ) (p q : Position) (v : View) (few : n ≤
   member-joined t l o =
       let x = set-joined n (inPool q) (outOf there (inPool p)) t l (out-member there (inPool p) t o) in
       let y = set-joined n (inBlock q) (outOf there (inBlock p)) t l (out-member there (inBlock p) t o) in
-      let z = set-joined n (isConfirmed q) (isConfirmed p) t l (more t l .0) in
+      let z = set-joined n (isConfirmed q) (isConfirmed p) t l (moved .keeps t l .0) in
       let f = mixed t (λ k. sharedAny (slot q k)) (λ k. sharedAny (slot p k)) in
       let g = mixed (suc t) (λ k. sharedAny (slot q k)) (λ k. sharedAny (slot p k)) in
       let w : bitOr (unionBelow n f) (g t) ≡ unionBelow n g =
-      union-grown t n f g l (mixed-other t (λ k. sharedAny (slot q k)) (λ k. sharedAny (slot p k))) (rw (mixed-here t (λ k. sharedAny (slot q k)) (λ k. sharedAny (slot p k)), mixed-before t (λ k. sharedAny (slot q k)) (λ k. sharedAny (slot p k))) (more t l .1)) in
+      union-grown t n f g l (mixed-other t (λ k. sharedAny (slot q k)) (λ k. sharedAny (slot p k))) (rw (mixed-here t (λ k. sharedAny (slot q k)) (λ k. sharedAny (slot p k)), mixed-before t (λ k. sharedAny (slot q k)) (λ k. sharedAny (slot p k))) (moved .keeps t l .1)) in
       rw (← x, ← y, ← z, ← w, mixed-here t (λ k. sharedAny (slot q k)) (λ k. sharedAny (slot p k))) refl
 
   -- nothing changes by another
   other-passed : (t : ℕ) → t < n → bit there t ≡ false → halfway t ≡ halfway (suc t)
   unfolding halfway
   other-passed t l o =
-      let h = out t l o in
+      let h = moved .out t l o in
       let same = slot-same p q t h in
       let x = set-passed n (inPool q) (outOf there (inPool p)) t (same .0 ∙ sym (out-other there (inPool p) t o)) in
       let y = set-passed n (inBlock q) (outOf there (inBlock p)) t (same .1 ∙ sym (out-other there (inBlock p) t o)) in
@@ -173,3 +195,64 @@ module _ (s : List ℕ) (n there : ℕ) (p q : Position) (v : View) (few : n ≤
       let z = set-all n (isConfirmed q) (isConfirmed p) in
       let w : unionBelow n (mixed n (λ k. sharedAny (slot q k)) (λ k. sharedAny (slot p k))) ≡ unionBelow n (λ k. sharedAny (slot q k)) = union-same n _ _ (λ k l. rw (lt-ltb k n l) refl) in
       upto n (omega arith) ∙ rw (x, y, z, w, e) refl
+
+-- a set of one member
+power : (t k : ℕ) → t < 32 → k < 32 → bit (2 ^ t) k ≡ eqb k t
+unfolding joined
+power t k l m = bit-joined 0 true t k l m ∙ rw (no-bit k) refl
+
+pub power-here : (t : ℕ) → t < 32 → bit (2 ^ t) t ≡ true
+power-here t l = power t t l l ∙ eq-eqb t t refl
+
+module _ (n t : ℕ) (few : n ≤ 32) (l : t < n) where
+  power-other : (k : ℕ) → k < n → (k ≡ t → ⊥) → bit (2 ^ t) k ≡ false
+  power-other k m o = power t k (omega (arith, few, l)) (omega (arith, few, m)) ∙ ne-eqb k t o
+
+  up-to-it : Next (2 ^ t) 0 n t
+  up-to-it =
+      record {
+        low = omega arith;
+        high = omega (arith, l);
+        gap = λ k i j. power-other k (omega (arith, j, l)) (λ z. omega (arith, z, j));
+        here = λ i. power-here t (omega (arith, few, l));
+      }
+
+  from-it : Next (2 ^ t) (t + 1) n n
+  from-it =
+      record {
+        low = omega (arith, l);
+        high = omega arith;
+        gap = λ k i j. power-other k j (λ z. omega (arith, z, i));
+        here = λ i. absurd (omega (arith, i));
+      }
+
+  one-joined : (q : Position) (w : View) → viewWith w t (slot q t) ≡ viewJoined n (bit (2 ^ t)) q w
+  one-joined q w =
+      joined-more (2 ^ t) q w n t n w (viewWith w t (slot q t)) (slot q t) (joined-start (2 ^ t) q w n t up-to-it) (power-here t (omega (arith, few, l))) refl refl from-it
+
+  pub one-member : (p q : Position) (there : ℕ) → removed there t ≡ 0 → Moved n p q there → Moved n p q (2 ^ t)
+  one-member p q there z moved =
+      record {
+        small = pow-lt l;
+        out = λ k m h.
+            let o : eqb k t ≡ false = sym (power t k (omega (arith, few, l)) (omega (arith, few, m))) ∙ h in
+            let w : (bit there k && not (eqb k t)) ≡ false = sym (bit-removed there t k (omega (arith, few, l)) (omega (arith, few, m))) ∙ ap (λ (x : ℕ). bit x k) z ∙ no-bit k in
+            moved .out k m (sym (and-true (bit there k)) ∙ (rw o at w));
+        keeps = moved .keeps;
+      }
+
+  pub one-right : (s : List ℕ) (p q : Position) (v : View) → v ≡ viewBelow s n p → Moved n p q (2 ^ t)
+      → viewAfter v t (slot q t) (q .mined) (q .keys) ≡ viewBelow s n q
+  unfolding viewAfter viewWith viewKept removed
+  one-right s p q v e moved = one-joined q (viewKept v (2 ^ t) q) ∙ renewed-right s n (2 ^ t) p q v few e moved
+
+-- a set without members
+pub none-right : (s : List ℕ) (n : ℕ) (p q : Position) (v : View) → v ≡ viewBelow s n p → Moved n p q 0 → viewPassed v (q .mined) (q .keys) ≡ viewBelow s n q
+unfolding viewPassed viewBelow
+none-right s n p q v e moved =
+    let same : (k : ℕ) → k < n → slot q k ≡ slot p k = λ k l. moved .out k l (no-bit k) in
+    let x = set-same n (inPool p) (inPool q) (λ k l. sym (slot-same p q k (same k l) .0)) in
+    let y = set-same n (inBlock p) (inBlock q) (λ k l. sym (slot-same p q k (same k l) .1)) in
+    let z = set-same n (isConfirmed p) (isConfirmed q) (λ k l. sym (slot-same p q k (same k l) .2)) in
+    let w = union-same n (λ k. sharedAny (slot q k)) (λ k. sharedAny (slot p k)) (λ k l. ap sharedAny (sym (same k l))) in
+    rw (e, x, y, z, w) refl

@@ -26,8 +26,3 @@ view-more s n p v w x e f g = rw (f, e, g, add-one)
 
 pub view-done : (s : List ℕ) (k n : ℕ) (p : Position) (v : View) → k ≤ n → n ≤ k → v ≡ viewBelow s k p → v ≡ viewBelow s n p
 view-done s k n p v l m e = rw (le-antisymm m l) e
-
--- those of the sheet that can have a deadline, off any view
-pub view-limited : (s : List ℕ) (n : ℕ) (p : Position) (v : View) → v ≡ viewBelow s n p → v .limited ≡ limitedSet s
-unfolding viewBelow
-view-limited s n p v e = rw e

@@ -1,9 +1,8 @@
 // The position of a contract, and the answers of a step and of a journal.
 ghost use Prim.Native.Nat.{_<_};
 ghost use mathlib.Core.Path.{_≡_};
-ghost use Rattle.sheet.specs.Field.{count, Sized};
+ghost use Rattle.sheet.specs.Field.{count};
 ghost use Rattle.sheet.specs.Checked.{Checked};
-ghost use Rattle.slots.specs.Forms.Limited.{limitedSet};
 ghost use Rattle.position.specs.Forms.View.{viewBelow};
 
 mod bumped;
@@ -44,13 +43,13 @@ pub struct Ran {
 }
 
 impl Position {
-    // The view of the sheet's transactions, of which `limited` can have a deadline.
-    pub fn view_with(self, sheet: &[u8], limited: u32) -> View
-        requires { ⌜ Sized (now sheet) ⌝ }
-        requires { ⌜ limited ≡ limitedSet (now sheet) ⌝ }
+    // The view of the sheet's transactions.
+    pub fn view(self, sheet: &[u8]) -> View
+        requires { ⌜ Checked (now sheet) ⌝ }
         ensures { λ r. ⌜ r ≡ viewBelow (now (sheet .entry)) (count (now (sheet .entry))) self ⌝ }
     {
         let n = sheet::field::count(sheet);
+        let limited = limited::limited(sheet);
         let keys = self.keys;
         let mut v = View {
             pool: 0,
@@ -69,13 +68,5 @@ impl Position {
             k += 1;
         }
         v
-    }
-
-    // The view of the sheet's transactions.
-    pub fn view(self, sheet: &[u8]) -> View
-        requires { ⌜ Checked (now sheet) ⌝ }
-        ensures { λ r. ⌜ r ≡ viewBelow (now (sheet .entry)) (count (now (sheet .entry))) self ⌝ }
-    {
-        self.view_with(sheet, limited::limited(sheet))
     }
 }

@@ -8,50 +8,56 @@ ghost use mathlib.Core.Path.{_≡_};
 ghost use Rattle.laws.specs.Mask.{bit};
 ghost use Rattle.sheet.specs.Field.{count, Sized};
 ghost use Rattle.sheet.specs.Checked.{Checked};
-ghost use Rattle.slots.specs.Forms.Limited.{limitedSet};
-ghost use Rattle.position.specs.Forms.Seen.{changesMany, changedPlace, changedSet, viewKept, viewJoined, viewRenewed};
+ghost use Rattle.position.specs.Forms.Seen.{changedSet, narrowedSet, lowest, viewKept, viewJoined};
 
-// Whether a step of this kind and transaction byte may change several slots, or take an entry away: a block with entries, a bump,
-// the first shares. The view is then renewed.
-pub fn changes_many(view: View, kind: u8, t: u8) -> bool
-    ensures { λ r. ⌜ r ≡ changesMany view kind t ⌝ }
+// The slots that an accepted step of this kind and transaction byte may have changed: none by a gift and an empty block; by a block with
+// entries and a bump those of what was in the pool or in the block; by the first shares those of either party.
+pub fn changed_set(view: View, kind: u8, t: u8) -> u32
+    ensures { λ r. ⌜ r ≡ changedSet view kind t ⌝ }
 {
     if kind == 6 {
-        return view.block != 0;
+        if view.block == 0 {
+            return 0;
+        }
+        return view.pool | view.block;
     }
     if kind == 7 {
-        return true;
+        return view.pool | view.block;
     }
-    t == 255
-}
-
-// The place of the one slot that another step may change; the first for a gift and an empty block, which change none.
-pub fn changed_place(kind: u8, t: u8) -> usize
-    ensures { λ r. ⌜ (r ≡ changedPlace kind t) × (r < 32) ⌝ }
-{
     if kind == 2 {
         return 0;
     }
     if t < 32 {
-        return t as usize;
+        return 1u32 << t;
     }
-    0
+    120
 }
 
-// The slots that a step of this kind may change, a block with entries or a bump.
-fn changed_set(sheet: &[u8], view: View, kind: u8) -> u32
+// Of these, those that a mined block may have changed, or all.
+pub fn narrowed(sheet: &[u8], view: View, kind: u8, there: u32) -> u32
     requires { ⌜ Checked (now sheet) ⌝ }
-    ensures { λ r. ⌜ r ≡ changedSet (now (sheet .entry)) view kind ⌝ }
+    ensures { λ r. ⌜ r ≡ narrowedSet (now (sheet .entry)) view kind there ⌝ }
 {
     if kind == 6 {
         return mined::touched(view, mined::struck(sheet, view));
     }
-    view.pool | view.block
+    there
+}
+
+// The least member of a set, 0 where it has none.
+pub fn lowest(set: u32) -> usize
+    ensures { λ r. ⌜ (r ≡ lowest set) × (r < 32) ⌝ }
+{
+    let k = u32::trailing_zeros(set) as usize;
+    if k < 32 {
+        return k;
+    }
+    0
 }
 
 impl Position {
     // What a view keeps over a step to this position, with the members of a set outside which no slot changed.
-    fn view_over(self, sheet: &[u8], view: View, there: u32) -> View
+    pub fn view_over(self, sheet: &[u8], view: View, there: u32) -> View
         requires { ⌜ Sized (now sheet) ⌝ }
         ensures { λ r. ⌜ r ≡ viewJoined (count (now (sheet .entry))) (bit there) self (viewKept view there self) ⌝ }
     {
@@ -74,17 +80,5 @@ impl Position {
             k = next::next(there, k + 1, n);
         }
         v
-    }
-
-    // The view after a step of this kind to this position that may have changed several slots.
-    pub fn view_renewed(self, sheet: &[u8], view: View, kind: u8) -> View
-        requires { ⌜ Checked (now sheet) ⌝ }
-        requires { ⌜ view .limited ≡ limitedSet (now sheet) ⌝ }
-        ensures { λ r. ⌜ r ≡ viewRenewed (now (sheet .entry)) view kind self ⌝ }
-    {
-        if kind == 1 {
-            return self.view_with(sheet, view.limited);
-        }
-        self.view_over(sheet, view, changed_set(sheet, view, kind))
     }
 }

@@ -76,14 +76,20 @@ fn run_seen(from: Position, sheet: &[u8], setup: &[u8], seen: View, journal: &[u
         let kind = journal[4 * k];
         let t = journal[4 * k + 2];
         k += 1;
-        if seen::changes_many(view, kind, t) {
-            let renewed = position.view_renewed(sheet, view, kind);
-            view = renewed;
+        let there = seen::changed_set(view, kind, t);
+        let keys = position.keys;
+        if there == 0 {
+            let passed = view.passed(position.mined, keys);
+            view = passed;
             continue;
         }
-        let at = seen::changed_place(kind, t);
+        let at = seen::lowest(there);
+        if sheet::set::remove(there, at) != 0 {
+            let over = position.view_over(sheet, view, seen::narrowed(sheet, view, kind, there));
+            view = over;
+            continue;
+        }
         let x = position.slots[at];
-        let keys = position.keys;
         let after = view.after(at, x, position.mined, keys);
         view = after;
     }

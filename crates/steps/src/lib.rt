@@ -1,7 +1,7 @@
 // The steps as bytes, and what each kind of step reads and changes: over the sheet, a view of the position and single slots.
 ghost use Prim.Native.Nat.{_<_};
 ghost use mathlib.Core.Path.{_≡_};
-ghost use Rattle.steps.specs.Forms.View.{viewWith, viewAfter};
+ghost use Rattle.steps.specs.Forms.View.{viewWith, viewAfter, viewPassed};
 
 pub mod bumped;
 pub mod conduct;
@@ -71,19 +71,35 @@ impl View {
         }
     }
 
-    // The view after a step that changed no other slot than k's, which is x then, nor took an entry away.
+    // The view after a step that changed no other slot than k's, which is x then.
     pub fn after(self, k: usize, x: Slot, mined: u16, keys: [u8; 6]) -> View
         requires { ⌜ k < 32 ⌝ }
         ensures { λ r. ⌜ r ≡ viewAfter self k x mined keys ⌝ }
     {
-        let w = self.add(k, x);
+        let pool = sheet::set::remove(self.pool, k);
+        let block = sheet::set::remove(self.block, k);
         View {
-            pool: w.pool,
-            block: w.block,
-            confirmed: w.confirmed,
-            limited: w.limited,
+            pool: sheet::set::join(pool, 0 < x.pool, k),
+            block: sheet::set::join(block, 0 < x.block, k),
+            confirmed: sheet::set::join(self.confirmed, 0 < x.height, k),
+            limited: self.limited,
             mined,
-            shared: w.shared,
+            shared: self.shared | x.shared_any(),
+            keys,
+        }
+    }
+
+    // The view after a step that changed no slot.
+    pub fn passed(self, mined: u16, keys: [u8; 6]) -> View
+        ensures { λ r. ⌜ r ≡ viewPassed self mined keys ⌝ }
+    {
+        View {
+            pool: self.pool,
+            block: self.block,
+            confirmed: self.confirmed,
+            limited: self.limited,
+            mined,
+            shared: self.shared,
             keys,
         }
     }

@@ -1,32 +1,34 @@
--- The view of a position carried from step to step: which steps it can be carried over.
+-- The view of a position carried from step to step, over the slots that a step may have changed.
 -- Assumes nothing.
-use Prim.Native.Nat.{ℕ, zero, suc, _-_}
-use mathlib.Core.Bool.{Bool, not, _||_}
+use Prim.Native.Nat.{ℕ, zero, suc, _-_, _^_}
+use mathlib.Core.Bool.{Bool}
 use mathlib.Core.List.{List}
 use lib.Bits.{bitAnd, bitOr}
+use lib.Count.{trailingZeros}
 use lib.Dec.{eqb, ltb}
 use Rattle.laws.specs.Booleans.{pick}
-use Rattle.laws.specs.Mask.{bit}
-use Rattle.sheet.specs.Field.{count}
 use Rattle.steps.specs.declared.View.{View}
 use Rattle.steps.specs.Forms.View.{viewWith}
 use Rattle.steps.specs.Forms.Blocks.{struckIn, touchedIn}
 use Rattle.position.specs.declared.Position.{Position}
 use Rattle.position.specs.Position.{slot}
-use Rattle.position.specs.Forms.View.{viewBelow}
-use Rattle.steps.specs.Decode.{noTransaction}
 
--- a step of this kind and transaction byte may change several slots, or take an entry away: the first shares, a block with entries, a bump
-unfoldable pub changesMany : View → ℕ → ℕ → Bool
-changesMany v kind t = pick (eqb kind 6) (not (eqb (v .block) 0)) (eqb kind 7 || eqb t noTransaction)
+-- the slots that an accepted step of this kind and transaction byte may have changed: none by a gift and an empty block; by a block with
+-- entries and a bump those of what was in the pool or in the block; by the first shares those of either party
+unfoldable pub changedSet : View → ℕ → ℕ → ℕ
+changedSet v kind t =
+    pick (eqb kind 6) (pick (eqb (v .block) 0) 0 (bitOr (v .pool) (v .block)))
+    (pick (eqb kind 7) (bitOr (v .pool) (v .block))
+    (pick (eqb kind 2) 0
+    (pick (ltb t 32) (2 ^ t) 120)))
 
--- the place of the one slot that another step may change; the first for a gift and an empty block, which change none
-unfoldable pub changedPlace : ℕ → ℕ → ℕ
-changedPlace kind t = pick (eqb kind 2) 0 (pick (ltb t 32) t 0)
+-- of these, those that a mined block may have changed, or all
+unfoldable pub narrowedSet : List ℕ → View → ℕ → ℕ → ℕ
+narrowedSet s v kind there = pick (eqb kind 6) (touchedIn v (struckIn s v)) there
 
--- the slots that a step of this kind may change: a block with entries, or a bump, which moves what was in the pool or in the block
-unfoldable pub changedSet : List ℕ → View → ℕ → ℕ
-changedSet s v kind = pick (eqb kind 6) (touchedIn v (struckIn s v)) (bitOr (v .pool) (v .block))
+-- the least member of a set, 0 where it has none
+unfoldable pub lowest : ℕ → ℕ
+lowest m = pick (ltb (trailingZeros 32 m) 32) (trailingZeros 32 m) 0
 
 -- what a view keeps over a step to q that moves entries of a set: the entries outside it, and the blocks mined and keys held then
 unfoldable pub viewKept : View → ℕ → Position → View
@@ -45,8 +47,3 @@ viewKept v there q =
 unfoldable pub viewJoined : ℕ → (ℕ → Bool) → Position → View → View
 viewJoined zero member q v = v
 viewJoined (suc n) member q v = pick (member n) (viewWith (viewJoined n member q v) n (slot q n)) (viewJoined n member q v)
-
--- after a step to q that may change several slots: the first shares, made anew; else those looked at that may have changed
-unfoldable pub viewRenewed : List ℕ → View → ℕ → Position → View
-viewRenewed s v kind q =
-    pick (eqb kind 1) (viewBelow s (count s) q) (viewJoined (count s) (bit (changedSet s v kind)) q (viewKept v (changedSet s v kind) q))

@@ -5,7 +5,7 @@ use mathlib.Core.List.{List}
 use lib.Bits.{bitAnd, bitOr}
 use lib.Dec.{ltb}
 use lib.ListN.{getD}
-use Rattle.laws.specs.Sets.{joined}
+use Rattle.laws.specs.Sets.{joined, removed}
 use Rattle.sheet.specs.Field.{secrets}
 use Rattle.slots.specs.declared.Slot.{Slot}
 use Rattle.slots.specs.Slot.{standing, sharedFor, sharedAny}
@@ -25,16 +25,29 @@ viewWith v k x =
       keys = v .keys;
     }
 
--- after a step that changed no other slot than k's, which is x then, nor took an entry away: with the blocks mined and the keys held then
+-- after a step that changed no other slot than k's, which is x then: with the blocks mined and the keys held then
 unfoldable pub viewAfter : View → ℕ → Slot → ℕ → List ℕ → View
 viewAfter v k x mined keys =
     record {
-      pool = joined (v .pool) (standing (x .pool)) k;
-      block = joined (v .block) (standing (x .block)) k;
+      pool = joined (removed (v .pool) k) (standing (x .pool)) k;
+      block = joined (removed (v .block) k) (standing (x .block)) k;
       confirmed = joined (v .confirmed) (ltb 0 (x .height)) k;
       limited = v .limited;
       mined = mined;
       shared = bitOr (v .shared) (sharedAny x);
+      keys = keys;
+    }
+
+-- after a step that changed no slot
+unfoldable pub viewPassed : View → ℕ → List ℕ → View
+viewPassed v mined keys =
+    record {
+      pool = v .pool;
+      block = v .block;
+      confirmed = v .confirmed;
+      limited = v .limited;
+      mined = mined;
+      shared = v .shared;
       keys = keys;
     }
 

@@ -1,7 +1,6 @@
 -- Refused, with position and counts as they were; or taken, and the counts noted.
 use Rattle.dated.proofs.Stepping.{refused-answer, taken-answer, seen-right}
 use Rattle.position.specs.Forms.Journal.{stepAt}
-use Rattle.position.proofs.Views.{view-limited}
 use mathlib.Core.Path.{_∙_}
 use borrow.Author.Needs.{needs}
 use Rattle.dated.proofs.Dated.step.Statement.{statement}
@@ -26,9 +25,7 @@ shared-slice-read-seen-after-2 : tie.Need-shared-slice-read-seen-after-2
 shared-slice-read-seen-after-2 c = search needs
 
 seen-after-requires : tie.Need-seen-after-requires
-seen-after-requires c κs =
-    let k = c .before .before .before .before .before .before .before .before .before .before in
-    (k .pre .0 .checked, view-limited _ _ _ _ (k .pre .1 .0))
+seen-after-requires c κs = c .before .before .before .before .before .before .before .before .before .before .pre .0 .checked
 
 noted-requires : tie.Need-noted-requires
 unfolding stepAt

@@ -1,16 +1,63 @@
--- With those that can have a deadline.
+-- The view of the transactions below k.
+use Rattle.position.proofs.Views.{view-start, view-more, view-done}
+use Rattle.position.specs.Forms.View.{viewBelow}
+use Rattle.position.specs.Position.{slot}
+use mathlib.Core.Path.{_≡_, refl}
+use Prim.Native.Nat.{_≤_, _-_}
 use borrow.Author.Needs.{needs}
 use Rattle.position.proofs.Position.view.Statement.{statement}
 use Rattle.position.proofs.Position.view.Tie as tie
 
-limited-requires : tie.Need-limited-requires
+abbrev Inv-loop : tie.InvT-loop
+Inv-loop sheet self n limited v₀ k₀ v k = (k ≤ n) × (v ≡ viewBelow sheet k self)
+
+abbrev μ-loop : tie.MeasureT-loop
+μ-loop sheet self n limited v₀ k₀ v k = n - k
+
+count-requires : tie.Need-count-requires Inv-loop μ-loop
+count-requires c κs = search needs
+
+limited-requires : tie.Need-limited-requires Inv-loop μ-loop
 limited-requires c κs = search needs
 
-view-with-requires : tie.Need-view-with-requires
-view-with-requires c κs = search needs
+loop-holds : tie.Need-loop-holds Inv-loop μ-loop
+loop-holds c = (search needs, view-start _ _ _ (c .before .limited .ensures))
 
-returns : tie.Need-returns
-returns c = search needs
+mul-x : tie.Need-mul-x Inv-loop μ-loop
+mul-x c = search needs
+
+element-copy-out-x : tie.Need-element-copy-out-x Inv-loop μ-loop
+element-copy-out-x c = search needs
+
+add-requires : tie.Need-add-requires Inv-loop μ-loop
+add-requires c κs = search needs
+
+add-k : tie.Need-add-k Inv-loop μ-loop
+add-k c = search needs
+
+loop-less : tie.Need-loop-less Inv-loop μ-loop
+loop-less c = search needs
+
+loop-again : tie.Need-loop-again Inv-loop μ-loop
+unfolding slot
+loop-again c = (search needs, view-more _ _ _ _ _ _ (c .before .before .before .loop .inv .1) (c .add .ensures) refl)
+
+returns : tie.Need-returns Inv-loop μ-loop
+returns c = rw (← (c .before .before .before .before .count .ensures .is)) (view-done _ _ _ _ _ (c .before .loop .inv .0) (c .loop-test .left) (c .before .loop .inv .1))
 
 pub view-spec : {M : Type 1} → statement M
-view-spec = tie.close (tie.spec limited-requires view-with-requires returns)
+view-spec =
+    tie.close
+    (tie.spec
+    Inv-loop
+    μ-loop
+    count-requires
+    limited-requires
+    loop-holds
+    mul-x
+    element-copy-out-x
+    add-requires
+    add-k
+    loop-less
+    loop-again
+    returns)

@@ -1,15 +1,13 @@
 -- What is left to do from each step on is the whole, and the view is the position's.
 use Prim.Native.Nat.{_≤_, _-_}
 use native.Mathlib.Omega.{arith}
-use mathlib.Core.Path.{_≡_, sym, _∙_}
+use mathlib.Core.Path.{_≡_, refl, sym, _∙_}
 use Rattle.sheet.specs.Field.{count}
 use Rattle.position.specs.Play.{journalSteps, runFrom}
 use Rattle.position.specs.Position.{slot}
 use Rattle.position.specs.Forms.View.{viewBelow}
 use Rattle.position.specs.Forms.Journal.{stepAt}
-use Rattle.position.proofs.RenewedAfter.{renewed-after}
-use Rattle.position.proofs.SeenAfter.{seen-after}
-use Rattle.position.proofs.Views.{view-limited}
+use Rattle.position.proofs.SeenAfter.{seen-none, seen-one, seen-many}
 use Rattle.runs.proofs.Runs.{leftFrom, left-all, left-on, left-stopped, left-ended}
 use borrow.Author.Needs.{needs}
 use Rattle.runs.proofs.journal.run_seen.Statement.{statement}
@@ -55,26 +53,47 @@ shared-slice-read-t c = search needs
 add-k : tie.Need-add-k Inv-loop μ-loop
 add-k c = search needs
 
-changes-many-requires : tie.Need-changes-many-requires Inv-loop μ-loop
-changes-many-requires c κs = search needs
+changed-set-requires : tie.Need-changed-set-requires Inv-loop μ-loop
+changed-set-requires c κs = search needs
 
-view-renewed-requires : tie.Need-view-renewed-requires Inv-loop μ-loop
-view-renewed-requires c κs = let e = view-limited _ _ _ _ (c .before .before .before .before .before .before .before .before .before .loop .inv .2) in search needs
+passed-requires : tie.Need-passed-requires Inv-loop μ-loop
+passed-requires c κs = search needs
 
 loop-less : tie.Need-loop-less Inv-loop μ-loop
 loop-less c = search needs
 
 loop-again : tie.Need-loop-again Inv-loop μ-loop
 unfolding stepAt
-loop-again c = (
-  omega (arith, c .before .before .before .before .before .before .before .before .before .loop-test .taken),
-  left-on _ _ _ _ _ _ _ (c .before .before .before .before .before .before .before .before .before .before .loop .inv .1) (omega (arith, c .before .before .before .before .before .before .before .before .before .loop-test .taken)) (c .before .before .before .before .before .before .before .before .step-seen .ensures) (c .before .before .before .before .before .before .if1 .left),
-  c .view-renewed .ensures
-      ∙ renewed-after _ _ _ _ (c .before .before .before .before .before .before .before .before .before .before .before .before .before .before .pre .0) (c .before .before .before .before .before .before .before .before .before .before .loop .inv .2) _ _ (c .before .before .before .before .before .before .before .before .step-seen .ensures) (c .before .before .before .before .before .before .if1 .left) (sym (c .before .before .changes-many .ensures) ∙ c .before .if2 .taken),
-)
+loop-again c =
+    let w = c .before .before .before .before .before .before .before in (
+      omega (arith, w .before .before .before .loop-test .taken),
+      left-on _ _ _ _ _ _ _ (w .before .before .before .before .loop .inv .1) (omega (arith, w .before .before .before .loop-test .taken)) (w .before .before .step-seen .ensures) (w .if1 .left),
+      c .passed .ensures ∙ seen-none _ _ _ _ (w .before .before .before .before .before .before .before .before .pre .0) (w .before .before .before .before .loop .inv .2) _ _ (w .before .before .step-seen .ensures) (w .if1 .left) _ (c .before .before .before .changed-set .ensures) (c .before .if2 .taken),
+    )
 
-changed-place-requires : tie.Need-changed-place-requires Inv-loop μ-loop
-changed-place-requires c κs = search needs
+lowest-requires : tie.Need-lowest-requires Inv-loop μ-loop
+lowest-requires c κs = search needs
+
+remove-requires : tie.Need-remove-requires Inv-loop μ-loop
+remove-requires c κs = search needs
+
+narrowed-requires : tie.Need-narrowed-requires Inv-loop μ-loop
+narrowed-requires c κs = search needs
+
+view-over-requires : tie.Need-view-over-requires Inv-loop μ-loop
+view-over-requires c κs = search needs
+
+loop-less-2 : tie.Need-loop-less-2 Inv-loop μ-loop
+loop-less-2 c = search needs
+
+loop-again-2 : tie.Need-loop-again-2 Inv-loop μ-loop
+unfolding stepAt
+loop-again-2 c =
+    let w = c .before .before .before .before .before .before .before .before .before .before .before in (
+      omega (arith, w .before .before .before .loop-test .taken),
+      left-on _ _ _ _ _ _ _ (w .before .before .before .before .loop .inv .1) (omega (arith, w .before .before .before .loop-test .taken)) (w .before .before .step-seen .ensures) (w .if1 .left),
+      c .view-over .ensures ∙ seen-many _ _ _ _ (w .before .before .before .before .before .before .before .before .pre .0) (w .before .before .before .before .loop .inv .2) _ _ (w .before .before .step-seen .ensures) (w .if1 .left) _ (c .before .narrowed .ensures ∙ rw (c .before .before .before .before .before .before .before .changed-set .ensures) refl),
+    )
 
 mul-x : tie.Need-mul-x Inv-loop μ-loop
 mul-x c = search needs
@@ -85,16 +104,17 @@ element-copy-out-x c = search needs
 after-requires : tie.Need-after-requires Inv-loop μ-loop
 after-requires c κs = search needs
 
-loop-less-2 : tie.Need-loop-less-2 Inv-loop μ-loop
-loop-less-2 c = search needs
+loop-less-3 : tie.Need-loop-less-3 Inv-loop μ-loop
+loop-less-3 c = search needs
 
-loop-again-2 : tie.Need-loop-again-2 Inv-loop μ-loop
+loop-again-3 : tie.Need-loop-again-3 Inv-loop μ-loop
 unfolding slot stepAt
-loop-again-2 c = (
-  omega (arith, c .before .before .before .before .before .before .before .before .before .before .before .before .loop-test .taken),
-  left-on _ _ _ _ _ _ _ (c .before .before .before .before .before .before .before .before .before .before .before .before .before .loop .inv .1) (omega (arith, c .before .before .before .before .before .before .before .before .before .before .before .before .loop-test .taken)) (c .before .before .before .before .before .before .before .before .before .before .before .step-seen .ensures) (c .before .before .before .before .before .before .before .before .before .if1 .left),
-  rw (c .after .ensures, c .before .before .before .changed-place .ensures .0) (seen-after _ _ _ _ (c .before .before .before .before .before .before .before .before .before .before .before .before .before .before .before .before .before .pre .0) (c .before .before .before .before .before .before .before .before .before .before .before .before .before .loop .inv .2) _ _ (c .before .before .before .before .before .before .before .before .before .before .before .step-seen .ensures) (c .before .before .before .before .before .before .before .before .before .if1 .left) (sym (c .before .before .before .before .before .changes-many .ensures) ∙ c .before .before .before .before .if2 .left)),
-)
+loop-again-3 c =
+    let w = c .before .before .before .before .before .before .before .before .before .before .before in (
+      omega (arith, w .before .before .before .loop-test .taken),
+      left-on _ _ _ _ _ _ _ (w .before .before .before .before .loop .inv .1) (omega (arith, w .before .before .before .loop-test .taken)) (w .before .before .step-seen .ensures) (w .if1 .left),
+      c .after .ensures ∙ seen-one _ _ _ _ (w .before .before .before .before .before .before .before .before .pre .0) (w .before .before .before .before .loop .inv .2) _ _ (w .before .before .step-seen .ensures) (w .if1 .left) _ (c .before .before .before .before .before .before .before .changed-set .ensures) _ (c .before .before .before .before .lowest .ensures .0) (sym (c .before .before .before .remove .ensures) ∙ c .before .before .if3 .left),
+    )
 
 ran-to-requires-2 : tie.Need-ran-to-requires-2 Inv-loop μ-loop
 ran-to-requires-2 c κs = search needs
@@ -119,15 +139,20 @@ run-seen-spec =
     add-t
     shared-slice-read-t
     add-k
-    changes-many-requires
-    view-renewed-requires
+    changed-set-requires
+    passed-requires
     loop-less
     loop-again
-    changed-place-requires
+    lowest-requires
+    remove-requires
+    narrowed-requires
+    view-over-requires
+    loop-less-2
+    loop-again-2
     mul-x
     element-copy-out-x
     after-requires
-    loop-less-2
-    loop-again-2
+    loop-less-3
+    loop-again-3
     ran-to-requires-2
     returns-2)
