@@ -3,11 +3,13 @@
 use crate::calls::{Call, Inputs, ENGINE, MODEL};
 use crate::engine;
 use crate::model::sheet::Head;
-use crate::model::{asks, block_list, calls, desk, ending, outage, page, report, timelocks};
+use crate::model::{
+    asks, block_list, calls, desk, ending, outage, page, report, shrink, timelocks,
+};
 use crate::random::Case;
 
 /// More bytes than any call writes.
-const AMPLE: usize = 3_000;
+const AMPLE: usize = 4_096;
 
 /// A call beside sheet, setup and journal. The desk takes its bundle in the place of setup and journal; commit takes
 /// its journal from the buffer that it is lent.
@@ -39,6 +41,7 @@ pub enum Request {
         count: u32,
         size: u32,
     },
+    Shrink,
 }
 
 /// All calls of one version: the number that C gets, and what is left in the buffer.
@@ -63,6 +66,7 @@ pub fn by_library(request: &Request, inputs: &Inputs, output: &mut [u8]) -> u32 
         Request::Commit { step, count, size } => {
             engine::commit(sheet, setup, step, *count, output, *size)
         }
+        Request::Shrink => engine::shrink(sheet, setup, journal, output),
     }
 }
 
@@ -87,6 +91,7 @@ pub fn by_model(request: &Request, inputs: &Inputs, output: &mut [u8]) -> u32 {
         Request::Commit { step, count, size } => {
             asks::commit_number(sheet, setup, step, *count, output, *size)
         }
+        Request::Shrink => shrink::number(sheet, setup, journal, output),
     }
 }
 
@@ -106,6 +111,7 @@ impl Request {
             Request::Earliest { .. } => "earliest",
             Request::Ask { .. } => "ask",
             Request::Commit { .. } => "commit",
+            Request::Shrink => "shrink",
         }
     }
 
@@ -124,7 +130,9 @@ impl Request {
         let n = usize::from(Head::of(&case.0).count);
         match (self, answer >> 16) {
             (_, 1..) => 16,
-            (Request::Four(Call::List) | Request::Earliest { .. }, _) => 4 * answer as usize,
+            (Request::Four(Call::List) | Request::Earliest { .. } | Request::Shrink, _) => {
+                4 * answer as usize
+            }
             (Request::Four(Call::Report), _) => report::ROW * n,
             (Request::Page, _) => page::LINE * (n + 1),
             (Request::Outage { .. }, _) => outage::ROW * n,

@@ -278,7 +278,7 @@ impl Names {
                 renamed = lines.collect::<String>().into_bytes();
             }
             Request::Earliest { .. } => renamed = self.rows(bytes, &[1]),
-            Request::Commit { .. } => renamed = self.steps(bytes),
+            Request::Commit { .. } | Request::Shrink => renamed = self.steps(bytes),
             _ => {}
         }
         renamed

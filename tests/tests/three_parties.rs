@@ -164,6 +164,7 @@ fn setup_in_every_call(version: Version, sheet: &[u8], setup: &[u8; 4], number: 
         ),
         (Request::Ask { step: step.clone() }, 24),
         (Request::Commit { step, count, size }, 24),
+        (Request::Shrink, 24),
     ];
     for (request, later) in requests {
         let expected = if number == 0 { later } else { number };
@@ -491,15 +492,15 @@ fn damage(random: &mut Random, turn: usize, (sheet, setup, journal): &mut Case) 
     }
 }
 
-#[test]
-fn every_further_call() {
-    let mut random = Random::new(107);
+/// All thirteen calls on cases by this maker, damaged in part: the same answers, and every refusal of each call met.
+fn every_call(seed: u64, make: impl Fn(&mut Random) -> Case, three: bool) {
+    let mut random = Random::new(seed);
     let mut answers = Answers::new();
     for turn in 0..3_000 {
-        let mut case = random::ring_front(&mut random, STEPS);
+        let mut case = make(&mut random);
         let (sheet, setup) = random::read(&case.0, &case.1);
         damage(&mut random, turn, &mut case);
-        for request in random::further(&mut random, &sheet, &setup, &case) {
+        for request in random::every(&mut random, &sheet, &setup, &case) {
             compare_buffers(&mut answers, &mut random, &request, &case);
         }
     }
@@ -508,7 +509,16 @@ fn every_further_call() {
         let met: Vec<_> = met.into_iter().filter(|&(_, count)| count > 0).collect();
         println!("{call}: {met:?}");
     }
-    let own: [(&str, &[usize]); 8] = [
+    assert_every_refusal(&answers, three);
+}
+
+/// The refusals of each call's own, beside the sheet's and the setup's; 32 is of sheets of three alone.
+fn assert_every_refusal(answers: &Answers, three: bool) {
+    let own: [(&str, &[usize]); 13] = [
+        ("check", &[]),
+        ("run", &[11, 13, 14, 15, 16, 17, 24]),
+        ("list", &[11, 13, 14, 15, 16, 17, 24, 25]),
+        ("report", &[11, 13, 14, 15, 16, 17, 24, 25]),
         ("page", &[24, 25]),
         ("outage", &[24, 25]),
         ("timelocks", &[25, 26, 27]),
@@ -517,12 +527,37 @@ fn every_further_call() {
         ("earliest", &[25, 33, 34]),
         ("ask", &[11, 13, 14, 15, 16, 17, 24]),
         ("commit", &[11, 13, 14, 15, 16, 17, 24, 25, 35]),
+        ("shrink", &[24, 25, 37]),
     ];
+    assert_eq!(answers.len(), own.len());
     for (call, numbers) in own {
-        let setups = if call == "desk" { 0..0 } else { 9..11 };
-        let all = (0..9).chain(setups).chain(numbers.iter().copied());
-        for number in all.chain((call != "desk").then_some(32)) {
+        let with_setup = !["check", "desk"].contains(&call);
+        let setups: &[usize] = match (with_setup, three) {
+            (false, _) => &[],
+            (true, false) => &[9, 10],
+            (true, true) => &[9, 10, 32],
+        };
+        for &number in (0..9)
+            .collect::<Vec<_>>()
+            .iter()
+            .chain(setups)
+            .chain(numbers)
+        {
             assert!(answers[call][number] > 0, "{call} {number}");
         }
     }
+}
+
+#[test]
+fn every_call_of_three() {
+    every_call(107, |random| random::ring_front(random, STEPS), true);
+}
+
+#[test]
+fn every_call_of_two() {
+    let make = |random: &mut Random| {
+        let game = random::game(random);
+        random::front(random, game, STEPS)
+    };
+    every_call(111, make, false);
 }

@@ -3,6 +3,7 @@
 use super::{
     by_refusal, damage, damage_bytes, groups, manner, near_step, ring_game, Case, Random, MINE,
 };
+use crate::calls::Call;
 use crate::model::ledger::Entry;
 use crate::model::setup::Setup;
 use crate::model::sheet::Sheet;
@@ -177,12 +178,27 @@ pub fn further(random: &mut Random, sheet: &Sheet, setup: &Setup, case: &Case) -
         Request::Earliest { mask, dests },
         Request::Ask { step: step.clone() },
         Request::Commit { step, count, size },
+        Request::Shrink,
     ]
+}
+
+/// One request of each of the thirteen calls.
+pub fn every(random: &mut Random, sheet: &Sheet, setup: &Setup, case: &Case) -> Vec<Request> {
+    let mut requests = [Call::Check, Call::Run, Call::List, Call::Report]
+        .map(Request::Four)
+        .to_vec();
+    requests.extend(further(random, sheet, setup, case));
+    requests
 }
 
 /// A sheet of three with its setup and, mostly, a journal that is accepted whole.
 pub fn ring_front(random: &mut Random, most: usize) -> Case {
-    let (sheet, setup) = ring_game(random);
+    let game = ring_game(random);
+    front(random, game, most)
+}
+
+/// A game with, mostly, a journal that is accepted whole.
+pub fn front(random: &mut Random, (sheet, setup): (Vec<u8>, Vec<u8>), most: usize) -> Case {
     let manner = manner(random, most);
     let mut journal = super::journal(random, &sheet, &setup, manner);
     if random.percent(80) {
