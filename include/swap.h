@@ -284,8 +284,8 @@ uint32_t swap_report(const uint8_t *sheet, size_t sheet_length,
  *   byte 0        verdict, a sum of SWAP_OUTAGE_..; PASSED alone: no hand-in is left to lose (stealth 0); PASSED with
  *                 COVERED: a hand-in may still save it (stealth 1), so any outage risks it
  *   byte 1        payees of the transaction and of all below it, or-ed: 1 Alice, 2 Bob, 4 Carol
- *   bytes 2 to 5  soonest block: the first that can confirm it, or the one that did; never for a dead one
- *   bytes 6 to 9  soonest deadline: no rival that is locked later can be confirmed in this block or before
+ *   bytes 2 to 5  soonest block: it is confirmed no sooner than in this one, or was in this one; never for a dead one
+ *   bytes 6 to 9  soonest deadline: no rival that is locked later is confirmed in this block or before (a lower bound)
  *
  * A height of 2,147,483,647 is "never". The output takes up 10n bytes, 320 (SWAP_OUTAGE_SIZE) at most. Refusal 25 says
  * that the buffer is shorter than that. Bytes after the output keep their values, and under a refusal all bytes do.
@@ -411,7 +411,7 @@ uint32_t swap_commit(const uint8_t *sheet, size_t sheet_length,
  * of the others that is lost. Of such parts it is the one that is left when the steps are gone through from the first,
  * each that can go is dropped, and this is repeated until a full round drops none.
  *
- * Refusals 1 to 10; 24; 36 where the journal has over 1,024 steps; 37 where no step of it is refused; 25. The count is the
+ * Refusals 1 to 10 and 32; 24; 36 where the journal has over 1,024 steps; 37 where no step of it is refused; 25. The count is the
  * number of steps written, 1 at least, and 0 under a refusal. The output takes up 4 * count bytes, 4,096 (SWAP_SHRINK_SIZE)
  * at most. Refusal 25, the last, says that the buffer is shorter than that. Bytes after the output keep their values, and
  * under a refusal all bytes do.

@@ -28,7 +28,7 @@ fn journal_right(journal: &[u8]) -> bool
     journal.len() <= 65536
 }
 
-// The checks before any step, on a sheet that passed its own: 9, 10 and 24.
+// The checks before any step, on a sheet that passed its own: 9, 32, 10 and 24.
 pub fn call_refusal(sheet: &[u8], setup: &[u8], journal: &[u8]) -> u32
     requires { ⌜ sheetRefusal (now sheet) ≡ accepted ⌝ }
     ensures { λ r. ⌜ r ≡ firstFailing (callTests (now (sheet .entry)) (now (setup .entry)) (now (journal .entry))) ⌝ }
