@@ -2,16 +2,12 @@
 
 #include <stdio.h>
 
+#include "../common/output.h"
 #include "saswap.h"
 
 void print_name(const char *name, size_t width)
 {
-    size_t length = 0;
-
-    for (; name[length] != '\0'; length++) {
-        putchar((unsigned char)name[length] < ' ' || name[length] == 127 ? '?' : name[length]);
-    }
-    for (; length < width; length++) {
+    for (size_t length = print_visible(stdout, name); length < width; length++) {
         putchar(' ');
     }
 }

@@ -9,7 +9,7 @@ struct label {
     char text[32];
 };
 
-/* A folder's name, with control characters as question marks, so that each line is the calendar's own. */
+/* A folder's name as `print_visible` has it, and blanks up to so many characters. */
 void print_name(const char *name, size_t width);
 
 /* A height of the real chain, which stood at BASE before block 1; 0 for no block and no lock. Then as text, with

@@ -173,7 +173,7 @@ impl Reader<'_> {
             match next {
                 '"' => return Ok(text),
                 '\\' => text.push(self.escaped()?),
-                next if next < ' ' => return Err(self.wrong("a control character")),
+                next if next.is_control() => return Err(self.wrong("a control character")),
                 next => text.push(next),
             }
         }

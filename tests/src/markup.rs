@@ -121,7 +121,7 @@ impl Reader<'_> {
             plain.push(*character);
             plain += rest;
         }
-        match plain.chars().any(|c| c < ' ' && c != '\n') {
+        match plain.chars().any(|c| c.is_control() && c != '\n') {
             true => Err(self.wrong("a control character")),
             false => Ok(plain),
         }

@@ -250,12 +250,16 @@ fn random_swaps_as_by_the_model() {
 }
 
 /// Names of folders, and their text.
-const NAMES: [(&[u8], &str); 9] = [
+const NAMES: [(&[u8], &str); 10] = [
     (b"\"'", "\"'"),
     (b"&amp;", "&amp;"),
     (b"<b>bold<!--", "<b>bold<!--"),
     (b"<script>alert(1)", "<script>alert(1)"),
     (b"back\\slash\\u0041", "back\\slash\\u0041"),
+    (
+        b"delete\x7fcsi\xc2\x9bend\xc2\x80\xc2\x9f\xc2\xa0",
+        "delete\u{7f}csi\u{9b}end\u{80}\u{9f}\u{a0}",
+    ),
     (b"tab\tline\nend", "tab\tline\nend"),
     (
         "\u{202e}\u{20ac}\u{1f512}".as_bytes(),
@@ -268,7 +272,22 @@ const NAMES: [(&[u8], &str); 9] = [
     (b"\xff<", "\u{fffd}<"),
 ];
 
-/// Names that are markup, quotes, control characters, and no UTF-8.
+/// The swaps with question marks in their names.
+fn renamed(swaps: &[(String, Files)], hidden: fn(char) -> bool) -> Vec<(String, Files)> {
+    let swaps = swaps.iter().cloned();
+    swaps
+        .map(|(name, files)| (name.replace(hidden, "?"), files))
+        .collect()
+}
+
+/// A text without control characters but line ends.
+fn visible(bytes: Vec<u8>) -> String {
+    let text = String::from_utf8(bytes).expect("UTF-8");
+    assert!(!text.contains(|c: char| c.is_control() && c != '\n'));
+    text
+}
+
+/// Names that are markup, quotes, control characters, and no UTF-8: on the screen, in JSON and on the page.
 #[test]
 fn names_are_text() {
     let sound = samples::in_folder("swaps/standing").remove(0).1;
@@ -281,9 +300,7 @@ fn names_are_text() {
         }
         let swap = |(_, name): &(&[u8], &str)| (name.to_string(), files.clone());
         let swaps: Vec<(String, Files)> = NAMES.iter().map(swap).collect();
-        let shown =
-            |(name, files): &(String, Files)| (name.replace(['\t', '\n'], "?"), files.clone());
-        let shown: Vec<(String, Files)> = swaps.iter().map(shown).collect();
+        let shown = renamed(&swaps, char::is_control);
         let file = folder.with_extension("html");
         let arguments = [
             OsStr::new("--json"),
@@ -292,14 +309,18 @@ fn names_are_text() {
             folder.as_ref(),
         ];
         let output = run(&top(), &arguments);
-        let read = json::read(&String::from_utf8(output.stdout).expect("UTF-8")).expect("JSON");
+        let read = json::read(&visible(output.stdout)).expect("JSON");
         let expected = data::json(&swaps, &Question::default());
         assert_eq!(read, expected);
-        let read = markup::read(&fs::read_to_string(&file).expect("UTF-8")).expect("a page");
+        let page = fs::read(&file).expect("a page");
+        let read = markup::read(&visible(page)).expect("a page");
         assert!(read.named("title")[0].text().ends_with("pages <names>&"));
         page::check_self_contained(&read);
         page::check_overview(&read, &shown, &expected, &Question::default());
         page::check_sections(&read, &swaps, &expected, &Question::default());
+        let screen = visible(run(&top(), &[&folder]).stdout);
+        let printed = renamed(&swaps, |c| c.is_control() || c == '\u{fffd}');
+        assert_eq!(screen, calendar::text(&printed, &Question::default()).0);
     }
 }
 

@@ -139,7 +139,7 @@ fn is_settled(transaction: &Value) -> bool {
 }
 
 fn check_section(section: &Element, swap: &Value, files: &Files, question: &Question) {
-    let name = swap.get("name").as_text().replace(|c: char| c < ' ', "?");
+    let name = swap.get("name").as_text().replace(char::is_control, "?");
     assert_eq!(section.named("bdi")[0].text(), name);
     assert_eq!(with_class(section, "p", "facts")[0].text(), facts(swap));
     let transactions = swap.get("transactions").list();
