@@ -73,9 +73,14 @@ link() {
     fi
 }
 
-# Prints a program's help out of its source, where nothing is built yet.
+# Prints a program's help out of its source, where nothing is built yet; ends the script where it does not get out.
 help_of() { # FILE
-    sed -nE '/^(static )?const char .*(usage|help|manual)\[\] =/,/;$/s/^[^"]*"(.*)\\n"[,;]?$/\1/p' "$top/$1"
+    local text
+    text=$(sed -nE '/^(static )?const char .*(usage|help|manual)\[\] =/,/;$/s/^[^"]*"(.*)\\n"[,;]?$/\1/p' "$top/$1") || exit 1
+    if ! printf '%s\n' "$text" 2>/dev/null; then
+        echo "${0##*/}: output: cannot be written" >&2
+        exit 1
+    fi
 }
 
 # Whether help is asked for.

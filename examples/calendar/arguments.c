@@ -3,6 +3,8 @@
 #include <stdio.h>
 #include <string.h>
 
+#include "../common/output.h"
+
 const char usage[] = "usage: calendar [--full | --json] [--html FILE] [--blocks N | --days D]\n"
                      "                [--from BLOCK] [--margin N] [--side SIDE] [--base HEIGHT]\n"
                      "                [FOLDER]\n";
@@ -72,7 +74,13 @@ uint8_t side_named(const char *name)
 /* Says what is wrong with an argument, and with its value where there is one. */
 static bool wrong(const char *argument, const char *value, const char *reason)
 {
-    fprintf(stderr, "calendar: %s%s%s: %s\n", argument, value == NULL ? "" : " ", value == NULL ? "" : value, reason);
+    fputs("calendar: ", stderr);
+    print_visible(stderr, argument);
+    if (value != NULL) {
+        fputc(' ', stderr);
+        print_visible(stderr, value);
+    }
+    fprintf(stderr, ": %s\n", reason);
     return false;
 }
 

@@ -9,6 +9,7 @@
 #include <stdlib.h>
 #include <string.h>
 
+#include "../common/output.h"
 #include "json.h"
 #include "page.h"
 #include "screen.h"
@@ -21,14 +22,8 @@ enum { NO_WARNING = 0, FAULT = 1, BAD_USAGE = 2, WARNINGS = 3 };
 /* Prints why nothing is shown: the exit status. */
 static int fault(const char *of, const char *reason)
 {
-    fprintf(stderr, "calendar: %s: %s\n", of, reason);
+    complain("calendar", of, "", reason);
     return FAULT;
-}
-
-/* The exit status where all that is printed gets out. */
-static int printed(int status)
-{
-    return fflush(stdout) != 0 || ferror(stdout) ? fault("output", strerror(errno)) : status;
 }
 
 /* Writes the page to its file: NULL, or the reason why that cannot be. */
@@ -81,9 +76,9 @@ static int show(const struct question *question, const struct desk *desk, const 
         return fault("memory", strerror(errno));
     }
     if (totals.refused > 0) {
-        return printed(FAULT);
+        return FAULT;
     }
-    return printed(totals.warnings > 0 ? WARNINGS : NO_WARNING);
+    return totals.warnings > 0 ? WARNINGS : NO_WARNING;
 }
 
 /* Answers a question: the exit status. */
@@ -119,7 +114,8 @@ static int answer_with_page(const struct question *question)
     return status;
 }
 
-int main(int argc, char **argv)
+/* Does what is asked: the exit status. */
+static int act(int argc, char **argv)
 {
     struct question question = {0};
 
@@ -129,7 +125,13 @@ int main(int argc, char **argv)
     }
     if (question.help) {
         printf("%s%s", usage, help);
-        return printed(NO_WARNING);
+        return NO_WARNING;
     }
     return question.html == NULL ? answer(&question, NULL) : answer_with_page(&question);
+}
+
+int main(int argc, char **argv)
+{
+    open_standard();
+    return printed("calendar", act(argc, argv), NULL);
 }
