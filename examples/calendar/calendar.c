@@ -14,7 +14,7 @@
 #include "page.h"
 #include "screen.h"
 #include "show.h"
-#include "whole.h"
+#include "target.h"
 
 /* The exit status. */
 enum { NO_WARNING = 0, FAULT = 1, BAD_USAGE = 2, WARNINGS = 3 };

@@ -49,10 +49,7 @@ static bool add_folder(struct desk *desk, const char *name, const char *folder)
     if (entry == NULL) {
         return false;
     }
-    entry->fault = read_swap(folder, &entry->swap);
-    if (entry->fault.file == NULL) {
-        entry->fault = read_side(folder, &entry->swap, &entry->sides);
-    }
+    entry->fault = read_swap(folder, &entry->swap, &entry->sides);
     return true;
 }
 

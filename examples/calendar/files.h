@@ -28,11 +28,11 @@ struct fault {
 /* Whether the folder holds sheet.bin, setup.bin or journal.bin. */
 bool is_swap(const char *folder);
 
-/* Reads the swap of a folder. Only plain files are read: none is waited for. */
-struct fault read_swap(const char *folder, struct swap *swap);
+/* Reads the swap of an open folder. Only plain files are read: none is waited for. */
+struct fault read_files(int folder, struct swap *swap);
 
-/* Reads the file `side` of a folder with this swap: the mask of the party that it names, 0 where there is no such
+/* The same of a folder's path, and of its file `side`: the mask of the party that it names, 0 where there is no such
  * file. */
-struct fault read_side(const char *folder, const struct swap *swap, uint8_t *sides);
+struct fault read_swap(const char *path, struct swap *swap, uint8_t *sides);
 
 #endif

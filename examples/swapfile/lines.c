@@ -6,55 +6,24 @@
 #include <fcntl.h>
 #include <stdarg.h>
 #include <stdio.h>
+#include <stdlib.h>
 #include <string.h>
 #include <strings.h>
-#include <sys/stat.h>
-#include <unistd.h>
 
-static bool unreadable(const char *file, const char *reason)
-{
-    fprintf(stderr, "swapfile: %s: %s\n", file, reason);
-    return false;
-}
-
-/* Reads until the end, or until the text is too long. */
-static bool read_all(int descriptor, char *text, size_t *length)
-{
-    *length = 0;
-    while (*length <= TEXT_MOST) {
-        ssize_t more = read(descriptor, text + *length, TEXT_MOST + 1 - *length);
-
-        if (more == 0) {
-            return true;
-        }
-        if (more > 0) {
-            *length += (size_t)more;
-        } else if (errno != EINTR) {
-            return false;
-        }
-    }
-    errno = EFBIG;
-    return false;
-}
+#include "../common/output.h"
+#include "../common/whole.h"
 
 bool read_text(const char *file, char *text, size_t *length)
 {
-    int descriptor = open(file, O_RDONLY | O_NONBLOCK | O_CLOEXEC);
-    struct stat status;
-    bool sound = true;
+    const char *reason = read_plain(AT_FDCWD, file, text, TEXT_MOST + 1, length);
 
-    if (descriptor < 0) {
-        return unreadable(file, strerror(errno));
+    if (reason == NULL && *length > TEXT_MOST) {
+        reason = strerror(EFBIG);
     }
-    if (fstat(descriptor, &status) != 0) {
-        sound = unreadable(file, strerror(errno));
-    } else if (!S_ISREG(status.st_mode)) {
-        sound = unreadable(file, "not a plain file");
-    } else if (!read_all(descriptor, text, length)) {
-        sound = unreadable(file, strerror(errno));
+    if (reason != NULL) {
+        complain("swapfile", file, "", reason);
     }
-    close(descriptor);
-    return sound;
+    return reason == NULL;
 }
 
 /* Whether the bytes are text: no control characters but tabs and a carriage return. */
@@ -117,13 +86,23 @@ bool next_line(char *text, size_t length, size_t *at, struct line *line)
 
 bool bad(const struct line *line, const char *format, ...)
 {
+    char *words = NULL;
+    size_t length;
+    FILE *to = open_memstream(&words, &length);
     va_list more;
 
-    fprintf(stderr, "swapfile: %s:%u: ", line->file, line->number);
-    va_start(more, format);
-    vfprintf(stderr, format, more);
-    va_end(more);
+    fputs("swapfile: ", stderr);
+    print_visible(stderr, line->file);
+    fprintf(stderr, ":%u: ", line->number);
+    if (to != NULL) {
+        va_start(more, format);
+        vfprintf(to, format, more);
+        va_end(more);
+        fclose(to);
+    }
+    print_visible(stderr, words == NULL ? "no memory" : words);
     fputc('\n', stderr);
+    free(words);
     return false;
 }
 

@@ -9,107 +9,158 @@
 #include <sys/stat.h>
 #include <unistd.h>
 
-#include "../calendar/whole.h"
+#include "../common/output.h"
+#include "../common/whole.h"
 
-#define FILES_MOST 4
-
-/* A file to write: its name, the one that it has until all are written, and its bytes. */
-struct part {
-    const char *name;
-    const char *unfinished;
-    const void *bytes;
-    size_t length;
-};
+enum { SHEET, SETUP, JOURNAL, SIDE, FILES_MOST };
 
 /* The files of a swap in an open folder. */
 struct store {
     const char *folder;
     int descriptor;
-    bool made; /* whether the folder was made for them */
+    int lock;
+    bool made;    /* whether the folder was made for them */
+    bool fresh;   /* whether none of them may be there before */
+    size_t first; /* the first that is written: sheet and setup stay as they are below a journal with steps */
     size_t count;
     struct part parts[FILES_MOST];
 };
 
 static bool fail(const struct store *store, const char *name, const char *reason)
 {
-    fprintf(stderr, "swapfile: %s%s%s: %s\n", store->folder, *name == '\0' ? "" : "/", name, reason);
+    complain("swapfile", store->folder, name, reason);
     return false;
 }
 
-static bool open_folder(struct store *store)
+/* Opens the folder, which is made where it is not there. */
+static bool enter(struct store *store)
 {
     store->made = mkdir(store->folder, 0777) == 0;
     if (!store->made && errno != EEXIST) {
         return fail(store, "", strerror(errno));
     }
-    store->descriptor = open(store->folder, O_RDONLY | O_DIRECTORY | O_CLOEXEC);
+    store->descriptor = open_folder(store->folder);
     return store->descriptor >= 0 || fail(store, "", strerror(errno));
 }
 
-/* Whether each name is free, or, unless FRESH, a plain file's. */
-static bool are_free(const struct store *store, bool fresh)
+/* The size of a file of the folder; -1 where there is none. */
+static long long size_of(const struct store *store, const char *name)
+{
+    struct stat status;
+
+    return fstatat(store->descriptor, name, &status, AT_SYMLINK_NOFOLLOW) == 0 ? (long long)status.st_size : -1;
+}
+
+/* Whether each name is free, or, unless the swap is a fresh one, a plain file's. */
+static bool are_free(const struct store *store)
 {
     for (size_t i = 0; i < store->count; i++) {
         const char *name = store->parts[i].name;
-        struct stat status;
+        const char *reason = occupied(store->descriptor, name);
 
-        if (fstatat(store->descriptor, name, &status, AT_SYMLINK_NOFOLLOW) != 0) {
-            if (errno != ENOENT) {
-                return fail(store, name, strerror(errno));
-            }
-        } else if (fresh) {
-            return fail(store, name, "is there already");
-        } else if (!S_ISREG(status.st_mode)) {
-            return fail(store, name, "not a plain file");
+        if (reason == NULL && store->fresh && size_of(store, name) >= 0) {
+            reason = "is there already";
+        }
+        if (reason != NULL) {
+            return fail(store, name, reason);
         }
     }
     return true;
 }
 
-/* Writes the files under their unfinished names; one that an earlier run left there goes. */
-static bool write_parts(const struct store *store)
+static bool is_same(const struct part *part, const uint8_t *bytes, size_t length)
 {
-    for (size_t i = 0; i < store->count; i++) {
-        const struct part *part = &store->parts[i];
-
-        if (!write_new(store->descriptor, part->unfinished, part->bytes, part->length)) {
-            return fail(store, part->unfinished, strerror(errno));
-        }
-    }
-    return true;
+    return part->length == length && memcmp(part->bytes, bytes, length) == 0;
 }
 
-static bool name_parts(const struct store *store)
+/* With how many of these bytes a file begins. */
+static size_t common_length(const struct part *part, const uint8_t *bytes, size_t length)
 {
-    for (size_t i = 0; i < store->count; i++) {
-        const struct part *part = &store->parts[i];
+    const uint8_t *own = part->bytes;
+    size_t same = 0;
 
-        if (renameat(store->descriptor, part->unfinished, store->descriptor, part->name) != 0) {
-            return fail(store, part->name, strerror(errno));
-        }
+    while (same < length && same < part->length && own[same] == bytes[same]) {
+        same++;
     }
-    return true;
+    return same;
 }
 
-/* Takes away what was made for files that are not written. */
-static void clear(const struct store *store)
+/* Whether the files go on from a swap whose journal has steps: sheet and setup are the same, and all its steps come
+ * first, so that none gets lost. */
+static bool goes_on(const struct store *store, const struct swap *old)
 {
-    for (size_t i = 0; i < store->count && store->descriptor >= 0; i++) {
-        unlinkat(store->descriptor, store->parts[i].unfinished, 0);
+    static const char other[] = "not the text's, and the journal has steps";
+    size_t same = common_length(&store->parts[JOURNAL], old->journal, old->journal_length);
+    char reason[48];
+
+    if (!is_same(&store->parts[SHEET], old->sheet, old->sheet_length)) {
+        return fail(store, "sheet.bin", other);
     }
-    if (store->made) {
+    if (!is_same(&store->parts[SETUP], old->setup, old->setup_length)) {
+        return fail(store, "setup.bin", other);
+    }
+    snprintf(reason, sizeof reason, "step %zu is not the text's", same / 4 + 1);
+    return same == old->journal_length || fail(store, "journal.bin", reason);
+}
+
+/* Whether no step of the folder's journal gets lost. */
+static bool keeps_steps(struct store *store)
+{
+    static struct swap old;
+    struct fault fault;
+
+    store->first = size_of(store, "journal.bin") > 0 ? JOURNAL : SHEET;
+    if (store->first == SHEET) {
+        return true;
+    }
+    fault = read_files(store->descriptor, &old);
+    return fault.file == NULL ? goes_on(store, &old) : fail(store, fault.file, fault.reason);
+}
+
+static bool may_store(struct store *store)
+{
+    return are_free(store) && keeps_steps(store);
+}
+
+/* Keeps other programs out of the folder. */
+static bool lock(struct store *store)
+{
+    const char *reason = lock_folder(store->descriptor, &store->lock);
+
+    return reason == NULL || fail(store, LOCK_NAME, reason);
+}
+
+static bool write_files(struct store *store)
+{
+    struct failure failure =
+        write_parts(store->descriptor, store->parts + store->first, store->count - store->first);
+
+    return failure.reason == NULL || fail(store, failure.name, failure.reason);
+}
+
+/* Takes away the folder that was made for files that are not written. */
+static void leave(const struct store *store, bool sound)
+{
+    if (!sound && store->made) {
+        unlinkat(store->descriptor, LOCK_NAME, 0);
         rmdir(store->folder);
+    }
+    if (store->lock >= 0) {
+        close(store->lock);
+    }
+    if (store->descriptor >= 0) {
+        close(store->descriptor);
     }
 }
 
 bool store_swap(const char *folder, const struct swap *swap, const char *side, bool fresh)
 {
     char line[16] = "";
-    struct store store = {folder, -1, false, 3, {
-        {"sheet.bin", "sheet.new", swap->sheet, swap->sheet_length},
-        {"setup.bin", "setup.new", swap->setup, swap->setup_length},
-        {"journal.bin", "journal.new", swap->journal, swap->journal_length},
-        {"side", "side.new", line, 0},
+    struct store store = {folder, -1, -1, false, fresh, SHEET, SIDE, {
+        [SHEET] = {"sheet.bin", swap->sheet, swap->sheet_length, ""},
+        [SETUP] = {"setup.bin", swap->setup, swap->setup_length, ""},
+        [JOURNAL] = {"journal.bin", swap->journal, swap->journal_length, ""},
+        [SIDE] = {"side", line, 0, ""},
     }};
     bool sound;
 
@@ -117,12 +168,8 @@ bool store_swap(const char *folder, const struct swap *swap, const char *side, b
         snprintf(line, sizeof line, "%s\n", side);
         store.parts[store.count++].length = strlen(line);
     }
-    sound = open_folder(&store) && are_free(&store, fresh) && write_parts(&store) && name_parts(&store);
-    if (!sound) {
-        clear(&store);
-    }
-    if (store.descriptor >= 0) {
-        close(store.descriptor);
-    }
+    /* before the lock, so that what is refused leaves no file of it; and under it, since others may have written */
+    sound = enter(&store) && may_store(&store) && lock(&store) && may_store(&store) && write_files(&store);
+    leave(&store, sound);
     return sound;
 }

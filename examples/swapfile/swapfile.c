@@ -9,6 +9,7 @@
 #include "../calendar/position.h"
 #include "../calendar/saswap.h"
 #include "../calendar/words.h"
+#include "../common/output.h"
 #include "store.h"
 #include "text.h"
 
@@ -23,6 +24,8 @@ static const char *const manual[] = {
     "encode  reads the text of a swap and writes sheet.bin, setup.bin and journal.bin\n"
     "        to FOLDER, and the file `side` where the text has a side. What is wrong,\n"
     "        or what the engine refuses, is told with its line, and nothing is written.\n"
+    "        The steps of a journal that is there already must be the first of the\n"
+    "        text's, on the same sheet and setup: none gets lost.\n"
     "decode  prints the text of the swap in FOLDER, which the engine must accept.\n"
     "new     writes a swap to start from: the SASwap sheet for 1 to 1000 blocks per\n"
     "        day, careful conduct, no stealth, an empty journal; with SIDE, alice or\n"
@@ -34,14 +37,17 @@ static const char *const manual[] = {
     "\n"
     "    swapfile encode deal.txt deal && ./calendar deal\n"
     "\n"
-    "docs/FORMATS.md has the text form. Exit status: 0 done; 1 refused, or a file\n"
-    "cannot be read or written; 2 bad usage.\n",
+    "encode and new write while they hold the lock of the file journal.lock in FOLDER,\n"
+    "for which a dealer waits; it stays there, empty. docs/FORMATS.md has the text form.\n"
+    "\n"
+    "Exit status: 0 done; 1 refused, or a file cannot be read or written, or the output\n"
+    "not be written; 2 bad usage.\n",
 };
 
 static int misuse(const char *argument, const char *reason)
 {
     if (argument != NULL) {
-        fprintf(stderr, "swapfile: %s: %s\n", argument, reason);
+        complain("swapfile", argument, "", reason);
     }
     fputs(manual[0], stderr);
     return BAD_USAGE;
@@ -55,12 +61,6 @@ static int encode(const char *file, const char *folder)
     return encode_text(file, &swap, &sides) && store_swap(folder, &swap, side_name(sides), false) ? FINE : REFUSED;
 }
 
-static int tell(const char *folder, const char *file, const char *reason)
-{
-    fprintf(stderr, "swapfile: %s/%s: %s\n", folder, file, reason);
-    return REFUSED;
-}
-
 /* Tells why the engine refuses a folder's swap. */
 static int refuse(const char *folder, uint32_t answer)
 {
@@ -68,37 +68,33 @@ static int refuse(const char *folder, uint32_t answer)
     bool of_setup = refusal <= SWAP_SETUP_CONDUCT || refusal == SWAP_SETUP_PARTIES;
     const char *file = refusal <= SWAP_SHEET_CHILDREN ? "sheet.bin" : of_setup ? "setup.bin" : "journal.bin";
     char step[32] = "";
+    char reason[192];
 
     if (refusal >= SWAP_STEP_FIELD && refusal <= SWAP_STEP_BLOCKS) {
         snprintf(step, sizeof step, "step %lu is ", (unsigned long)SWAP_COUNT(answer) + 1);
     }
-    fprintf(stderr, "swapfile: %s/%s: %srefused: %s (%s)\n", folder, file, step, swap_refusal_words(refusal),
-            swap_refusal_name(refusal));
+    snprintf(reason, sizeof reason, "%srefused: %s (%s)", step, swap_refusal_words(refusal),
+             swap_refusal_name(refusal));
+    complain("swapfile", folder, file, reason);
     return REFUSED;
 }
 
 static int decode(const char *folder)
 {
     static struct swap swap;
-    struct fault fault = read_swap(folder, &swap);
-    uint8_t sides = 0;
+    uint8_t sides;
+    struct fault fault = read_swap(folder, &swap, &sides);
     uint32_t answer;
 
-    if (fault.file == NULL) {
-        fault = read_side(folder, &swap, &sides);
-    }
     if (fault.file != NULL) {
-        return tell(folder, fault.file, fault.reason);
+        complain("swapfile", folder, fault.file, fault.reason);
+        return REFUSED;
     }
     answer = swap_run(swap.sheet, swap.sheet_length, swap.setup, swap.setup_length, swap.journal, swap.journal_length);
     if (SWAP_REFUSAL(answer) != SWAP_ACCEPTED) {
         return refuse(folder, answer);
     }
     decode_text(&swap, sides);
-    if (fflush(stdout) != 0 || ferror(stdout)) {
-        fputs("swapfile: cannot write the text\n", stderr);
-        return REFUSED;
-    }
     return FINE;
 }
 
@@ -140,7 +136,8 @@ static int start(const char *sheet, const char *blocks, const char *folder, cons
     return store_swap(folder, &swap, side, true) ? FINE : REFUSED;
 }
 
-int main(int argc, char **argv)
+/* Does what is asked: the exit status. */
+static int act(int argc, char **argv)
 {
     if (argc == 2 && strcmp(argv[1], "--help") == 0) {
         printf("%s%s", manual[0], manual[1]);
@@ -156,4 +153,10 @@ int main(int argc, char **argv)
         return start(argv[2], argv[3], argv[4], argc == 6 ? argv[5] : NULL);
     }
     return misuse(NULL, NULL);
+}
+
+int main(int argc, char **argv)
+{
+    open_standard();
+    return printed("swapfile", act(argc, argv), NULL);
 }

@@ -352,21 +352,28 @@ fn occupied(name: &str) -> PathBuf {
     let link = |to: &str, name: &str| std::os::unix::fs::symlink(to, folder.join(name));
     link("/dev/full", "device").expect("a link");
     link("nowhere", "broken").expect("a link");
+    fs::write(folder.join("first.html"), "first").expect("a file");
+    fs::hard_link(folder.join("first.html"), folder.join("second.html")).expect("a link");
     folder
 }
 
 /// Exit status, arguments, and the message.
-const REFUSED: [(i32, &str, &str); 14] = [
+const REFUSED: [(i32, &str, &str); 15] = [
     (1, "--html pipe swap", "calendar: pipe: not a plain file\n"),
     (
         1,
         "--html device swap",
-        "calendar: device: not a plain file\n",
+        "calendar: device: a symbolic link, not a plain file\n",
     ),
     (
         1,
         "--html broken swap",
-        "calendar: broken: not a plain file\n",
+        "calendar: broken: a symbolic link, not a plain file\n",
+    ),
+    (
+        1,
+        "--html second.html swap",
+        "calendar: second.html: a hard link: the file has another name too\n",
     ),
     (
         1,

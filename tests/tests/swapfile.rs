@@ -81,8 +81,9 @@ fn there_and_back(program: &Path, folder: &Path, case: &Case, side: Option<&str>
     assert_eq!(samples::read(&to), files, "{printed}");
     assert_eq!(
         fs::read_dir(&to).expect("a folder").count(),
-        files.iter().flatten().count()
+        files.iter().flatten().count() + 1 // the lock
     );
+    assert_eq!(fs::read(to.join("journal.lock")).expect("a lock"), []);
     printed
 }
 
