@@ -14,11 +14,11 @@ use Rattle.position.proofs.Opened.{opened}
 use Rattle.known.specs.Case.{Case, lockIs, deadlineIs, sheetLength, statusesZero, sendGets, unsignedGets, sharedIs, statusIs, stepGets, opens, prints, revokedIn, swapSheet, passes, sendPlace, getsThere, sameLines, holds}
 
 -- "3 a day, open, stealth 1"
-abbrev setup3 : List ℕ
+abbrev pub setup3 : List ℕ
 setup3 = 3 ∷ 0 ∷ 0 ∷ 1 ∷ []
 
 -- mine the block being filled
-abbrev mine : List ℕ
+abbrev pub mine : List ℕ
 mine = 6 ∷ 2 ∷ 255 ∷ 2 ∷ []
 
 -- lock_A sent, included, mined: one block
@@ -30,15 +30,15 @@ abbrev lockedB : List ℕ
 lockedB = 3 ∷ 1 ∷ 1 ∷ 2 ∷ 5 ∷ 2 ∷ 1 ∷ 2 ∷ mine
 
 -- Alice shares success; Bob can sign it then
-abbrev successAt2 : List ℕ
+abbrev pub successAt2 : List ℕ
 successAt2 = lockedA ++ (1 ∷ 0 ∷ 2 ∷ 2 ∷ mine)
 
 -- Alice shares revoke; Bob can sign it then
-abbrev revokeAt5 : List ℕ
+abbrev pub revokeAt5 : List ℕ
 revokeAt5 = lockedA ++ (1 ∷ 0 ∷ 4 ∷ 2 ∷ mine) ++ mine ++ mine ++ mine
 
 -- nothing is shared; Bob cannot sign revoke
-abbrev unsharedAt5 : List ℕ
+abbrev pub unsharedAt5 : List ℕ
 unsharedAt5 = lockedA ++ mine ++ mine ++ mine ++ mine
 
 -- Bob shares refund_1; Alice can sign it then
@@ -54,7 +54,7 @@ abbrev waitingAt2 : List ℕ
 waitingAt2 = spentB ++ (5 ∷ 2 ∷ 8 ∷ 2 ∷ mine) ++ (1 ∷ 0 ∷ 2 ∷ 2 ∷ 3 ∷ 0 ∷ 0 ∷ 2 ∷ 3 ∷ 1 ∷ 2 ∷ 2 ∷ [])
 
 -- "3 a day", careful, stealth 0
-abbrev careful30 : List ℕ
+abbrev pub careful30 : List ℕ
 careful30 = 3 ∷ 0 ∷ 2 ∷ 0 ∷ []
 
 -- both first shares, and lock_A confirmed; Bob doesn't lock

@@ -3,3 +3,4 @@ pub mod Known
 pub mod Heights
 pub mod Sends
 pub mod Statuses
+pub mod SendRows

@@ -30,7 +30,7 @@ use Rattle.position.specs.StepRefusal.{tests, stepRefusal}
 use Rattle.known.specs.Heights.{refund1Height, revokeHeight, success-lock, revoke-lock, success-deadline, revoke-deadline}
 
 -- P6 and P7's place, of any sheet and transaction: conduct allows the step, "no rival .., parent there, signatures", against the
--- transactions that are there. The table's rows for P6 and P7 are such places (`sendPlace` in `Case`).
+-- transactions that are there. The table's rows for P6 and P7 are such places, and follow from the laws below: `SendRows`.
 pub record Ready (s : List ℕ) (p : Position) (allowed : Bool) (there : ℕ → Bool) (party t destination : ℕ) : Type 0 where
   pub conduct : allowed ≡ true
   pub rivals : noConflict s there t ≡ true

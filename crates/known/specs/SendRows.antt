@@ -1,0 +1,167 @@
+-- The table's rows for P6 and P7, by the laws for all sizes: their positions are places that these laws speak of.
+-- Assumes nothing.
+use Prim.Native.Nat.{ℕ, _+_}
+use mathlib.Core.Path.{_≡_, refl, sym, _∙_}
+use mathlib.Core.Bool.{true, false≢true}
+use mathlib.Core.List.{List, [], _∷_, _++_}
+use lib.Dec.{eqb, lit<, lit≤}
+use lib.ListN.{getD, take, drop}
+use borrow.Author.Tests.{eq-eqb, eqb-true}
+use Rattle.laws.specs.Booleans.{split}
+use Rattle.laws.specs.Failing.{firstFailing}
+use Rattle.laws.specs.Gather.{every}
+use Rattle.sheet.specs.Refusal.{accepted}
+use Rattle.sheet.specs.Setup.{perDay}
+use Rattle.sheet.specs.Saswap.{saswap}
+use Rattle.slots.specs.Destination.{alice, bob}
+use Rattle.slots.specs.declared.Destination.the-variants.{Contract}
+use Rattle.slots.specs.declared.Step.{Step}
+use Rattle.slots.specs.declared.Step.the-variants.{SendToPool, HandToMiner}
+use Rattle.steps.specs.declared.Decoded.the-variants.{Read}
+use Rattle.steps.specs.Names.{lockA, success, revoke}
+use Rattle.position.specs.declared.Position.{Position}
+use Rattle.position.specs.Position.{start}
+use Rattle.position.specs.StepRefusal.{stepRefusal}
+use Rattle.position.specs.Play.{FourBytes, journalSteps, decodeBytes, takeStep, takeDecoded, step, runFrom, callTests, run}
+use Rattle.position.proofs.Opened.{opened}
+use Rattle.runs.proofs.Runs.{run-next, run-stops, run-ends, row-append, run-allowed}
+use Rattle.known.specs.Case.{sendGets, swapSheet, passes, sendPlace, getsThere, holds}
+use Rattle.known.specs.Known.{setup3, careful30, mine, successAt2, revokeAt5, unsharedAt5, known}
+use Rattle.known.specs.Heights.{refund1Height, revokeHeight}
+use Rattle.known.specs.Sends.{ReadyForPool, ReadyForMiner, success-to-pool, success-to-miner, revoke-to-pool}
+
+-- ---- a step behind an accepted journal
+-- a row of one step gets the step's number
+one-step : (s u : List ℕ) (b : FourBytes) (c : ℕ) (p : Position) → runFrom s u (b ∷ []) c p .refusal ≡ step s u p b .refusal
+one-step s u b c p =
+    split (eqb (step s u p b .refusal) accepted)
+    (λ y. rw (run-next s u b [] c p y, run-ends s u (c + 1) (step s u p b .position)) (sym (eqb-true (step s u p b .refusal) accepted y)))
+    (λ y. rw (run-stops s u b [] c p y))
+
+-- a step whose fields are right gets that of its tests
+read-number : (s u : List ℕ) (p : Position) (b : FourBytes) (x : Step) → decodeBytes s u b ≡ Read x → step s u p b .refusal ≡ stepRefusal s u p x
+unfolding step takeDecoded takeStep
+read-number s u p b x e =
+    split (eqb (stepRefusal s u p x) accepted)
+    (λ y. rw (e, y, takeStep) (sym (eqb-true (stepRefusal s u p x) accepted y)))
+    (λ y. rw (e, y, takeStep))
+
+-- four bytes as a step
+abbrev bytes : List ℕ → FourBytes
+bytes b = record { kind = getD b 0 0; party = getD b 1 0; transaction = getD b 2 0; destination = getD b 3 0 }
+
+-- the journal is accepted, and with the send behind it passes the checks before any step; the send is read as this step
+record Behind (s u j send : List ℕ) (x : Step) : Type 0 where
+  allowed : firstFailing (callTests s u j) ≡ 0
+  longer : firstFailing (callTests s u (j ++ send)) ≡ 0
+  steps : journalSteps (j ++ send) ≡ journalSteps j ++ (bytes send ∷ [])
+  read : decodeBytes s u (bytes send) ≡ Read x
+  taken : run s u j .refusal ≡ accepted
+
+gets : (s u j send : List ℕ) (x : Step) → Behind s u j send x → run s u (j ++ send) .refusal ≡ stepRefusal s u (run s u j .position) x
+gets s u j send x h =
+    let r = run-allowed s u j (h .allowed) in
+    rw (run-allowed s u (j ++ send) (h .longer), h .steps, row-append s u (journalSteps j) (bytes send ∷ []) 0 (start s) (rw r at (h .taken)), ← r)
+    (one-step s u (bytes send) (run s u j .accepted) (run s u j .position)
+    ∙ read-number s u (run s u j .position) (bytes send) x (h .read))
+
+-- ---- the rows
+abbrev sheet3 : List ℕ
+sheet3 = saswap (perDay setup3)
+
+-- what a journal leads to
+abbrev after : List ℕ → Position
+after j = run sheet3 setup3 j .position
+
+-- a row whose place is computed, and whose number is that of its step there
+row : (j : List ℕ) (blocks : ℕ) (send : List ℕ) (number : ℕ) (x : Step)
+    → passes (run sheet3 setup3 j) j ≡ true
+    → eqb (after j .mined) blocks ≡ true
+    → sendPlace true sheet3 (after j) (getD send 1 0) (getD send 2 0) (getD send 3 0) ≡ true
+    → Behind sheet3 setup3 j send x
+    → stepRefusal sheet3 setup3 (after j) x ≡ number
+    → holds (sendGets setup3 j blocks send number) ≡ true
+unfolding holds getsThere swapSheet
+row j blocks send number x p m q h e =
+    rw (p, m, q) (eq-eqb (run sheet3 setup3 (j ++ send) .refusal) number (gets sheet3 setup3 j send x h ∙ e))
+
+-- P6's places: success to the pool at 2 and at 3 blocks, and to the miner at 3
+pool-at-2 : ReadyForPool sheet3 setup3 (after successAt2) bob success Contract
+unfolding opened
+pool-at-2 = record { conduct = refl; rivals = refl; parent = refl; signatures = refl }
+
+pool-at-3 : ReadyForPool sheet3 setup3 (after (successAt2 ++ mine)) bob success Contract
+unfolding opened
+pool-at-3 = record { conduct = refl; rivals = refl; parent = refl; signatures = refl }
+
+miner-at-3 : ReadyForMiner sheet3 setup3 (after (successAt2 ++ mine)) bob success Contract
+unfolding opened
+miner-at-3 = record { conduct = refl; rivals = refl; parent = refl; signatures = refl }
+
+-- P7's: revoke to the pool at 5 and at 6 blocks
+pool-at-5 : ReadyForPool sheet3 setup3 (after revokeAt5) bob revoke Contract
+unfolding opened
+pool-at-5 = record { conduct = refl; rivals = refl; parent = refl; signatures = refl }
+
+pool-at-6 : ReadyForPool sheet3 setup3 (after (revokeAt5 ++ mine)) bob revoke Contract
+unfolding opened
+pool-at-6 = record { conduct = refl; rivals = refl; parent = refl; signatures = refl }
+
+-- no such places: before the first shares; where lock_A is there already; where it is not; where a signature is missing
+not-allowed : ReadyForPool (saswap (perDay careful30)) careful30 (run (saswap (perDay careful30)) careful30 [] .position) alice lockA Contract → ⊥
+unfolding opened
+not-allowed r = false≢true (r .conduct)
+
+not-rivalled : ReadyForPool sheet3 setup3 (after successAt2) alice lockA Contract → ⊥
+unfolding opened
+not-rivalled r = false≢true (r .rivals)
+
+not-parentless : ReadyForPool sheet3 setup3 (after []) bob success Contract → ⊥
+unfolding opened
+not-parentless r = false≢true (r .parent)
+
+not-unsigned : ReadyForPool sheet3 setup3 (after unsharedAt5) bob revoke Contract → ⊥
+unfolding opened
+not-unsigned r = false≢true (r .signatures)
+
+-- P6's rows
+success-passes : holds (sendGets setup3 successAt2 2 (3 ∷ 1 ∷ 2 ∷ 2 ∷ []) 0) ≡ true
+unfolding opened passes sendPlace refund1Height
+success-passes =
+    row successAt2 2 (3 ∷ 1 ∷ 2 ∷ 2 ∷ []) 0 (SendToPool bob success Contract) refl refl refl
+    (record { allowed = refl; longer = refl; steps = refl; read = refl; taken = refl })
+    (success-to-pool setup3 (after successAt2) bob Contract (lit< tt) (lit≤ tt) pool-at-2)
+
+success-late : holds (sendGets setup3 (successAt2 ++ mine) 3 (3 ∷ 1 ∷ 2 ∷ 2 ∷ []) 18) ≡ true
+unfolding opened passes sendPlace refund1Height
+success-late =
+    row (successAt2 ++ mine) 3 (3 ∷ 1 ∷ 2 ∷ 2 ∷ []) 18 (SendToPool bob success Contract) refl refl refl
+    (record { allowed = refl; longer = refl; steps = refl; read = refl; taken = refl })
+    (success-to-pool setup3 (after (successAt2 ++ mine)) bob Contract (lit< tt) (lit≤ tt) pool-at-3)
+
+success-handed : holds (sendGets setup3 (successAt2 ++ mine) 3 (4 ∷ 1 ∷ 2 ∷ 2 ∷ []) 0) ≡ true
+unfolding opened passes sendPlace
+success-handed =
+    row (successAt2 ++ mine) 3 (4 ∷ 1 ∷ 2 ∷ 2 ∷ []) 0 (HandToMiner bob success Contract) refl refl refl
+    (record { allowed = refl; longer = refl; steps = refl; read = refl; taken = refl })
+    (success-to-miner setup3 (after (successAt2 ++ mine)) bob Contract refl miner-at-3)
+
+-- P7's rows
+revoke-early : holds (sendGets setup3 revokeAt5 5 (3 ∷ 1 ∷ 4 ∷ 2 ∷ []) 17) ≡ true
+unfolding opened passes sendPlace revokeHeight
+revoke-early =
+    row revokeAt5 5 (3 ∷ 1 ∷ 4 ∷ 2 ∷ []) 17 (SendToPool bob revoke Contract) refl refl refl
+    (record { allowed = refl; longer = refl; steps = refl; read = refl; taken = refl })
+    (revoke-to-pool setup3 (after revokeAt5) bob Contract (lit< tt) pool-at-5)
+
+revoke-passes : holds (sendGets setup3 (revokeAt5 ++ mine) 6 (3 ∷ 1 ∷ 4 ∷ 2 ∷ []) 0) ≡ true
+unfolding opened passes sendPlace revokeHeight
+revoke-passes =
+    row (revokeAt5 ++ mine) 6 (3 ∷ 1 ∷ 4 ∷ 2 ∷ []) 0 (SendToPool bob revoke Contract) refl refl refl
+    (record { allowed = refl; longer = refl; steps = refl; read = refl; taken = refl })
+    (revoke-to-pool setup3 (after (revokeAt5 ++ mine)) bob Contract (lit< tt) pool-at-6)
+
+-- the five rows of the table
+pub sends-hold : every holds (take 5 (drop 11 known)) ≡ true
+unfolding every known
+sends-hold = rw (success-passes, success-late, success-handed, revoke-early, revoke-passes)
