@@ -1,14 +1,19 @@
 -- Slip 11, for a reader: what the earliest block is, case by case, and what the answer comes to.
 -- Assumes nothing.
-use Prim.Native.Nat.{ℕ, _+_, _≤_, _<_, max}
-use native.Mathlib.Nat.{max-eq-left, max-eq-right}
+use Prim.Native.Nat.{ℕ, _+_, _*_, _≤_, _<_, max}
+use native.Mathlib.Nat.{max-eq-left, max-eq-right, zero-add}
 use native.Mathlib.Omega.{arith}
 use mathlib.Core.Path.{_≡_, refl, sym, _∙_}
 use mathlib.Core.Bool.{true, false}
 use mathlib.Core.List.{List, [], _++_}
+use lib.Dec.{eqb, ltb, leb}
+use lib.ListN.{length, take, drop}
+use lib.Seq.{sets-eq, drop-at}
+use borrow.Author.Tests.{eqb-true, eqb-false, ltb-true, ltb-false, lt-ltb, le-ltb, le-leb, lt-leb}
 use Rattle.laws.specs.Booleans.{split, fails-by, clash}
 use Rattle.laws.specs.Failing.{firstFailing, passed, passed-append}
-use Rattle.sheet.specs.Refusal.{accepted}
+use Rattle.laws.specs.Over.{over, take-over, length-over, stores-over}
+use Rattle.sheet.specs.Refusal.{accepted, bufferShort}
 use Rattle.sheet.specs.Field.{count, parent, lockType, opening}
 use Rattle.sheet.specs.LockHeight.{lockBlocks}
 use Rattle.sheet.specs.Check.{arrayTests, sheetTests, sheetRefusal}
@@ -17,8 +22,12 @@ use Rattle.sheet.specs.Checked.{Checked}
 use Rattle.sheet.proofs.Theorems.{sheet-checked}
 use Rattle.slots.proofs.Parents.{parent-below}
 use Rattle.slots.proofs.Ancestors.{here}
+use Rattle.ledger.specs.Entry.{Entry}
 use Rattle.ledger.specs.Ledger.{lockFrom}
 use Rattle.position.specs.Tests.{blockLimit}
+use Rattle.position.specs.Answers as answers
+use Rattle.position.specs.Answers.{fitted}
+use Rattle.position.proofs.Passing as fit
 use Rattle.blocks.specs.BlockList.{listEntries, listBytes, blocksRefusal}
 use Rattle.blockclaims.proofs.Bytes.{read-back}
 use Rattle.blockclaims.proofs.Places.{place-member, member-place, all-member}
@@ -26,8 +35,10 @@ use Rattle.endings.specs.Refusal.{endingImpossible}
 use Rattle.endings.specs.Earliest.{earliestFrom, earliest}
 use Rattle.endings.specs.Plan.{planEntry, plan}
 use Rattle.endings.specs.Ending.{destinationOf, endingRight, isPossible, endingTests}
-use Rattle.earliest.specs.Answer.{earliestRefusal, earliestList}
-use Rattle.earliestclaims.specs.Claim.{Written, Way, Cause, Endings, EarliestEndings}
+use Rattle.earliest.specs.Answer.{earliestRefusal, earliestList, earliestAnswer}
+use Rattle.earliest.proofs.Rows.{bytes-four}
+use Rattle.earliest.proofs.Answers.{unrefused}
+use Rattle.earliestclaims.specs.Claim.{Written, Way, Cause, Endings, EarliestEndings, Listed, Answered, EarliestAnswers}
 use Rattle.earliestclaims.proofs.Lowest
 use Rattle.earliestclaims.proofs.Plans.{in-plan, plan-has, for-plan}
 use Rattle.earliestclaims.proofs.Ending.{possible-says, says-possible, named-paying, named-to}
@@ -115,14 +126,18 @@ module _ (s u : List ℕ) (h : sheetRefusal s ≡ accepted) (k : setupRefusal s 
         (λ y. own-tests ∙ rw (n, y))
         (λ y. absurd (f (own-tests ∙ rw (n, y))))
 
+    -- the list's bytes, read back
+    list-back : listEntries (listBytes (earliestList s u mask dests)) ≡ earliestList s u mask dests
+    unfolding earliestList
+    list-back =
+        let l = plan s (perDay u) mask (destinationOf mask dests) blockLimit in
+        read-back (all-member l (λ e m. let p = in-plan s (sheet-checked s h) (perDay u) mask (destinationOf mask dests) blockLimit e m in omega (arith, p .few)))
+
     -- the list written is such a list
     some-confirms : endingRight s mask dests ≡ true → (earliestRefusal s u mask dests ≡ endingImpossible → ⊥) → Way s u mask dests
-    unfolding earliestList
     some-confirms n f =
         let w = written (possible-unrefused n f) in
-        let l = plan s (perDay u) mask (destinationOf mask dests) blockLimit in
-        let back : listEntries (listBytes l) ≡ l = read-back (all-member l (λ e m. let p = in-plan s (sheet-checked s h) (perDay u) mask (destinationOf mask dests) blockLimit e m in omega (arith, p .few))) in
-        record { list = listBytes l; taken = w .taken; confirms = rw back (w .confirms) }
+        record { list = listBytes (earliestList s u mask dests); taken = w .taken; confirms = rw list-back (w .confirms) }
 
     cause : earliestRefusal s u mask dests ≡ endingImpossible → Cause s (perDay u) mask
     cause z = impossible-cause s (perDay u) mask (impossible-says z .1)
@@ -142,3 +157,66 @@ earliest-endings s u h k =
       cause = cause s u h k;
       empty-mask = empty-ending s u h k;
     }
+
+-- The same of what the call answers.
+module _ (s u : List ℕ) (mask : ℕ) (dests out : List ℕ) where
+  abbrev number : ℕ
+  number = earliestRefusal s u mask dests
+
+  abbrev list : List Entry
+  list = earliestList s u mask dests
+
+  answer-refused : eqb number accepted ≡ false → earliestAnswer s u mask dests out ≡ record { refusal = number; count = 0; buffer = out }
+  unfolding earliestAnswer
+  answer-refused y = rw (y, earliestAnswer)
+
+  answer-planned : eqb number accepted ≡ true → earliestAnswer s u mask dests out ≡ fitted (listBytes list) (length list) out
+  unfolding earliestAnswer
+  answer-planned y = rw (y, earliestAnswer)
+
+  -- the list at the front of a buffer that has room for it
+  listed : number ≡ accepted → 4 * length list ≤ length out → Listed s u mask dests out (length list) (over (listBytes list) out)
+  listed z room =
+      let p = unrefused s u mask dests number refl z in
+      let w = written s u (p .sheet) (p .setup) mask dests z in
+      let size = bytes-four list in
+      let front : take (4 * length list) (over (listBytes list) out) ≡ listBytes list = rw (← size) (take-over (listBytes list) out (omega (arith, size))) in
+      let whole : over (listBytes list) out ≡ listBytes list ++ drop (length (listBytes list)) out = rw zero-add at (sym (stores-over (listBytes list) out) ∙ sets-eq (listBytes list) out 0 (omega (arith, size))) in
+      let back : listEntries (listBytes list) ≡ list = list-back s u (p .sheet) (p .setup) mask dests in
+      record {
+        unrefused = z;
+        counted = refl;
+        bytes = front;
+        entries = rw front back;
+        taken = rw front (w .taken);
+        confirms = rw (front, back) (w .confirms);
+        beyond = rw (whole, drop-at (listBytes list) (drop (length (listBytes list)) out) (4 * length list) size, size);
+        long = length-over (listBytes list) out;
+      }
+
+  -- the ending is refused, or its list has no room, or it is written
+  abbrev Answers : answers.Written → Type 0
+  Answers w = Answered s u mask dests out (w .refusal) (w .count) (w .buffer)
+
+  by-ending : eqb number accepted ≡ false → Answers (earliestAnswer s u mask dests out)
+  by-ending y = rw (answer-refused y) (record { number = rw y; written = λ z. absurd (eqb-false number accepted y z); refused = λ f. (refl, refl) })
+
+  by-room : eqb number accepted ≡ true → length out < 4 * length list → Answers (earliestAnswer s u mask dests out)
+  by-room y l =
+      let e = answer-planned y ∙ fit.not-written (listBytes list) out (length list) (lt-leb (length (listBytes list)) (length out) (omega (arith, bytes-four list))) in
+      rw e (record { number = rw (y, lt-ltb (length out) (4 * length list) l); written = λ z. absurd (eqb-false bufferShort accepted refl z); refused = λ f. (refl, refl) })
+
+  by-list : eqb number accepted ≡ true → 4 * length list ≤ length out → Answers (earliestAnswer s u mask dests out)
+  by-list y l =
+      let e = answer-planned y ∙ fit.written (listBytes list) out (length list) (le-leb (length (listBytes list)) (length out) (omega (arith, bytes-four list))) in
+      let z = eqb-true number accepted y in
+      rw e (record { number = rw (y, le-ltb (length out) (4 * length list) l, z); written = λ f. listed z l; refused = λ f. absurd (f refl) })
+
+pub earliest-answers : EarliestAnswers
+earliest-answers s u mask dests out =
+    split (eqb (earliestRefusal s u mask dests) accepted)
+    (λ y.
+    split (ltb (length out) (4 * length (earliestList s u mask dests)))
+    (λ l. by-room s u mask dests out y (ltb-true (length out) (4 * length (earliestList s u mask dests)) l))
+    (λ l. by-list s u mask dests out y (ltb-false (length out) (4 * length (earliestList s u mask dests)) l)))
+    (by-ending s u mask dests out)

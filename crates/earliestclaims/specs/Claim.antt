@@ -1,15 +1,17 @@
 -- Slip 11: what the answer comes to. Each claim is about every checked sheet with a setup that passes for it, and every mask and
 -- destinations.
 -- Assumes nothing.
-use Prim.Native.Nat.{ℕ, _≤_, _<_}
+use Prim.Native.Nat.{ℕ, _*_, _≤_, _<_}
 use mathlib.Core.Path.{_≡_}
-use mathlib.Core.Bool.{true, false}
+use mathlib.Core.Bool.{true, false, _&&_}
 use mathlib.Core.Logic.{_⊎_}
 use mathlib.Core.List.{List, []}
 use mathlib.Core.Option.{some}
-use lib.ListN.{getElem?}
+use lib.Dec.{eqb, ltb}
+use lib.ListN.{getElem?, length, take, drop}
+use Rattle.laws.specs.Booleans.{pick}
 use Rattle.laws.specs.Mask.{bit}
-use Rattle.sheet.specs.Refusal.{accepted}
+use Rattle.sheet.specs.Refusal.{accepted, bufferShort}
 use Rattle.sheet.specs.Field.{count}
 use Rattle.sheet.specs.Check.{sheetRefusal}
 use Rattle.sheet.specs.Setup.{perDay, setupRefusal}
@@ -22,7 +24,7 @@ use Rattle.endings.specs.Refusal.{endingImpossible}
 use Rattle.endings.specs.Earliest.{earliest}
 use Rattle.endings.specs.Plan.{planned}
 use Rattle.endings.specs.Ending.{destinationOf, endingRight}
-use Rattle.earliest.specs.Answer.{earliestRefusal, earliestList}
+use Rattle.earliest.specs.Answer.{earliestRefusal, earliestList, earliestAnswer}
 use Rattle.earliestclaims.specs.Words.{ConfirmsTo}
 
 -- of an ending that is not refused
@@ -60,3 +62,31 @@ pub record Endings (s u : List ℕ) : Type 0 where
 
 abbrev pub EarliestEndings : Type 0
 EarliestEndings = (s u : List ℕ) → sheetRefusal s ≡ accepted → setupRefusal s u ≡ accepted → Endings s u
+
+-- The same of what the call leaves where it answers 0: the count is the list's, its entries stand at the front of the buffer, 4 bytes
+-- each, and "Bytes after the output keep their values."
+pub record Listed (s u : List ℕ) (mask : ℕ) (dests out : List ℕ) (n : ℕ) (buffer : List ℕ) : Type 0 where
+  pub unrefused : earliestRefusal s u mask dests ≡ accepted
+  pub counted : n ≡ length (earliestList s u mask dests)
+  pub bytes : take (4 * n) buffer ≡ listBytes (earliestList s u mask dests)
+  pub entries : listEntries (take (4 * n) buffer) ≡ earliestList s u mask dests
+  -- so they are accepted as a block list, and confirm the ending
+  pub taken : blocksRefusal s u (take (4 * n) buffer) ≡ accepted
+  pub confirms : ConfirmsTo s mask (destinationOf mask dests) (listEntries (take (4 * n) buffer))
+  pub beyond : drop (4 * n) buffer ≡ drop (4 * n) out
+  pub long : length buffer ≡ length out
+
+-- what an answer, a number, a count and a buffer afterwards, is to be
+pub record Answered (s u : List ℕ) (mask : ℕ) (dests out : List ℕ) (refusal n : ℕ) (buffer : List ℕ) : Type 0 where
+  -- the ending's number, or 25 where that is 0 and the list has no room: "25 is tested last."
+  pub number : refusal
+      ≡ pick (eqb (earliestRefusal s u mask dests) accepted && ltb (length out) (4 * length (earliestList s u mask dests))) bufferShort (earliestRefusal s u mask dests)
+  pub written : refusal ≡ accepted → Listed s u mask dests out n buffer
+  -- "0 when refused", and "a refusal changes no buffer"
+  pub refused : (refusal ≡ accepted → ⊥) → (n ≡ 0) × (buffer ≡ out)
+
+-- what the call answers, for every input and buffer
+abbrev pub EarliestAnswers : Type 0
+EarliestAnswers =
+    (s u : List ℕ) (mask : ℕ) (dests out : List ℕ)
+    → let answer = earliestAnswer s u mask dests out in Answered s u mask dests out (answer .refusal) (answer .count) (answer .buffer)

@@ -2,13 +2,19 @@
 -- Assumes nothing.
 use Prim.Native.Nat.{ℕ, suc, _+_, _*_, _^_, _≤_, _<_}
 use native.Mathlib.Omega.{arith}
+use native.Mathlib.Nat.{zero-add, mul-le-mul-left}
 use mathlib.Core.Path.{_≡_, refl, ap, sym, _∙_}
 use mathlib.Core.Logic.{_⊎_, inl, inr}
-use mathlib.Core.List.{List, [], _∷_}
-use lib.Dec.{ltb, lit<}
-use lib.ListN.{length, getD, take, drop}
+use mathlib.Core.Bool.{true, false}
+use mathlib.Core.List.{List, [], _∷_, _++_}
+use lib.Dec.{eqb, ltb, lit<}
+use lib.ListN.{length, getD, take, drop, length-drop}
+use lib.Seq.{sets-eq, drop-at, take-append-le, drop-append-le}
+use borrow.Author.Tests.{eqb-true, eqb-false, ltb-true, ltb-false, lt-ltb, le-ltb, le-leb, lt-leb}
 use Rattle.laws.specs.Booleans.{pick, split}
 use Rattle.laws.specs.Little.{bytesOf}
+use Rattle.laws.specs.Over.{over, take-over, length-over, stores-over}
+use Rattle.sheet.specs.Refusal.{accepted, bufferShort}
 use Rattle.sheet.specs.Field.{count}
 use Rattle.slots.specs.Slot.{standing, entryTo}
 use Rattle.position.specs.declared.Position.{Position}
@@ -17,10 +23,13 @@ use Rattle.position.specs.Play.{run}
 use Rattle.position.specs.Report.{unconfirmed, status, payee, row}
 use Rattle.moves.specs.Wellformed.{Wellformed}
 use Rattle.position.specs.Printed.{printedLine}
+use Rattle.position.specs.Answers.{Written}
 use Rattle.pages.specs.Line.{digits, line}
-use Rattle.pages.specs.Page.{payeeText, heightText, texts, lineTexts, pageOf}
-use Rattle.pages.specs.Claim.{lineAt, readNumber, readRow, LinesLong, ReadsBack, RunsReadBack}
+use Rattle.pages.specs.Page.{payeeText, heightText, texts, lineTexts, pageOf, pageAnswer}
+use Rattle.pages.specs.Claim.{lineAt, readNumber, readRow, LinesLong, ReadsBack, RunsReadBack, PageWritten, PageAnswered, PageAnswers}
 use Rattle.pages.proofs.Lines.{line-length}
+use Rattle.pages.proofs.Pages.{page-size}
+use Rattle.position.proofs.Passing.{passed-on, not-passed-on, written, not-written}
 use Rattle.runs.proofs.Runs.{ran-fit}
 use Rattle.moves.proofs.Wellformeds.{wellformed-run}
 use Rattle.pages.proofs.Rows.{low, low-bytes, low-most, low-below, status-few, lines-readable, read-line}
@@ -63,3 +72,72 @@ pub runs-read-back : RunsReadBack
 runs-read-back s u j z t l =
     let k = ran-fit s u j (run s u j) refl z .checked in
     reads-back s u (run s u j .position) (k .sized .few) (wellformed-run s u k j) t l
+
+-- The same of what the call answers.
+module _ (s u j out : List ℕ) where
+  abbrev page : List ℕ
+  page = pageOf (count s) (printedLine s u (run s u j .position))
+
+  size : run s u j .refusal ≡ accepted → length page ≡ 73 * suc (count s)
+  size z = page-size s u j (ran-fit s u j (run s u j) refl z)
+
+  -- the page at the front of a buffer that has room for it
+  module _ (z : run s u j .refusal ≡ accepted) (room : 73 * suc (count s) ≤ length out) where
+    few : count s ≤ 32
+    few = ran-fit s u j (run s u j) refl z .checked .sized .few
+
+    whole : over page out ≡ page ++ drop (length page) out
+    whole = rw zero-add at (sym (stores-over page out) ∙ sets-eq page out 0 (omega (arith, size z)))
+
+    -- a line of the page is that line of the buffer
+    line-kept : (i : ℕ) → i ≤ count s → lineAt (over page out) i ≡ lineAt page i
+    unfolding lineAt
+    line-kept i l =
+        let fits : 73 * suc i ≤ 73 * suc (count s) = mul-le-mul-left 73 (omega arith) in
+        rw whole
+        (ap (λ r. take 73 r) (drop-append-le (73 * i) page (drop (length page) out) (omega (arith, size z)))
+        ∙ take-append-le 73 (drop (73 * i) page) (drop (length page) out) (omega (arith, size z, length-drop (73 * i) page)))
+
+    page-written : PageWritten s u j out (over page out)
+    page-written =
+        record {
+          unrefused = z;
+          bytes = rw (← size z) (take-over page out (omega (arith, size z)));
+          lines-long = λ i l. ap length (line-kept i l) ∙ lines-long s u (run s u j .position) few i l;
+          reads-back = λ t l. rw (line-kept (suc t) l) (runs-read-back s u j z t l);
+          beyond = rw (whole, drop-at page (drop (length page) out) (73 * suc (count s)) (size z), size z);
+          long = length-over page out;
+        }
+
+  -- the run is refused, or the page has no room, or it is written
+  abbrev Answers : Written → Type 0
+  Answers w = PageAnswered s u j out (w .refusal) (w .buffer)
+
+  by-run : eqb (run s u j .refusal) accepted ≡ false → Answers (pageAnswer s u j out)
+  unfolding pageAnswer
+  by-run y =
+      rw (not-passed-on (run s u j) page out 0 y)
+      (record { number = rw y; written = λ z. absurd (eqb-false (run s u j .refusal) accepted y z); refused = λ f. refl })
+
+  by-room : eqb (run s u j .refusal) accepted ≡ true → length out < 73 * suc (count s) → Answers (pageAnswer s u j out)
+  unfolding pageAnswer
+  by-room y l =
+      let long = size (eqb-true (run s u j .refusal) accepted y) in
+      rw (passed-on (run s u j) page out 0 y ∙ not-written page out 0 (lt-leb (length page) (length out) (omega (arith, long))))
+      (record { number = rw (y, lt-ltb (length out) (73 * suc (count s)) l); written = λ z. absurd (eqb-false bufferShort accepted refl z); refused = λ f. refl })
+
+  by-page : eqb (run s u j .refusal) accepted ≡ true → 73 * suc (count s) ≤ length out → Answers (pageAnswer s u j out)
+  unfolding pageAnswer
+  by-page y l =
+      let z = eqb-true (run s u j .refusal) accepted y in
+      rw (passed-on (run s u j) page out 0 y ∙ written page out 0 (le-leb (length page) (length out) (omega (arith, size z))))
+      (record { number = rw (y, le-ltb (length out) (73 * suc (count s)) l, z); written = λ f. page-written z l; refused = λ f. absurd (f refl) })
+
+pub page-answers : PageAnswers
+page-answers s u j out =
+    split (eqb (run s u j .refusal) accepted)
+    (λ y.
+    split (ltb (length out) (73 * suc (count s)))
+    (λ l. by-room s u j out y (ltb-true (length out) (73 * suc (count s)) l))
+    (λ l. by-page s u j out y (ltb-false (length out) (73 * suc (count s)) l)))
+    (by-run s u j out)

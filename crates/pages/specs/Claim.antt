@@ -3,15 +3,16 @@
 -- Assumes nothing.
 use Prim.Native.Nat.{ℕ, suc, _+_, _-_, _*_, _≤_, _<_}
 use mathlib.Core.Path.{_≡_}
+use mathlib.Core.Bool.{_&&_}
 use mathlib.Core.List.{List, [], _∷_, _++_}
-use lib.Dec.{eqb}
+use lib.Dec.{eqb, ltb}
 use lib.ListN.{length, getD, take, drop}
 use Rattle.laws.specs.Booleans.{pick}
 use Rattle.laws.specs.Little.{bytesOf}
 use Rattle.laws.specs.Same.{same}
 use Rattle.sheet.specs.Field.{count}
 use Rattle.sheet.specs.LockHeight.{never}
-use Rattle.sheet.specs.Refusal.{accepted}
+use Rattle.sheet.specs.Refusal.{accepted, bufferShort}
 use Rattle.slots.specs.Destination.{alice, bob, carol, contract}
 use Rattle.position.specs.declared.Position.{Position}
 use Rattle.position.specs.Play.{run}
@@ -19,7 +20,7 @@ use Rattle.position.specs.Report.{unconfirmed, row}
 use Rattle.position.specs.Printed.{printedLine}
 use Rattle.moves.specs.Wellformed.{Wellformed}
 use Rattle.pages.specs.Line.{blank}
-use Rattle.pages.specs.Page.{aliceText, bobText, carolText, contractText, neverText, pageOf}
+use Rattle.pages.specs.Page.{aliceText, bobText, carolText, contractText, neverText, pageOf, pageAnswer}
 
 -- "lines of exactly 72 characters and a line feed": line i of a page
 unfoldable pub lineAt : List ℕ → ℕ → List ℕ
@@ -81,3 +82,25 @@ RunsReadBack =
     (s u j : List ℕ) → run s u j .refusal ≡ accepted → (t : ℕ) → t < count s
     → let p = run s u j .position in
     let line = lineAt (pageOf (count s) (printedLine s u p)) (suc t) in (readNumber line ≡ t) × (readRow line ≡ row s u p t)
+
+-- The same of what the call leaves in its buffer where it answers 0: the journal is accepted, the page stands at the front, and "Bytes
+-- after the output keep their values."
+pub record PageWritten (s u j out buffer : List ℕ) : Type 0 where
+  pub unrefused : run s u j .refusal ≡ accepted
+  pub bytes : take (73 * suc (count s)) buffer ≡ pageOf (count s) (printedLine s u (run s u j .position))
+  pub lines-long : (i : ℕ) → i ≤ count s → length (lineAt buffer i) ≡ 73
+  pub reads-back : (t : ℕ) → t < count s → (readNumber (lineAt buffer (suc t)) ≡ t) × (readRow (lineAt buffer (suc t)) ≡ row s u (run s u j .position) t)
+  pub beyond : drop (73 * suc (count s)) buffer ≡ drop (73 * suc (count s)) out
+  pub long : length buffer ≡ length out
+
+-- what an answer, a number and a buffer afterwards, is to be
+pub record PageAnswered (s u j out : List ℕ) (refusal : ℕ) (buffer : List ℕ) : Type 0 where
+  -- the run's number, or 25 where that is 0 and the page, a header and a line for each transaction, has no room
+  pub number : refusal ≡ pick (eqb (run s u j .refusal) accepted && ltb (length out) (73 * suc (count s))) bufferShort (run s u j .refusal)
+  pub written : refusal ≡ accepted → PageWritten s u j out buffer
+  -- "a refusal changes no buffer"
+  pub refused : (refusal ≡ accepted → ⊥) → buffer ≡ out
+
+-- what the call answers, for every input and buffer
+abbrev pub PageAnswers : Type 0
+PageAnswers = (s u j out : List ℕ) → let answer = pageAnswer s u j out in PageAnswered s u j out (answer .refusal) (answer .buffer)
