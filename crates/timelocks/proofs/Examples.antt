@@ -17,6 +17,10 @@ use Rattle.timelocks.proofs.Opened.{opened}
 final-value : (final ≡ 16 ^ 8 - 1) × (4294967294 ≡ 16 ^ 8 - 2)
 final-value = (refl, refl)
 
+-- "The transaction version must be 2": neither 1 nor 3; and the two numbers are the given ones, in this order
+boxed-fields : (boxed 5 7 .version ≡ 2) × (boxed 5 7 .lockTime ≡ 5) × (boxed 5 7 .sequence ≡ 7)
+boxed-fields = (refl, refl, refl)
+
 -- a block at height 800,000, its median time past in 2023
 block : Block
 block = record { height = 800000; time = 1690000000 }
