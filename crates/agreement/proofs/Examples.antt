@@ -1,11 +1,12 @@
 -- What the claim's words come to on the SASwap sheet, computed: where Bob is paid from coin A and Alice from coin B, where it is the
 -- other way round, and where nobody is paid.
 -- Assumes nothing.
-use Prim.Native.Nat.{ℕ}
+use Prim.Native.Nat.{ℕ, _<_}
+use native.Mathlib.Omega.{arith}
 use mathlib.Core.Path.{_≡_, refl}
-use mathlib.Core.Bool.{Bool, true, not, _&&_}
+use mathlib.Core.Bool.{Bool, true, not, _&&_, false≢true}
 use mathlib.Core.List.{List, [], _∷_, _++_, flatMap}
-use lib.Dec.{eqb}
+use lib.Dec.{eqb, lit<}
 use lib.ListN.{length, replicate}
 use Rattle.laws.specs.Booleans.{pick}
 use Rattle.laws.specs.Gather.{gather, every}
@@ -16,13 +17,19 @@ use Rattle.slots.specs.Destination.{alice, bob, contract}
 use Rattle.ledger.specs.Entry.{Entry}
 use Rattle.ledger.specs.Coin.{nobody}
 use Rattle.ledger.specs.Ledger.{ledgerHolder}
-use Rattle.steps.specs.Names.{lockA, lockB, spendA, spendB}
+use Rattle.slots.specs.Slot.{withConfirmed}
+use Rattle.steps.specs.Names.{lockA, lockB, success, refund1, spendA, spendB}
+use Rattle.position.specs.declared.Position.{Position}
+use Rattle.position.specs.Position.{start, blockOf}
+use Rattle.position.specs.Effect.{changeSlot}
 use Rattle.position.specs.Play.{journalSteps}
 use Rattle.readings.specs.Holder.{isPayout, isPayoutTo}
 use Rattle.readings.specs.Reported.{reportedHolder}
 use Rattle.position.specs.Holder.{holderIn}
 use Rattle.dated.proofs.OpenedRules.{opened-dated}
 use Rattle.agreement.specs.Claim.{entriesOf, booksOf, positionOf, reportOf, reportedBytes}
+use Rattle.agreement.specs.Once.{OpenedOnce, SpentOnce, SpentAfter, NoEarlyLock}
+use Rattle.agreement.proofs.Tested.{apart, openBoth, spendBoth, parentAt, behind, opened-by, spent-by, after-by, after-says, locks-by}
 
 -- 3 blocks per day, open, stealth 0
 abbrev sheet : List ℕ
@@ -136,3 +143,82 @@ examples =
 pub all-hold : every holds examples ≡ true
 unfolding opened-dated reads holds examples
 all-hold = refl
+
+-- ---- the words of `Once`, where each is true and where it is not
+abbrev entry : ℕ → ℕ → ℕ → Entry
+entry t destination b = record { transaction = t; destination = destination; block = b }
+
+-- lock_A and lock_B, then spend_A and spend_B in one block
+abbrev spends : List Entry
+spends = entry lockA contract 1 ∷ entry lockB contract 2 ∷ entry spendA bob 3 ∷ entry spendB alice 3 ∷ []
+
+-- no coin is opened twice: spend_A is of the coin that lock_A opens, but opens none
+pub opened-once : OpenedOnce sheet spends
+unfolding opened-dated apart openBoth
+opened-once = opened-by sheet spends refl
+
+-- lock_A in two blocks
+pub opened-twice : OpenedOnce sheet (entry lockA contract 1 ∷ entry lockA contract 2 ∷ []) → ⊥
+unfolding opened-dated
+opened-twice h =
+    let z : _≡_ {A = ℕ} 0 1 = h 0 1 (entry lockA contract 1) (entry lockA contract 2) refl refl refl refl refl in omega arith
+
+-- no output is spent twice: lock_A and lock_B have no parent, so spend none
+pub spent-once : SpentOnce sheet spends
+unfolding opened-dated apart spendBoth
+spent-once = spent-by sheet spends refl
+
+-- lock_A's output by success and by refund_1, and by spend_A in two blocks
+pub spent-by-rivals : SpentOnce sheet (entry lockA contract 1 ∷ entry success contract 2 ∷ entry refund1 contract 4 ∷ []) → ⊥
+unfolding opened-dated
+spent-by-rivals h =
+    let z : _≡_ {A = ℕ} 1 2 = h 1 2 (entry success contract 2) (entry refund1 contract 4) refl refl refl refl in omega arith
+
+pub spent-twice : SpentOnce sheet (entry lockA contract 1 ∷ entry spendA bob 2 ∷ entry spendA alice 3 ∷ []) → ⊥
+unfolding opened-dated
+spent-twice h =
+    let z : _≡_ {A = ℕ} 1 2 = h 1 2 (entry spendA bob 2) (entry spendA alice 3) refl refl refl refl in omega arith
+
+-- every spend stands behind its parent, in a later block or in the same
+pub spent-after : (SpentAfter sheet spends) × (SpentAfter sheet (entry lockA contract 1 ∷ entry spendA bob 1 ∷ []))
+unfolding opened-dated behind parentAt
+spent-after = (after-by sheet spends refl, after-by sheet (entry lockA contract 1 ∷ entry spendA bob 1 ∷ []) refl)
+
+-- behind another transaction only; before its parent; behind it, but in an earlier block
+pub spent-alone : SpentAfter sheet (entry lockB contract 1 ∷ entry spendA bob 1 ∷ []) → ⊥
+unfolding opened-dated behind parentAt
+spent-alone h = false≢true (after-says sheet (entry lockB contract 1 ∷ entry spendA bob 1 ∷ []) h 1 (lit< tt))
+
+pub spent-before : SpentAfter sheet (entry spendA bob 1 ∷ entry lockA contract 1 ∷ []) → ⊥
+unfolding opened-dated behind parentAt
+spent-before h = false≢true (after-says sheet (entry spendA bob 1 ∷ entry lockA contract 1 ∷ []) h 0 (lit< tt))
+
+pub spent-early : SpentAfter sheet (entry lockA contract 2 ∷ entry spendA bob 1 ∷ []) → ⊥
+unfolding opened-dated behind parentAt
+spent-early h = false≢true (after-says sheet (entry lockA contract 2 ∷ entry spendA bob 1 ∷ []) h 1 (lit< tt))
+
+-- refund_1, whose lock height is 3, in block 4: Bob shares it, and Alice sends it at 3 blocks
+abbrev refunded : List ℕ
+refunded =
+    3 ∷ 0 ∷ 0 ∷ 2
+    ∷ 5 ∷ 2 ∷ 0 ∷ 2
+    ∷ 6 ∷ 2 ∷ 255 ∷ 2
+    ∷ 1 ∷ 1 ∷ 3 ∷ 2
+    ∷ 6 ∷ 2 ∷ 255 ∷ 2
+    ∷ 6 ∷ 2 ∷ 255 ∷ 2
+    ∷ 3 ∷ 0 ∷ 3 ∷ 2
+    ∷ 5 ∷ 2 ∷ 3 ∷ 2
+    ∷ 6 ∷ 2 ∷ 255 ∷ 2
+    ∷ []
+
+pub lock-reached : (NoEarlyLock sheet setup (positionOf sheet setup (journalSteps refunded))) × (blockOf (positionOf sheet setup (journalSteps refunded)) refund1 ≡ 4)
+unfolding opened-dated
+lock-reached = (locks-by sheet setup (positionOf sheet setup (journalSteps refunded)) refl, refl)
+
+-- the same in block 3
+abbrev tooEarly : Position
+tooEarly = changeSlot refund1 (withConfirmed 3 3) (start sheet)
+
+pub lock-early : NoEarlyLock sheet setup tooEarly → ⊥
+unfolding opened-dated
+lock-early h = let z : 3 < 3 = h refund1 (lit< tt) refl in omega arith

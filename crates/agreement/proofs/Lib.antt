@@ -19,4 +19,5 @@ pub mod KeptAt
 pub mod Once
 pub mod Agreed
 pub mod Theorems
+pub mod Tested
 pub mod Examples
