@@ -8,4 +8,5 @@ pub mod Causes
 pub mod Empty
 pub mod EmptyChain
 pub mod Theorems
+pub mod Tested
 pub mod Examples
