@@ -10,5 +10,5 @@ pub mod Reach
 pub mod Overtake
 pub mod Verdicts
 pub mod Read
-pub mod Examples
 pub mod Theorems
+pub mod Examples
