@@ -31,7 +31,7 @@ use Rattle.earliestclaims.specs.Words.{ConfirmsTo}
 use Rattle.earliestclaims.proofs.Tested.{goesAt, goes, confirms-by, confirms-says, no-cause}
 
 -- two coins: 0 and 1 open them; 2 pays Alice and 3 Bob, rivals below 0; 4 spends 1, and 5 pays either below it
-abbrev sheet : List ℕ
+abbrev pub sheet : List ℕ
 sheet =
     6 ∷ 1 ∷ 0 ∷ 1 ∷ 1
     ∷ 255 ∷ 0 ∷ 1 ∷ 0
@@ -44,11 +44,11 @@ sheet =
     ∷ 0 ∷ 0 ∷ 0 ∷ 0 ∷ 0 ∷ 0 ∷ 1 ∷ 2 ∷ 2 ∷ 1 ∷ 0 ∷ 0
     ∷ []
 
-abbrev setup : List ℕ
+abbrev pub setup : List ℕ
 setup = 2 ∷ 0 ∷ 0 ∷ 0 ∷ []
 
 -- a destination in four bytes, and an entry
-abbrev to : ℕ → List ℕ
+abbrev pub to : ℕ → List ℕ
 to d = d ∷ 0 ∷ 0 ∷ 0 ∷ []
 
 abbrev at : ℕ → ℕ → ℕ → List ℕ

@@ -10,3 +10,4 @@ pub mod EmptyChain
 pub mod Theorems
 pub mod Tested
 pub mod Examples
+pub mod WordExamples
