@@ -7,3 +7,4 @@ pub mod Lists
 pub mod Words
 pub mod Examples
 pub mod Theorems
+pub mod Exception

@@ -1,0 +1,38 @@
+-- The exception comes to this: there are two journals to positions that differ in the block alone, after which Bob has other open steps of
+-- kind 3, and one of these steps other numbers. So the claim would be false of careful conduct with stealth.
+-- Assumes nothing.
+use Prim.Native.Nat.{ℕ}
+use native.Mathlib.Omega.{arith}
+use mathlib.Core.Path.{_≡_, refl, sym, ap, _∙_}
+use mathlib.Core.List.{List, [], _∷_, flatMap}
+use lib.ListN.{length}
+use Rattle.sheet.specs.Refusal.{accepted}
+use Rattle.sheet.specs.Saswap.{saswap}
+use Rattle.slots.specs.Destination.{bob}
+use Rattle.steps.specs.Decode.{stepBytes}
+use Rattle.position.specs.Play.{step, run}
+use Rattle.position.specs.Open.{openOf}
+use Rattle.position.proofs.Opened.{opened}
+use Rattle.handins.specs.Claim.{BlockApart}
+use Rattle.handins.specs.Excepted.{careful3, waiting, handedIn, after, sendSuccess}
+use Rattle.handins.proofs.Theorems.{careful-excepted}
+
+-- before success is handed in, Bob may send it to the pool
+sent-first : step (saswap 3) careful3 (after waiting) sendSuccess .refusal ≡ accepted
+unfolding opened
+sent-first = refl
+
+pub careful-seen : (j k : List ℕ) × (run (saswap 3) careful3 k .refusal ≡ accepted) × BlockApart (after j) (after k)
+    × (openOf (saswap 3) careful3 (after j) bob 3 ≡ openOf (saswap 3) careful3 (after k) bob 3 → ⊥)
+    × (step (saswap 3) careful3 (after j) sendSuccess .refusal ≡ step (saswap 3) careful3 (after k) sendSuccess .refusal → ⊥)
+careful-seen =
+    let x = careful-excepted in (
+      waiting,
+      handedIn,
+      x .runs,
+      x .apart,
+      λ e.
+          let z = ap (length {A = ℕ}) (sym (x .open-first) ∙ ap (flatMap stepBytes) e ∙ x .open-then) in
+          omega (arith, z),
+      λ e. let z = sym sent-first ∙ e ∙ x .refused-then in omega (arith, z),
+    )
