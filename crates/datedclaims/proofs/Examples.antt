@@ -1,13 +1,16 @@
 -- What open, the counts and the claims' words mean, by computed examples on both sides.
 -- Assumes nothing.
 use Prim.Native.Nat.{ℕ}
-use mathlib.Core.Path.{_≡_, refl}
+use native.Mathlib.Omega.{arith}
+use mathlib.Core.Path.{_≡_, refl, ap}
 use mathlib.Core.Bool.{Bool, true, false}
 use mathlib.Core.List.{List, [], _∷_, _++_}
 use lib.ListN.{length}
+use Rattle.laws.specs.Booleans.{clash}
 use Rattle.sheet.specs.LockHeight.{never}
 use Rattle.sheet.specs.Saswap.{saswap}
 use Rattle.steps.specs.Names.{lockA, lockB, success, revoke, refund1, spendA}
+use Rattle.position.specs.declared.Position.{Position}
 use Rattle.position.specs.Position.{start, isConfirmed}
 use Rattle.position.specs.Play.{journalSteps}
 use Rattle.readings.specs.Reported.{reportedCount}
@@ -15,7 +18,8 @@ use Rattle.dated.specs.Opens.{opens}
 use Rattle.dated.specs.Dated.{countOf, datedRun}
 use Rattle.dated.specs.Report.{rowsOf}
 use Rattle.dated.proofs.OpenedRules.{opened-dated}
-use Rattle.datedclaims.specs.Claim.{along}
+use Rattle.datedclaims.specs.Claim.{SameButCounts, along, Cause, never-open, open-in, Least}
+use Rattle.datedclaims.proofs.Theorems.{first-open}
 
 -- P10: its sheet, its setup, its journal
 abbrev p10 : List ℕ
@@ -85,3 +89,33 @@ positions : (length (along p10 daily (journalSteps (first-block ++ payout)) (sta
     × (length (along p10 daily (journalSteps (payout ++ first-block)) (start p10)) ≡ 1)
 unfolding opened-dated along
 positions = (refl, refl)
+
+-- ---- the words of the claim
+-- the count that it speaks of is one number: two that are the least are the same
+by-cause : {s u : List ℕ} {t c d : ℕ} {ps : List Position} → Least s u t ps c → Least s u t ps d → Cause s u t ps c → Cause s u t ps d → c ≡ d
+by-cause x y (never-open e h) (never-open f k) = omega (arith, e, f)
+by-cause x y (never-open e h) (open-in q m o f) = clash o (h q m)
+by-cause x y (open-in q m o e) (never-open f k) = clash o (k q m)
+by-cause x y (open-in q m o e) (open-in r n w f) = omega (arith, e, f, x .least r n w, y .least q m o)
+
+pub one-number : {s u : List ℕ} {t c d : ℕ} {ps : List Position} → Least s u t ps c → Least s u t ps d → c ≡ d
+one-number x y = by-cause x y (x .cause) (y .cause)
+
+-- of P10's payout it is 1 after the first block, and neither 0 nor 2147483647
+abbrev first-positions : List Position
+first-positions = along p10 daily (journalSteps first-block) (start p10)
+
+pub payout-least : Least p10 daily 1 first-positions 1
+unfolding opened-dated
+payout-least = first-open p10 daily first-block refl 1 (omega arith)
+
+pub payout-no-other : (Least p10 daily 1 first-positions 0 → ⊥) × (Least p10 daily 1 first-positions never → ⊥)
+payout-no-other = (λ x. let e = one-number payout-least x in omega (arith, e), λ x. let e = one-number payout-least x in omega (arith, e))
+
+-- positions differ in their counts alone where these differ, and not where a block more is mined
+pub counts-apart : SameButCounts (record { position = start p10; opened = [] }) (record { position = start p10; opened = 0 ∷ [] })
+counts-apart = refl
+
+pub blocks-apart : SameButCounts (datedRun p10 daily [] .dated) (datedRun p10 daily first-block .dated) → ⊥
+unfolding opened-dated
+blocks-apart e = let z : _≡_ {A = ℕ} 0 1 = ap (λ (p : Position). p .mined) e in omega (arith, z)

@@ -1,19 +1,24 @@
 -- The exception comes to this: there are two journals to positions that differ in the block alone, after which Bob has other open steps of
--- kind 3, and one of these steps other numbers. So the claim would be false of careful conduct with stealth.
+-- kind 3, and one of these steps other numbers. So the claim would be false of careful conduct with stealth. And where its words are false.
 -- Assumes nothing.
 use Prim.Native.Nat.{ℕ}
 use native.Mathlib.Omega.{arith}
 use mathlib.Core.Path.{_≡_, refl, sym, ap, _∙_}
-use mathlib.Core.List.{List, [], _∷_, flatMap}
+use mathlib.Core.Bool.{true, false, false≢true}
+use mathlib.Core.Logic.{inl, inr}
+use mathlib.Core.List.{List, [], _∷_, _++_, flatMap}
 use lib.ListN.{length}
 use Rattle.sheet.specs.Refusal.{accepted}
 use Rattle.sheet.specs.Saswap.{saswap}
 use Rattle.slots.specs.Destination.{bob}
+use Rattle.steps.specs.Names.{success}
 use Rattle.steps.specs.Decode.{stepBytes}
+use Rattle.position.specs.declared.Position.{Position}
+use Rattle.position.specs.Position.{inPool}
 use Rattle.position.specs.Play.{step, run}
 use Rattle.position.specs.Open.{openOf}
 use Rattle.position.proofs.Opened.{opened}
-use Rattle.handins.specs.Claim.{BlockApart}
+use Rattle.handins.specs.Claim.{emptied, BlockApart, Unwatched}
 use Rattle.handins.specs.Excepted.{careful3, waiting, handedIn, after, sendSuccess}
 use Rattle.handins.proofs.Theorems.{careful-excepted}
 
@@ -36,3 +41,13 @@ careful-seen =
           omega (arith, z),
       λ e. let z = sym sent-first ∙ e ∙ x .refused-then in omega (arith, z),
     )
+
+-- the words of the claim where they are false: a pool entry is more than a difference in the block; careful conduct with stealth is watched
+pub pool-apart : BlockApart (after waiting) (run (saswap 3) careful3 (waiting ++ (3 ∷ 1 ∷ 2 ∷ 2 ∷ [])) .position) → ⊥
+unfolding opened emptied
+pool-apart e = let z : false ≡ true = ap (λ (p : Position). inPool p success) e in false≢true z
+
+pub watched : Unwatched careful3 → ⊥
+unfolding opened
+watched (inl l) = omega (arith, l)
+watched (inr e) = let z : _≡_ {A = ℕ} 1 0 = e in omega (arith, z)

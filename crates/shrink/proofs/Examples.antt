@@ -6,7 +6,7 @@ use mathlib.Core.Path.{_≡_, refl}
 use mathlib.Core.Bool.{true, false}
 use mathlib.Core.List.{List, [], _∷_, _++_}
 use lib.Dec.{lit<}
-use lib.ListN.{take, replicate}
+use lib.ListN.{length, take, replicate}
 use Rattle.laws.specs.Failing.{firstFailing}
 use Rattle.sheet.specs.Refusal.{accepted, setupBlocks, stepField, stepConflict, journalLength, bufferShort}
 use Rattle.position.specs.Position.{start}
@@ -146,6 +146,12 @@ unrefused = refl
 is-few : WroteFew p10 setup (journalBytes paidTwice) (shrinkAnswer p10 setup (journalBytes paidTwice) (replicate 20 7))
 unfolding shrinking
 is-few = few-written p10 setup (journalBytes paidTwice) (replicate 20 7) refl
+
+-- five steps, in the bytes written
+few-says : (w : WroteFew p10 setup (journalBytes paidTwice) (shrinkAnswer p10 setup (journalBytes paidTwice) (replicate 20 7)))
+    → (5 ≡ length (w .part)) × (journalBytes few ≡ journalBytes (w .part))
+unfolding shrinking
+few-says w = (w .count, w .bytes)
 
 -- the whole front of the journal is not: its share can go
 can-go : RunsUpTo p10 setup stepConflict (without 0 (take 7 paidTwice))
