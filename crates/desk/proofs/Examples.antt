@@ -2,11 +2,11 @@
 -- Assumes nothing.
 use Prim.Native.Nat.{ℕ, zero, suc, _+_, _*_, _≤_, _<_}
 use native.Mathlib.Omega.{arith}
-use mathlib.Core.Path.{_≡_, refl}
+use mathlib.Core.Path.{_≡_, refl, ap}
 use mathlib.Core.Bool.{true, false}
 use mathlib.Core.Logic.{_⊎_, inl, inr}
 use mathlib.Core.List.{List, [], _∷_, _++_}
-use lib.ListN.{replicate, set, length-set}
+use lib.ListN.{length, getD, replicate, set, length-set}
 use lib.Seq.{getD-set-other}
 use Rattle.laws.specs.Booleans.{either}
 use Rattle.laws.specs.Sum.{sumBelow}
@@ -16,7 +16,7 @@ use Rattle.desk.specs.Refusal.{bundleLayout}
 use Rattle.desk.specs.Bundle.{swaps, setupOf, lengthOf, journals, startOf, journalOf, addsUp, bundleRight}
 use Rattle.desk.specs.Desk.{swapRun, entryBytes, swapBytes, deskBytes, deskTests, deskAnswer}
 use Rattle.desk.specs.Claim.{numberOf, countOf, SwapApart, Reordered}
-use Rattle.desk.specs.Layout.{bundleOf}
+use Rattle.desk.specs.Layout.{bundleOf, Fitting}
 
 -- every definition of this crate that a computed proof opens
 desks : Unit {0}
@@ -181,6 +181,15 @@ is-turned =
       journals = below-three (λ k. journalOf turned k ≡ journalOf three (from k)) refl refl refl;
     }
 
+-- not in their own places: other setups, and other journals
+not-turned : Reordered three turned (λ k. k) → ⊥
+unfolding desks
+not-turned r = let z : _≡_ {A = ℕ} 1 0 = ap (λ l. getD l 0 0) (r .setups 0 (omega arith)) in omega (arith, z)
+
+not-turned-either : Reordered three turned (λ k. k) → ⊥
+unfolding desks
+not-turned-either r = let z : _≡_ {A = ℕ} 4 8 = ap (length {A = ℕ}) (r .journals 1 (omega arith)) in omega (arith, z)
+
 turned-answered : deskAnswer p10 turned (buffer 24) .buffer
     ≡ 0 ∷ 0 ∷ 0 ∷ 0 ∷ 1 ∷ 0 ∷ 0 ∷ 0 ∷ 9 ∷ 0 ∷ 0 ∷ 0 ∷ 0 ∷ 0 ∷ 0 ∷ 0 ∷ 14 ∷ 0 ∷ 0 ∷ 0 ∷ 1 ∷ 0 ∷ 0 ∷ 0 ∷ []
 unfolding desks
@@ -196,7 +205,13 @@ is-laid-out : bundleOf
 unfolding desks bundleOf
 is-laid-out = refl
 
--- a setup of five bytes does not stand in a bundle
+-- a swap that can stand in a bundle, and a setup of five bytes, which does not
+is-fitting : Fitting (record { setup = 1 ∷ 0 ∷ 0 ∷ 0 ∷ []; journal = send })
+is-fitting = record { setup-size = refl; journal-size = omega arith }
+
+not-fitting : Fitting (record { setup = 1 ∷ 0 ∷ 0 ∷ 0 ∷ 0 ∷ []; journal = send }) → ⊥
+not-fitting f = omega (arith, f .setup-size)
+
 five-bytes : bundleRight (bundleOf (record { setup = 1 ∷ 0 ∷ 0 ∷ 0 ∷ 0 ∷ []; journal = send } ∷ [])) ≡ false
 unfolding desks bundleOf
 five-bytes = refl
