@@ -5,8 +5,9 @@ use native.Mathlib.Omega.{arith}
 use mathlib.Core.Path.{_≡_, refl, ap}
 use mathlib.Core.Bool.{true, false}
 use mathlib.Core.List.{List, [], _∷_, _++_}
-use lib.ListN.{getD}
+use lib.ListN.{length, getD, take, drop}
 use Rattle.sheet.specs.Refusal.{accepted, setupBlocks, stepField, stepConflict, journalLength, bufferShort}
+use Rattle.position.specs.Play.{run}
 use Rattle.position.proofs.Opened.{opened}
 use Rattle.asks.specs.Refusal.{countStale}
 use Rattle.asks.specs.Ask.{lengthRight, openTests, openRun, stepCount, stepOf, stepNumber, askTests, askAnswer}
@@ -147,6 +148,16 @@ is-passed = passed p10 setup include 1 lent 4 refl
 -- bytes that stay as they were, or another step, are no commit that passed
 not-passed : Passed p10 setup include 1 lent 4 lent → ⊥
 not-passed w = omega (arith, ap (λ l. getD l 4 0) (w .journal))
+
+-- what it says of any buffer afterwards: the step behind the first, two steps accepted, the ninth byte kept
+passed-says : (after : List ℕ) → Passed p10 setup include 1 lent 4 after
+    → (take 8 after ≡ send ++ include) × (run p10 setup (take 8 after) .accepted ≡ 2) × (drop 8 after ≡ 7 ∷ []) × (length after ≡ 9)
+passed-says after w = (w .journal, w .longer, w .beyond, w .long)
+
+-- it is said of no other count
+not-counted : (after : List ℕ) → Passed p10 setup include 0 lent 4 after → ⊥
+unfolding dealt
+not-counted after w = let z : _≡_ {A = ℕ} 1 0 = w .counted in omega (arith, z)
 
 is-open : Open p10 setup send include
 unfolding dealt
