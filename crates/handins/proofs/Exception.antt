@@ -15,22 +15,24 @@ use Rattle.steps.specs.Names.{success}
 use Rattle.steps.specs.Decode.{stepBytes}
 use Rattle.position.specs.declared.Position.{Position}
 use Rattle.position.specs.Position.{inPool}
-use Rattle.position.specs.Play.{step, run}
+use Rattle.position.specs.Play.{run}
 use Rattle.position.specs.Open.{openOf}
 use Rattle.position.proofs.Opened.{opened}
-use Rattle.handins.specs.Claim.{emptied, BlockApart, Unwatched}
+use Rattle.dated.specs.Dated.{firstOpen, noted, unseen, datedStart, datedStep, datedRunFrom, datedRun}
+use Rattle.dated.specs.Opens.{atHand, opens}
+use Rattle.handins.specs.Claim.{emptied, BlockApart, DatedApart, Unwatched}
 use Rattle.handins.specs.Excepted.{careful3, waiting, handedIn, after, sendSuccess}
 use Rattle.handins.proofs.Theorems.{careful-excepted}
 
 -- before success is handed in, Bob may send it to the pool
-sent-first : step (saswap 3) careful3 (after waiting) sendSuccess .refusal ≡ accepted
-unfolding opened
+sent-first : datedStep (saswap 3) careful3 (after waiting) sendSuccess .refusal ≡ accepted
+unfolding opened datedRun datedRunFrom datedStep datedStart noted firstOpen opens atHand unseen
 sent-first = refl
 
-pub careful-seen : (j k : List ℕ) × (run (saswap 3) careful3 k .refusal ≡ accepted) × BlockApart (after j) (after k)
-    × (openOf (saswap 3) careful3 (after j) bob 3 ≡ openOf (saswap 3) careful3 (after k) bob 3 → ⊥)
-    × (step (saswap 3) careful3 (after j) sendSuccess .refusal ≡ step (saswap 3) careful3 (after k) sendSuccess .refusal → ⊥)
-careful-seen =
+pub exception-seen : (j k : List ℕ) × (datedRun (saswap 3) careful3 k .refusal ≡ accepted) × DatedApart (after j) (after k)
+    × (openOf (saswap 3) careful3 (after j .position) bob 3 ≡ openOf (saswap 3) careful3 (after k .position) bob 3 → ⊥)
+    × (datedStep (saswap 3) careful3 (after j) sendSuccess .refusal ≡ datedStep (saswap 3) careful3 (after k) sendSuccess .refusal → ⊥)
+exception-seen =
     let x = careful-excepted in (
       waiting,
       handedIn,
@@ -43,7 +45,7 @@ careful-seen =
     )
 
 -- the words of the claim where they are false: a pool entry is more than a difference in the block; careful conduct with stealth is watched
-pub pool-apart : BlockApart (after waiting) (run (saswap 3) careful3 (waiting ++ (3 ∷ 1 ∷ 2 ∷ 2 ∷ [])) .position) → ⊥
+pub pool-apart : BlockApart (run (saswap 3) careful3 waiting .position) (run (saswap 3) careful3 (waiting ++ (3 ∷ 1 ∷ 2 ∷ 2 ∷ [])) .position) → ⊥
 unfolding opened emptied
 pool-apart e = let z : false ≡ true = ap (λ (p : Position). inPool p success) e in false≢true z
 

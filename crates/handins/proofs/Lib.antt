@@ -2,6 +2,8 @@ pub mod Emptied
 pub mod Refusals
 pub mod Effects
 pub mod Rows
+pub mod Counts
+pub mod Kept
 pub mod OpenSteps
 pub mod Lists
 pub mod Words

@@ -17,7 +17,7 @@ use Rattle.position.specs.declared.Position.{Position}
 use Rattle.position.specs.declared.Stepped.{Stepped}
 use Rattle.position.specs.StepRefusal.{stepRefusal}
 use Rattle.position.specs.Effect.{effect}
-use Rattle.position.specs.Play.{FourBytes, decodeBytes, takeStep, takeDecoded, step, play, acceptedOf}
+use Rattle.position.specs.Play.{FourBytes, decodeBytes, takeStep, takeDecoded, step, acceptedOf}
 use Rattle.position.proofs.Decoding.{decodes}
 use Rattle.position.proofs.StepCases.{accepts, refuses}
 use Rattle.handins.specs.Early.{earlyKind, early}
@@ -63,15 +63,8 @@ module _ (s u : List ℕ) (w : Unwatched u) where
   pub refused-emptied : (b : FourBytes) → early b ≡ true → (p : Position) → step s u p b .refusal ≡ step s u (emptied p) b .refusal
   refused-emptied b e p = sym (ap (λ (r : Stepped). r .refusal) (step-emptied b e p))
 
-  position-emptied : (b : FourBytes) → early b ≡ true → (p : Position) → step s u (emptied p) b .position ≡ emptied (step s u p b .position)
+  pub position-emptied : (b : FourBytes) → early b ≡ true → (p : Position) → step s u (emptied p) b .position ≡ emptied (step s u p b .position)
   position-emptied b e p = ap (λ (r : Stepped). r .position) (step-emptied b e p)
-
-  pub play-emptied : (bs : List FourBytes) → every early bs ≡ true → (p : Position) → emptied (play s u bs p) ≡ play s u bs (emptied p)
-  unfolding play every
-  play-emptied [] e p = refl
-  play-emptied (b ∷ bs) e p =
-      let h = and-parts (early b) (every early bs) e in
-      rw (position-emptied b (h .0) p) (play-emptied bs (h .1) (step s u p b .position))
 
   pub accepted-emptied : (bs : List FourBytes) → every early bs ≡ true → (p : Position) → acceptedOf s u bs p ≡ acceptedOf s u bs (emptied p)
   unfolding acceptedOf every

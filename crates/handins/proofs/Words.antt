@@ -6,14 +6,20 @@ use mathlib.Core.Bool.{true, false}
 use mathlib.Core.List.{List, [], _∷_, _++_, map}
 use lib.Dec.{eqb}
 use borrow.Author.Tests.{eqb-false}
+use Rattle.laws.specs.Gather.{every}
 use Rattle.sheet.specs.Saswap.{saswap}
+use Rattle.sheet.specs.LockHeight.{never}
 use Rattle.slots.specs.Destination.{bob, contract}
+use Rattle.steps.specs.Names.{success}
 use Rattle.position.specs.declared.Position.{Position}
 use Rattle.position.specs.Position.{slot, blockOf, shared, keys}
-use Rattle.position.specs.Play.{run}
+use Rattle.position.specs.Play.{journalSteps, run}
 use Rattle.position.proofs.Opened.{opened}
-use Rattle.handins.specs.Early.{earlyKind, earlyBytes}
-use Rattle.handins.specs.Claim.{emptied, BlockApart}
+use Rattle.dated.specs.declared.Dated.{Dated}
+use Rattle.dated.specs.Dated.{countOf, datedRun}
+use Rattle.dated.proofs.OpenedRules.{opened-dated}
+use Rattle.handins.specs.Early.{earlyKind, early, earlyBytes}
+use Rattle.handins.specs.Claim.{emptied, emptiedDated, BlockApart, DatedApart, playDated}
 
 -- which of 0 to 8 are kinds 1, 2 and 3
 early-kinds : map earlyKind (0 ∷ 1 ∷ 2 ∷ 3 ∷ 4 ∷ 5 ∷ 6 ∷ 7 ∷ 8 ∷ []) ≡ false ∷ true ∷ true ∷ true ∷ false ∷ false ∷ false ∷ false ∷ false ∷ []
@@ -85,3 +91,47 @@ marks-told = told (λ p. slot p 2 .madea) (played []) (played shares) refl
 keys-told : BlockApart (played []) (played gives) → ⊥
 unfolding opened emptied
 keys-told = told (λ p. keys p bob) (played []) (played gives) refl
+
+-- ---- with the counts
+-- lock_A mined and lock_B handed in, or not; then a row of kinds 1 to 3: sigAlice given to Bob, success shared by Alice, a refused give
+abbrev dated : List ℕ → Dated
+dated j = datedRun (saswap 3) open3 j .dated
+
+abbrev row : List ℕ
+row = gives ++ shares ++ gives
+
+abbrev lockedB : List ℕ
+lockedB = mined ++ (4 ∷ 1 ∷ 1 ∷ 2 ∷ [])
+
+row-early : every early (journalSteps row) ≡ true
+unfolding opened-dated early earlyKind
+row-early = refl
+
+abbrev afterRow : List ℕ → Dated
+afterRow j = playDated (saswap 3) open3 (journalSteps row) (dated j)
+
+-- a position and the same after a hand-in differ in the block alone, their counts are equal, before the row and after it
+handed-dated : DatedApart (dated mined) (dated lockedB) × DatedApart (afterRow mined) (afterRow lockedB)
+unfolding opened-dated emptied emptiedDated playDated
+handed-dated = (refl, refl)
+
+-- the row sets a count, that of success, in both
+row-counts : (countOf (dated lockedB) success ≡ never) × (countOf (afterRow lockedB) success ≡ 1) × (countOf (afterRow mined) success ≡ 1)
+unfolding opened-dated playDated
+row-counts = (refl, refl, refl)
+
+-- and leaves the block entry of lock_B, which stands in one of them
+row-block : (slot (afterRow mined .position) 1 .block ≡ 0) × (slot (afterRow lockedB .position) 1 .block ≡ 3)
+unfolding opened-dated playDated
+row-block = (refl, refl)
+
+-- the same position with another count is told
+counts-told : (d e : Dated) → eqb (countOf (emptiedDated d) 0) (countOf (emptiedDated e) 0) ≡ false → DatedApart d e → ⊥
+counts-told d e h a = eqb-false (countOf (emptiedDated d) 0) (countOf (emptiedDated e) 0) h (ap (λ (r : Dated). countOf r 0) a)
+
+abbrev recounted : Dated → Dated
+recounted d = record { position = d .position; opened = never ∷ [] }
+
+count-told : DatedApart (dated []) (recounted (dated [])) → ⊥
+unfolding opened-dated emptiedDated
+count-told = counts-told (dated []) (recounted (dated [])) refl

@@ -8,10 +8,11 @@ use Rattle.sheet.specs.Saswap.{saswap}
 use Rattle.slots.specs.Destination.{bob, contract}
 use Rattle.steps.specs.Names.{success}
 use Rattle.steps.specs.Decode.{stepBytes}
-use Rattle.position.specs.declared.Position.{Position}
-use Rattle.position.specs.Play.{FourBytes, step, run}
+use Rattle.position.specs.Play.{FourBytes}
 use Rattle.position.specs.Open.{openOf}
-use Rattle.handins.specs.Claim.{BlockApart}
+use Rattle.dated.specs.declared.Dated.{Dated}
+use Rattle.dated.specs.Dated.{datedStep, datedRun}
+use Rattle.handins.specs.Claim.{DatedApart}
 
 -- 3 blocks per day, careful, with stealth
 abbrev pub careful3 : List ℕ
@@ -33,8 +34,8 @@ waiting =
 abbrev pub handedIn : List ℕ
 handedIn = waiting ++ (4 ∷ 1 ∷ 2 ∷ 2 ∷ [])
 
-abbrev pub after : List ℕ → Position
-after j = run (saswap 3) careful3 j .position
+abbrev pub after : List ℕ → Dated
+after j = datedRun (saswap 3) careful3 j .dated
 
 -- Bob sends success to the pool
 abbrev pub sendSuccess : FourBytes
@@ -43,8 +44,8 @@ sendSuccess = record { kind = 3; party = bob; transaction = success; destination
 -- "Careful conduct is excepted: paying first looks at hand-ins too.": behind the success handed in, Bob could hand in spend_success, which
 -- pays him, so he sends no contract transaction
 pub record Excepted : Type 0 where
-  pub runs : run (saswap 3) careful3 handedIn .refusal ≡ accepted
-  pub apart : BlockApart (after waiting) (after handedIn)
-  pub open-first : flatMap stepBytes (openOf (saswap 3) careful3 (after waiting) bob 3) ≡ 3 ∷ 1 ∷ 2 ∷ 2 ∷ []
-  pub open-then : flatMap stepBytes (openOf (saswap 3) careful3 (after handedIn) bob 3) ≡ []
-  pub refused-then : step (saswap 3) careful3 (after handedIn) sendSuccess .refusal ≡ stepConduct
+  pub runs : datedRun (saswap 3) careful3 handedIn .refusal ≡ accepted
+  pub apart : DatedApart (after waiting) (after handedIn)
+  pub open-first : flatMap stepBytes (openOf (saswap 3) careful3 (after waiting .position) bob 3) ≡ 3 ∷ 1 ∷ 2 ∷ 2 ∷ []
+  pub open-then : flatMap stepBytes (openOf (saswap 3) careful3 (after handedIn .position) bob 3) ≡ []
+  pub refused-then : datedStep (saswap 3) careful3 (after handedIn) sendSuccess .refusal ≡ stepConduct
