@@ -64,7 +64,7 @@ module _ (u : List ℕ) (r : setupRefusal (sheet u) u ≡ 0) (c : conduct u ≡ 
   su : SetupChecked (sheet u) u
   su = setup-checked (sheet u) u r
 
-  guarded-effect : (p : Position) (x : Step) → Guarded u p → fieldsRight (sheet u) u x ≡ true → stepRefusal (sheet u) u p x ≡ 0
+  pub guarded-effect : (p : Position) (x : Step) → Guarded u p → fieldsRight (sheet u) u x ≡ true → stepRefusal (sheet u) u p x ≡ 0
       → Guarded u (effect (sheet u) p x)
   guarded-effect p x w f h =
       let next = invariant-next u c (su .blocks-some) (su .blocks-few) p (w .sound) (w .invariant) in

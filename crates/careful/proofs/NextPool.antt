@@ -30,7 +30,7 @@ use Rattle.careful.proofs.Apart.{low, revoke-late, refund1-stands, refu
 
 module _ (u : List ℕ) (p : Position) (g : Sound (sheet u) u p) (j : Invariant u p) where
   -- what pays with both signatures stands only once Alice holds secretBob
-  both-held : (t : ℕ) → BothSign t → Anywhere p t → holds p alice secretBob ≡ true
+  pub both-held : (t : ℕ) → BothSign t → Anywhere p t → holds p alice secretBob ≡ true
   both-held t b w =
       let e = w .0 in
       let r = payee-to (sheet u) t e (both-sign (perDay u) t b .pays) (rightful (sheet u) u p g t e (w .1)) in

@@ -44,15 +44,15 @@ payee-found (suc n) passes payees h =
     (w .0, omega (arith, w .1), w .2, rw y (w .3)))
 
 -- who is paid from a coin is the destination of a confirmed transaction of that coin
-record Paid (s : List ℕ) (p : Position) (party coin : ℕ) : Type 0 where
-  who : isParty s party ≡ true
-  by : ℕ
-  low-by : by < count s
-  of-coin : coinOf s by ≡ coin
-  confirmed : 0 < blockOf p by
-  to : confirmedTo p by ≡ party
+pub record Paid (s : List ℕ) (p : Position) (party coin : ℕ) : Type 0 where
+  pub who : isParty s party ≡ true
+  pub by : ℕ
+  pub low-by : by < count s
+  pub of-coin : coinOf s by ≡ coin
+  pub confirmed : 0 < blockOf p by
+  pub to : confirmedTo p by ≡ party
 
-paid : (s : List ℕ) (p : Position) (party coin : ℕ) → isPayoutTo s (holderIn s p) party coin ≡ true → Paid s p party coin
+pub paid : (s : List ℕ) (p : Position) (party coin : ℕ) → isPayoutTo s (holderIn s p) party coin ≡ true → Paid s p party coin
 unfolding isPayoutTo isPayout holderIn holder endsCoin payee isConfirmed
 paid s p party coin h =
     let held = holderIn s p coin in
@@ -73,11 +73,11 @@ paid s p party coin h =
     }
 
 module _ (u : List ℕ) (one : 0 < perDay u) (p : Position) (g : Sound (sheet u) u p) (j : Invariant u p) where
-  stands : (party coin : ℕ) (w : Paid (sheet u) p party coin) → Stands p (w .by) party
+  pub stands : (party coin : ℕ) (w : Paid (sheet u) p party coin) → Stands p (w .by) party
   stands party coin w = confirmed-stands p (w .by) party (w .confirmed) (w .to)
 
   -- a party is paid by no contract transaction, and as a payee
-  pays : (party coin : ℕ) (w : Paid (sheet u) p party coin) → Pays (perDay u) coin party (w .by)
+  pub pays : (party coin : ℕ) (w : Paid (sheet u) p party coin) → Pays (perDay u) coin party (w .by)
   pays party coin w =
       let right = rightful (sheet u) u p g (w .by) party (stands party coin w) in
       let n = fails-by (isContract (sheet u) (w .by)) (λ y. omega (arith, contract-to (sheet u) (w .by) party y right, two-parties u party (w .who))) in
@@ -89,10 +89,10 @@ module _ (u : List ℕ) (one : 0 < perDay u) (p : Position) (g : Sound (sheet u)
       rw (pays-from-B (perDay u) (w .by) (k .low) (k .of-coin) (k .pays)) at (stands party lockB w)
 
   -- what stands above a confirmed transaction is confirmed
-  above : (t k : ℕ) → Below (perDay u) t k → 0 < blockOf p t → 0 < blockOf p k
+  pub above : (t k : ℕ) → Below (perDay u) t k → 0 < blockOf p t → 0 < blockOf p k
   above t k b h = rw (b .is) at (g .settled .parents t (b .low) h (b .not-opening) .0)
 
-  alice-once : Paid (sheet u) p alice lockA → Paid (sheet u) p alice lockB → ⊥
+  pub alice-once : Paid (sheet u) p alice lockA → Paid (sheet u) p alice lockB → ⊥
   alice-once a b =
       let out = j .spendB-alice (from-B alice b) in
       let w = below (perDay u) in
@@ -117,7 +117,7 @@ module _ (u : List ℕ) (one : 0 < perDay u) (p : Position) (g : Sound (sheet u)
       one-confirmed u p g revoke success (omega arith) (omega arith) (revoke-rivals (perDay u) .0) (λ e. omega arith) r h)
 
   -- nor with timeout confirmed
-  after-timeout : 0 < blockOf p timeout → SecretAliceOut p → ⊥
+  pub after-timeout : 0 < blockOf p timeout → SecretAliceOut p → ⊥
   after-timeout h out =
       let r = above timeout revoke (below (perDay u) .4) h in
       either out
@@ -133,7 +133,7 @@ module _ (u : List ℕ) (one : 0 < perDay u) (p : Position) (g : Sound (sheet u)
       let lock = rw (timeout-lock (perDay u) (blockOf p) r) at (g .settled .locks timeout l h) in
       omega (arith, w .1, g .settled .numbered timeout l)))
 
-  bob-once : Paid (sheet u) p bob lockA → Paid (sheet u) p bob lockB → ⊥
+  pub bob-once : Paid (sheet u) p bob lockA → Paid (sheet u) p bob lockB → ⊥
   bob-once a b =
       let out = j .spendB-bob (from-B bob b) in
       let w = below (perDay u) in

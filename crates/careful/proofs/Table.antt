@@ -24,12 +24,12 @@ unfolding opened
 fifteen d = refl
 
 -- a rule: every transaction that passes the first test passes the second
-rule : (d : ℕ) (if then : ℕ → Bool) → allBelow 15 (λ t. not (if t) || then t) ≡ true → (t : ℕ) → t < count (saswap d)
+pub rule : (d : ℕ) (if then : ℕ → Bool) → allBelow 15 (λ t. not (if t) || then t) ≡ true → (t : ℕ) → t < count (saswap d)
     → if t ≡ true → then t ≡ true
 rule d if then r t l h = rw h at (all-at 15 (λ k. not (if k) || then k) r t (rw (fifteen d) at l))
 
 -- one of two, three or four numbers
-two : (t a b : ℕ) → (eqb t a || eqb t b) ≡ true → (t ≡ a) ⊎ (t ≡ b)
+pub two : (t a b : ℕ) → (eqb t a || eqb t b) ≡ true → (t ≡ a) ⊎ (t ≡ b)
 two t a b h = either (or-parts (eqb t a) (eqb t b) h) (λ y. inl (eqb-true t a y)) (λ y. inr (eqb-true t b y))
 
 three : (t a b c : ℕ) → (eqb t a || (eqb t b || eqb t c)) ≡ true → (t ≡ a) ⊎ ((t ≡ b) ⊎ (t ≡ c))

@@ -1,0 +1,67 @@
+-- What holds in every sound position of any checked sheet.
+-- Assumes nothing.
+use Prim.Native.Nat.{ℕ, _≤_, _<_}
+use native.Mathlib.Omega.{arith}
+use mathlib.Core.Path.{_≡_}
+use mathlib.Core.Bool.{Bool, true, false, _||_}
+use mathlib.Core.List.{List}
+use borrow.Author.Tests.{ltb-true}
+use Rattle.laws.specs.Booleans.{either, or-parts, fails-by}
+use Rattle.sheet.specs.Field.{count}
+use Rattle.sheet.specs.Setup.{perDay}
+use Rattle.slots.specs.Conflict.{conflict}
+use Rattle.slots.proofs.Conflicts.{conflict-self, conflict-sym}
+use Rattle.position.specs.declared.Position.{Position}
+use Rattle.position.specs.Position.{inPool, inBlock, blockOf, isConfirmed, sent, placed, lockHeightIn}
+use Rattle.moves.specs.Wellformed.{Wellformed}
+use Rattle.agreement.proofs.Sound.{Waits, Sound}
+use Rattle.careful.proofs.Places.{pool-anywhere, block-anywhere, confirmed-anywhere, in-sheet}
+use Rattle.claim_model.specs.Claim.{ConflictFree, Kept}
+
+module _ (s u : List ℕ) (p : Position) (g : Sound s u p) where
+  -- an entry is of one of the sheet's transactions
+  pub pool-low : (t : ℕ) → inPool p t ≡ true → t < count s
+  pool-low t h = let w = pool-anywhere p t h in in-sheet s u p g t (w .0) (w .1)
+
+  pub block-low : (t : ℕ) → inBlock p t ≡ true → t < count s
+  block-low t h = let w = block-anywhere p t h in in-sheet s u p g t (w .0) (w .1)
+
+  pub has-block : (t : ℕ) → isConfirmed p t ≡ true → 0 < blockOf p t
+  unfolding isConfirmed
+  has-block t h = ltb-true 0 (blockOf p t) h
+
+  pub chain-low : (t : ℕ) → isConfirmed p t ≡ true → t < count s
+  chain-low t h = let w = confirmed-anywhere p t (has-block t h) in in-sheet s u p g t (w .0) (w .1)
+
+  -- those that wait, in the pool or in the block, beside the chain
+  module _ (there : ℕ → Bool) (low : (t : ℕ) → there t ≡ true → t < count s) (w : Waits s (perDay u) there (blockOf p) (p .mined)) where
+    beside : ConflictFree s (λ t. there t || isConfirmed p t)
+    beside t k a b c =
+        either (or-parts (there t) (isConfirmed p t) a)
+        (λ x.
+        either (or-parts (there k) (isConfirmed p k) b)
+        (λ y. w .alone t k (low t x) (low k y) x y c)
+        (λ y. absurd (omega (arith, w .free t k (low t x) (chain-low k y) x c, has-block k y))))
+        (λ x.
+        either (or-parts (there k) (isConfirmed p k) b)
+        (λ y. absurd (omega (arith, w .free k t (low k y) (chain-low t x) y (conflict-sym s k t c), has-block t x)))
+        (λ y. g .settled .alone t k (chain-low t x) (chain-low k y) (has-block t x) (has-block k y) c))
+
+    not-again : (t : ℕ) → isConfirmed p t ≡ true → there t ≡ false
+    not-again t h =
+        fails-by (there t) (λ y. omega (arith, w .free t t (low t y) (low t y) y (conflict-self s t), has-block t h))
+
+  pub kept : Wellformed s p → Kept s u p
+  unfolding sent placed lockHeightIn
+  kept wf =
+      record {
+        well-formed = wf;
+        pool-to = λ t h. g .pool-to t (pool-low t h) h;
+        block-to = λ t h. g .block-to t (block-low t h) h;
+        confirmed-to = λ t h. g .confirmed-to t (chain-low t h) h;
+        chain-and-block = beside (inBlock p) block-low (g .block);
+        chain-and-pool = beside (inPool p) pool-low (g .pool);
+        once = λ t h. (not-again (inBlock p) block-low (g .block) t h, not-again (inPool p) pool-low (g .pool) t h);
+        pool-locks = λ t h. g .pool .locks t (pool-low t h) h;
+        block-locks = λ t h. g .block .locks t (block-low t h) h;
+      }

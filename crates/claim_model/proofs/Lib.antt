@@ -1,0 +1,4 @@
+pub mod AnySheets
+pub mod Phases
+pub mod Unexpected
+pub mod Theorems

@@ -1,0 +1,54 @@
+-- spend_refund_1_bob stands nowhere: it would need refund_1, and sigAlice in Bob's hands.
+-- Assumes nothing.
+use Prim.Native.Nat.{ℕ, _<_}
+use native.Mathlib.Omega.{arith}
+use mathlib.Core.Path.{_≡_, refl}
+use mathlib.Core.Bool.{true, false, _||_}
+use mathlib.Core.Logic.{_⊎_, inl, inr}
+use mathlib.Core.List.{List}
+use borrow.Author.Tests.{ltb-true}
+use Rattle.laws.specs.Booleans.{either, or-parts, fails-by}
+use Rattle.sheet.specs.Field.{count, parent, opening}
+use Rattle.sheet.specs.Saswap.{saswap}
+use Rattle.sheet.specs.Setup.{perDay}
+use Rattle.slots.proofs.Entered.{Entered, pooled, filled, settled}
+use Rattle.steps.specs.Names.{refund1, spendRefund1Bob}
+use Rattle.position.specs.declared.Position.{Position}
+use Rattle.position.specs.Position.{inPool, inBlock, blockOf, isConfirmed, sent, placed}
+use Rattle.position.proofs.Opened.{opened}
+use Rattle.moves.proofs.Provenance.{Stands}
+use Rattle.agreement.proofs.Sound.{Sound}
+use Rattle.careful.proofs.Places.{Anywhere, pool-anywhere, block-anywhere, confirmed-anywhere, in-sheet}
+use Rattle.careful.proofs.Setting.{sheet}
+use Rattle.careful.proofs.Table.{Below}
+use Rattle.careful.proofs.Invariant.{Invariant}
+use Rattle.careful.proofs.NextPool.{both-held}
+
+-- what stands somewhere has a parent that does
+module _ (s u : List ℕ) (p : Position) (g : Sound s u p) where
+  parent-at : (t e : ℕ) → t < count s → opening s t ≡ false → Stands p t e → Anywhere p (parent s t)
+  unfolding inPool inBlock blockOf
+  parent-at t e l o (pooled h to) = either (g .pool .parents t l h o) (pool-anywhere p (parent s t)) (confirmed-anywhere p (parent s t))
+  parent-at t e l o (filled h to) = either (g .block .parents t l h o) (block-anywhere p (parent s t)) (confirmed-anywhere p (parent s t))
+  parent-at t e l o (settled h to) = confirmed-anywhere p (parent s t) (g .settled .parents t l h o .0)
+
+below-refund1 : (d : ℕ) → Below d spendRefund1Bob refund1
+unfolding opened
+below-refund1 d = record { low = omega arith; not-opening = refl; is = refl }
+
+module _ (u : List ℕ) (p : Position) (g : Sound (sheet u) u p) (j : Invariant u p) where
+  pub unexpected : Anywhere p spendRefund1Bob → ⊥
+  unexpected w =
+      let b = below-refund1 (perDay u) in
+      let up = parent-at (sheet u) u p g spendRefund1Bob (w .0) (b .low) (b .not-opening) (w .1) in
+      let held = both-held u p g j spendRefund1Bob (inr (inr refl)) w in
+      j .refund1-alone (rw (b .is) at up) (j .secretBob-given held)
+
+  pub nowhere : (sent p spendRefund1Bob ≡ false) × (placed p spendRefund1Bob ≡ false)
+  unfolding sent placed isConfirmed
+  nowhere =
+      let t = spendRefund1Bob in
+      let chain : isConfirmed p t ≡ true → ⊥ = λ h. unexpected (confirmed-anywhere p t (ltb-true 0 (blockOf p t) h)) in (
+        fails-by (sent p t) (λ h. either (or-parts (inPool p t) (isConfirmed p t) h) (λ y. unexpected (pool-anywhere p t y)) chain),
+        fails-by (placed p t) (λ h. either (or-parts (inBlock p t) (isConfirmed p t) h) (λ y. unexpected (block-anywhere p t y)) chain),
+      )

@@ -1,0 +1,63 @@
+-- What document 001's model checks, each claim under 001's name, after every list of four-byte groups from the empty journal's position,
+-- refused ones passed over. NoConcurrentSecretKnowledge and NoSingleParticipantTakesAll are claimed in crate careful. The cases for
+-- PARTICIPANTS_IRRATIONAL are left out, and so is ENABLED; ContractEventuallyFinished is about fairness and time, which the rules have not.
+-- Assumes nothing.
+use Prim.Native.Nat.{ℕ, _≤_}
+use mathlib.Core.Path.{_≡_}
+use mathlib.Core.Bool.{Bool, true, false}
+use mathlib.Core.List.{List}
+use lib.ListN.{getD}
+use Rattle.sheet.specs.Refusal.{accepted}
+use Rattle.sheet.specs.Check.{sheetRefusal}
+use Rattle.sheet.specs.Saswap.{saswap}
+use Rattle.sheet.specs.Setup.{perDay, conduct, setupRefusal}
+use Rattle.slots.specs.Conflict.{conflict}
+use Rattle.steps.specs.Decode.{sharesTo}
+use Rattle.steps.specs.Names.{spendRefund1Bob}
+use Rattle.position.specs.declared.Position.{Position}
+use Rattle.position.specs.Position.{inPool, poolTo, inBlock, blockTo, isConfirmed, confirmedTo, sent, placed, lockHeightIn}
+use Rattle.position.specs.Conduct.{phase}
+use Rattle.position.specs.Play.{FourBytes}
+use Rattle.moves.specs.Wellformed.{Wellformed}
+use Rattle.agreement.specs.Claim.{positionOf}
+use Rattle.claim_model.specs.Words.{phases, cardinality}
+
+-- ---- on any sheet
+-- "ConflictingSet(id) ∩ ids = {id}" for each of these
+abbrev pub ConflictFree : List ℕ → (ℕ → Bool) → Type 0
+ConflictFree s ids = (t k : ℕ) → ids t ≡ true → ids k ≡ true → conflict s k t ≡ true → k ≡ t
+
+pub record Kept (s u : List ℕ) (p : Position) : Type 0 where
+  -- TypeOK: sizes and ranges, and "tx.to ∈ DstSet(tx.id)"
+  pub well-formed : Wellformed s p
+  pub pool-to : (t : ℕ) → inPool p t ≡ true → sharesTo s t (poolTo p t) ≡ true
+  pub block-to : (t : ℕ) → inBlock p t ≡ true → sharesTo s t (blockTo p t) ≡ true
+  pub confirmed-to : (t : ℕ) → isConfirmed p t ≡ true → sharesTo s t (confirmedTo p t) ≡ true
+  -- NoConflictingTransactions: in chain and block together, in chain and pool together, and what is confirmed is in neither
+  pub chain-and-block : ConflictFree s (placed p)
+  pub chain-and-pool : ConflictFree s (sent p)
+  pub once : (t : ℕ) → isConfirmed p t ≡ true → (inBlock p t ≡ false) × (inPool p t ≡ false)
+  -- TransactionTimelocksEnforced: "Len(blocks) ≥ TimelockExpirationHeight(tx.id)", in the pool and in the block
+  pub pool-locks : (t : ℕ) → inPool p t ≡ true → lockHeightIn s u p t ≤ p .mined
+  pub block-locks : (t : ℕ) → inBlock p t ≡ true → lockHeightIn s u p t ≤ p .mined
+
+-- for every sheet and setup whose checks give 0, of two parties or three, and any conduct
+abbrev pub ModelKept : Type 0
+ModelKept = (s u : List ℕ) → sheetRefusal s ≡ accepted → setupRefusal s u ≡ accepted → (bs : List FourBytes) → Kept s u (positionOf s u bs)
+
+-- ---- on the SASwap sheet under careful conduct
+pub record Expected (s u : List ℕ) (p : Position) : Type 0 where
+  -- ConsistentPhase: exactly one, document 01's
+  pub one-phase : cardinality (phases p) ≡ 1
+  pub phase-is : getD (phases p) (phase p) false ≡ true
+  -- NoUnexpectedTransactions
+  pub unexpected : (sent p spendRefund1Bob ≡ false) × (placed p spendRefund1Bob ≡ false)
+
+-- for every setup with conduct 2 that fits the SASwap sheet: 1 to 1,000 blocks per day, stealth 0 and 1
+abbrev pub ModelExpected : Type 0
+ModelExpected =
+    (u : List ℕ)
+    → setupRefusal (saswap (perDay u)) u ≡ accepted
+    → conduct u ≡ 2
+    → (bs : List FourBytes)
+    → Expected (saswap (perDay u)) u (positionOf (saswap (perDay u)) u bs)
