@@ -1,6 +1,6 @@
 -- What holds in every sound position of any checked sheet.
 -- Assumes nothing.
-use Prim.Native.Nat.{ℕ, _≤_, _<_}
+use Prim.Native.Nat.{ℕ, _<_}
 use native.Mathlib.Omega.{arith}
 use mathlib.Core.Path.{_≡_}
 use mathlib.Core.Bool.{Bool, true, false, _||_}
@@ -9,7 +9,6 @@ use borrow.Author.Tests.{ltb-true}
 use Rattle.laws.specs.Booleans.{either, or-parts, fails-by}
 use Rattle.sheet.specs.Field.{count}
 use Rattle.sheet.specs.Setup.{perDay}
-use Rattle.slots.specs.Conflict.{conflict}
 use Rattle.slots.proofs.Conflicts.{conflict-self, conflict-sym}
 use Rattle.position.specs.declared.Position.{Position}
 use Rattle.position.specs.Position.{inPool, inBlock, blockOf, isConfirmed, sent, placed, lockHeightIn}

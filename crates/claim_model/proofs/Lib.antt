@@ -1,4 +1,9 @@
 pub mod AnySheets
 pub mod Phases
 pub mod Unexpected
+pub mod States
+pub mod Remaining
+pub mod Waiting
+pub mod Shared
+pub mod Endings
 pub mod Theorems

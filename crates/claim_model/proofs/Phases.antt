@@ -1,7 +1,7 @@
 -- Exactly one phase, in every position.
 -- Assumes nothing.
 use mathlib.Core.Path.{_≡_, refl}
-use mathlib.Core.Bool.{Bool, true, false, _&&_}
+use mathlib.Core.Bool.{true, false, _&&_}
 use lib.ListN.{getD}
 use Rattle.laws.specs.Booleans.{split}
 use Rattle.slots.specs.Destination.{alice, bob}

@@ -1,16 +1,22 @@
 -- What document 001's model checks, proved.
 -- Assumes nothing.
+use mathlib.Core.Path.{_≡_, _∙_}
+use mathlib.Core.Bool.{true}
+use Rattle.laws.specs.Booleans.{either, or-parts}
 use Rattle.sheet.specs.Saswap.{saswap}
 use Rattle.sheet.specs.Setup.{perDay}
-use Rattle.position.specs.Position.{start}
+use Rattle.sheet.proofs.Theorems.{setup-checked}
+use Rattle.position.specs.Position.{start, inPool, inBlock}
 use Rattle.moves.proofs.Theorems.{wellformed-start, wellformed-play}
 use Rattle.agreement.specs.Claim.{positionOf}
 use Rattle.agreement.proofs.SoundSteps.{sound-start, sound-play}
 use Rattle.careful.proofs.Along.{guarded}
+use Rattle.claim_model.specs.Words.{noneRemains}
 use Rattle.claim_model.specs.Claim.{ModelKept, ModelExpected}
 use Rattle.claim_model.proofs.AnySheets.{kept}
 use Rattle.claim_model.proofs.Phases.{one-phase}
 use Rattle.claim_model.proofs.Unexpected.{nowhere}
+use Rattle.claim_model.proofs.Endings.{none-left, late-remains, spendB-left, pool-left, block-left, finished, pool-empty, block-empty}
 
 -- On every checked sheet: TypeOK, NoConflictingTransactions, TransactionTimelocksEnforced.
 pub model-kept : ModelKept
@@ -18,11 +24,26 @@ model-kept s u h k bs =
     kept s u (positionOf s u bs) (sound-play s u h k bs (start s) (sound-start s u))
     (wellformed-play s u bs (start s) h (wellformed-start s h))
 
--- Under careful conduct on the SASwap sheet: ConsistentPhase, NoUnexpectedTransactions.
+-- Under careful conduct on the SASwap sheet: ConsistentPhase, NoUnexpectedTransactions, ExpectedStateOnTimeout,
+-- NoTransactionsRemaining_iff_NotTimedOut, ExpectedStateOnFinish.
 pub model-expected : ModelExpected
 model-expected u r c bs =
     let s = saswap (perDay u) in
     let p = positionOf s u bs in
     let w = guarded u r c bs in
-    let one = one-phase p in
-    record { one-phase = one .0; phase-is = one .1; unexpected = nowhere u p (w .sound) (w .invariant) }
+    let g = w .sound in
+    let j = w .invariant in
+    let some = setup-checked s u r .blocks-some in
+    record {
+      one-phase = one-phase p .0;
+      phase-is = one-phase p .1;
+      unexpected = nowhere u p g j;
+      on-timeout = late-remains u some p g j;
+      none-remaining = finished u some p g j;
+      not-timed-out = none-left u some p g j;
+      finished = λ f n. let e : noneRemains s p ≡ true = finished u some p g j ∙ rw (f, n) in (e, λ t. (pool-empty u some p g j e t, block-empty u some p g j e t));
+      timed-out = λ h. (
+        spendB-left u some p g j h,
+        λ t y. either (or-parts (inPool p t) (inBlock p t) y) (pool-left u some p g j h t) (block-left u some p g j h t),
+      );
+    }

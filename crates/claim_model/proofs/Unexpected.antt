@@ -3,22 +3,21 @@
 use Prim.Native.Nat.{ℕ, _<_}
 use native.Mathlib.Omega.{arith}
 use mathlib.Core.Path.{_≡_, refl}
-use mathlib.Core.Bool.{true, false, _||_}
-use mathlib.Core.Logic.{_⊎_, inl, inr}
+use mathlib.Core.Bool.{true, false}
+use mathlib.Core.Logic.{inr}
 use mathlib.Core.List.{List}
 use borrow.Author.Tests.{ltb-true}
 use Rattle.laws.specs.Booleans.{either, or-parts, fails-by}
 use Rattle.sheet.specs.Field.{count, parent, opening}
-use Rattle.sheet.specs.Saswap.{saswap}
 use Rattle.sheet.specs.Setup.{perDay}
-use Rattle.slots.proofs.Entered.{Entered, pooled, filled, settled}
+use Rattle.slots.proofs.Entered.{pooled, filled, settled}
 use Rattle.steps.specs.Names.{refund1, spendRefund1Bob}
 use Rattle.position.specs.declared.Position.{Position}
 use Rattle.position.specs.Position.{inPool, inBlock, blockOf, isConfirmed, sent, placed}
 use Rattle.position.proofs.Opened.{opened}
 use Rattle.moves.proofs.Provenance.{Stands}
 use Rattle.agreement.proofs.Sound.{Sound}
-use Rattle.careful.proofs.Places.{Anywhere, pool-anywhere, block-anywhere, confirmed-anywhere, in-sheet}
+use Rattle.careful.proofs.Places.{Anywhere, pool-anywhere, block-anywhere, confirmed-anywhere}
 use Rattle.careful.proofs.Setting.{sheet}
 use Rattle.careful.proofs.Table.{Below}
 use Rattle.careful.proofs.Invariant.{Invariant}

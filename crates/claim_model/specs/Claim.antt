@@ -2,25 +2,27 @@
 -- refused ones passed over. NoConcurrentSecretKnowledge and NoSingleParticipantTakesAll are claimed in crate careful. The cases for
 -- PARTICIPANTS_IRRATIONAL are left out, and so is ENABLED; ContractEventuallyFinished is about fairness and time, which the rules have not.
 -- Assumes nothing.
-use Prim.Native.Nat.{ℕ, _≤_}
+use Prim.Native.Nat.{ℕ, _≤_, _<_}
 use mathlib.Core.Path.{_≡_}
-use mathlib.Core.Bool.{Bool, true, false}
+use mathlib.Core.Bool.{Bool, true, false, not, _&&_, _||_}
+use mathlib.Core.Logic.{_⊎_}
 use mathlib.Core.List.{List}
 use lib.ListN.{getD}
 use Rattle.sheet.specs.Refusal.{accepted}
+use Rattle.sheet.specs.Field.{count}
 use Rattle.sheet.specs.Check.{sheetRefusal}
 use Rattle.sheet.specs.Saswap.{saswap}
 use Rattle.sheet.specs.Setup.{perDay, conduct, setupRefusal}
 use Rattle.slots.specs.Conflict.{conflict}
 use Rattle.steps.specs.Decode.{sharesTo}
-use Rattle.steps.specs.Names.{spendRefund1Bob}
+use Rattle.steps.specs.Names.{lockB, spendB, spendRefund1Bob}
 use Rattle.position.specs.declared.Position.{Position}
 use Rattle.position.specs.Position.{inPool, poolTo, inBlock, blockTo, isConfirmed, confirmedTo, sent, placed, lockHeightIn}
 use Rattle.position.specs.Conduct.{phase}
 use Rattle.position.specs.Play.{FourBytes}
 use Rattle.moves.specs.Wellformed.{Wellformed}
 use Rattle.agreement.specs.Claim.{positionOf}
-use Rattle.claim_model.specs.Words.{phases, cardinality}
+use Rattle.claim_model.specs.Words.{phases, cardinality, remains, noneRemains, swapSuccessful, swapAborted, swapTimedOut, contractFinished}
 
 -- ---- on any sheet
 -- "ConflictingSet(id) ∩ ids = {id}" for each of these
@@ -52,6 +54,15 @@ pub record Expected (s u : List ℕ) (p : Position) : Type 0 where
   pub phase-is : getD (phases p) (phase p) false ≡ true
   -- NoUnexpectedTransactions
   pub unexpected : (sent p spendRefund1Bob ≡ false) × (placed p spendRefund1Bob ≡ false)
+  -- ExpectedStateOnTimeout: "RemainingTransactions ⊆ {tx_lock_B, tx_spend_B}"
+  pub on-timeout : swapTimedOut s p ≡ true → (t : ℕ) → t < count s → remains s p t ≡ true → (t ≡ lockB) ⊎ (t ≡ spendB)
+  -- NoTransactionsRemaining_iff_NotTimedOut: "ContractFinished ∧ ¬SwapTimedOut", which is that it is successful or aborted
+  pub none-remaining : noneRemains s p ≡ (contractFinished s p && not (swapTimedOut s p))
+  pub not-timed-out : noneRemains s p ≡ (swapSuccessful p || swapAborted p)
+  -- ExpectedStateOnFinish: nothing remains, and pool and block are empty; or after a timeout spend_B remains, and pool and block hold at
+  -- most lock_B
+  pub finished : contractFinished s p ≡ true → swapTimedOut s p ≡ false → (noneRemains s p ≡ true) × ((t : ℕ) → (inPool p t ≡ false) × (inBlock p t ≡ false))
+  pub timed-out : swapTimedOut s p ≡ true → (remains s p spendB ≡ true) × ((t : ℕ) → (inPool p t || inBlock p t) ≡ true → t ≡ lockB)
 
 -- for every setup with conduct 2 that fits the SASwap sheet: 1 to 1,000 blocks per day, stealth 0 and 1
 abbrev pub ModelExpected : Type 0

@@ -1,14 +1,19 @@
 -- Document 001's words, over a position.
 -- Assumes nothing.
 use Prim.Native.Nat.{ℕ, _+_}
-use mathlib.Core.Bool.{Bool, not, _&&_}
+use mathlib.Core.Bool.{Bool, false, not, _&&_, _||_}
 use mathlib.Core.List.{List, [], _∷_}
+use lib.Dec.{eqb}
 use Rattle.laws.specs.Booleans.{pick}
+use Rattle.laws.specs.Below.{anyBelow}
+use Rattle.sheet.specs.Field.{count}
 use Rattle.slots.specs.Destination.{alice, bob}
-use Rattle.steps.specs.Names.{lockA, lockB}
+use Rattle.slots.specs.Invalidated.{invalidated}
+use Rattle.steps.specs.Names.{secretBob, lockA, lockB, spendA, spendB, spendSuccess, spendRefund1Alice, spendRevoke, spendRefund2, spendTimeout}
 use Rattle.position.specs.declared.Position.{Position}
-use Rattle.position.specs.Position.{isConfirmed}
+use Rattle.position.specs.Position.{isConfirmed, confirmedTo, holds}
 use Rattle.position.specs.FirstShares.{firstSharesMade}
+use Rattle.careful.specs.Claim.{inShared}
 
 -- ---- phases
 -- "Phase_1_cond": document 01's "both first shares made"
@@ -28,3 +33,35 @@ phases p =
 unfoldable pub cardinality : List Bool → ℕ
 cardinality [] = 0
 cardinality (b ∷ l) = pick b 1 0 + cardinality l
+
+-- ---- what is left to happen
+-- "RemainingTransactions": neither confirmed nor invalidated
+unfoldable pub remains : List ℕ → Position → ℕ → Bool
+remains s p t = not (isConfirmed p t) && not (invalidated s (isConfirmed p) t)
+
+-- "{} = RemainingTransactions"
+unfoldable pub noneRemains : List ℕ → Position → Bool
+noneRemains s p = not (anyBelow (count s) (remains s p))
+
+-- ---- endings
+-- "HasCustody(ids, participant)": one of these is confirmed, to this party
+unfoldable pub hasCustody : Position → List ℕ → ℕ → Bool
+hasCustody p [] party = false
+hasCustody p (t ∷ ids) party = (isConfirmed p t && eqb (confirmedTo p t) party) || hasCustody p ids party
+
+-- "SwapSuccessful"
+unfoldable pub swapSuccessful : Position → Bool
+swapSuccessful p =
+    hasCustody p (spendB ∷ []) alice && hasCustody p (spendA ∷ spendSuccess ∷ spendTimeout ∷ spendRevoke ∷ []) bob
+
+-- "SwapAborted"
+unfoldable pub swapAborted : Position → Bool
+swapAborted p = hasCustody p (spendA ∷ spendRefund1Alice ∷ spendRefund2 ∷ []) alice && hasCustody p (spendB ∷ []) bob
+
+-- "SwapTimedOut": "Alice can't claim tx_spend_B on timeout"
+unfoldable pub swapTimedOut : List ℕ → Position → Bool
+swapTimedOut s p = isConfirmed p spendTimeout && (not (holds p alice secretBob) && not (inShared s p secretBob))
+
+-- "ContractFinished"
+unfoldable pub contractFinished : List ℕ → Position → Bool
+contractFinished s p = swapSuccessful p || (swapAborted p || swapTimedOut s p)

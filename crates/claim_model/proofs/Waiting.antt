@@ -1,0 +1,50 @@
+-- What waits in the pool or in the block remains.
+-- Assumes nothing.
+use Prim.Native.Nat.{ℕ, _<_}
+use native.Mathlib.Omega.{arith}
+use mathlib.Core.Path.{_≡_}
+use mathlib.Core.Bool.{Bool, true, false}
+use mathlib.Core.List.{List}
+use borrow.Author.Tests.{eqb-false}
+use Rattle.laws.specs.Booleans.{either, fails-by}
+use Rattle.sheet.specs.Field.{count}
+use Rattle.sheet.specs.Checked.{Checked}
+use Rattle.sheet.specs.Setup.{perDay}
+use Rattle.slots.specs.Ancestry.{meetsOther}
+use Rattle.slots.specs.Invalidated.{invalidated}
+use Rattle.slots.proofs.Ancestors.{above-le, other-find}
+use Rattle.slots.proofs.Conflicts.{conflict-self}
+use Rattle.position.specs.declared.Position.{Position}
+use Rattle.position.specs.Position.{inPool, inBlock, blockOf, isConfirmed}
+use Rattle.agreement.proofs.Sound.{Waits, Sound}
+use Rattle.agreement.proofs.BumpedBlock.{waits-up}
+use Rattle.claim_model.specs.Words.{remains}
+use Rattle.claim_model.proofs.AnySheets.{pool-low, block-low, has-block}
+
+module _ (s u : List ℕ) (ok : Checked s) (p : Position) (g : Sound s u p) where
+  module _ (there : ℕ → Bool) (w : Waits s (perDay u) there (blockOf p) (p .mined)) (t : ℕ) (l : t < count s) (h : there t ≡ true) where
+    unconfirmed : isConfirmed p t ≡ false
+    unconfirmed = fails-by (isConfirmed p t) (λ y. omega (arith, has-block s u p g t y, w .free t t l l h (conflict-self s t)))
+
+    unmet : meetsOther s (isConfirmed p) t ≡ false
+    unmet =
+        fails-by (meetsOther s (isConfirmed p) t)
+        (λ y.
+        let f = other-find s (isConfirmed p) t y in
+        let x = f .0 in
+        let k = f .1 in
+        let lx : x < count s = omega (arith, above-le (f .2), l) in
+        let now = has-block s u p g k (f .5) in
+        either (waits-up ok (g .settled) w (f .2) l h)
+        (λ z. omega (arith, w .free x k lx (f .3) z (f .4), now))
+        (λ z. eqb-false k x (f .6) (g .settled .alone x k lx (f .3) z now (f .4))))
+
+    waits-remain : remains s p t ≡ true
+    unfolding remains invalidated
+    waits-remain = rw (unconfirmed, unmet)
+
+  pub pool-remains : (t : ℕ) → inPool p t ≡ true → remains s p t ≡ true
+  pool-remains t h = waits-remain (inPool p) (g .pool) t (pool-low s u p g t h) h
+
+  pub block-remains : (t : ℕ) → inBlock p t ≡ true → remains s p t ≡ true
+  block-remains t h = waits-remain (inBlock p) (g .block) t (block-low s u p g t h) h
