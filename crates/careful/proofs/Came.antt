@@ -35,7 +35,7 @@ share-plain d held t i h =
     ((λ e. false≢true (rw e at w)), (λ e. false≢true (rw e at w)))
 
 -- first shares are of refund_1, revoke, refund_2 and timeout alone
-first-range : (party : ℕ) → every (λ t. leb refund1 t && leb t timeout) (firstShares party) ≡ true
+pub first-range : (party : ℕ) → every (λ t. leb refund1 t && leb t timeout) (firstShares party) ≡ true
 unfolding every firstShares
 first-range party = split (eqb party alice) (λ y. rw y) (λ y. rw y)
 

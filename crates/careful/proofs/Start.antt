@@ -29,7 +29,7 @@ empty-shared : (e : ℕ) → sharedFor emptySlot e ≡ 0
 unfolding opened
 empty-shared e = split (eqb e 0) (λ y. rw y) (λ y. split (eqb e 1) (λ z. rw (y, z)) (λ z. split (eqb e 2) (λ w. rw (y, z, w)) (λ w. rw (y, z, w))))
 
-none-shared : {X : Type 0} (s : List ℕ) (t e i : ℕ) → bit (shared (start s) t e) i ≡ true → X
+pub none-shared : {X : Type 0} (s : List ℕ) (t e i : ℕ) → bit (shared (start s) t e) i ≡ true → X
 unfolding shared
 none-shared s t e i h = clash (rw (start-slot s t, empty-shared e) at h) (no-bit i)
 

@@ -6,4 +6,7 @@ pub mod Remaining
 pub mod Waiting
 pub mod Shared
 pub mod Endings
+pub mod Exposed
+pub mod Fair
 pub mod Theorems
+pub mod Examples

@@ -2,17 +2,25 @@
 -- Assumes nothing.
 use Prim.Native.Nat.{ℕ, zero, suc, _<_}
 use native.Mathlib.Omega.{arith}
-use mathlib.Core.Path.{_≡_, _∙_}
-use mathlib.Core.Bool.{true}
+use mathlib.Core.Path.{_≡_, refl, _∙_}
+use mathlib.Core.Bool.{true, false, _||_}
 use mathlib.Core.List.{List}
-use Rattle.laws.specs.Below.{anyBelow, any-found}
-use Rattle.laws.specs.Bits.{bit-or, no-bit}
-use Rattle.laws.specs.Mask.{bit, unionBelow}
+use lib.Bits.{bitAnd, bitOr}
+use lib.Dec.{eqb}
+use Rattle.laws.specs.Booleans.{or-right}
+use Rattle.laws.specs.Below.{allBelow, anyBelow, any-found, any-some, all-at}
+use Rattle.laws.specs.Bits.{bit-or, bit-and, no-bit}
+use Rattle.laws.specs.Mask.{bit, subset, unionBelow}
+use Rattle.sheet.specs.Field.{count, secrets, required}
+use Rattle.sheet.specs.Saswap.{saswap, saswapAt}
 use Rattle.sheet.specs.Setup.{perDay}
 use Rattle.slots.specs.Destination.{contract, destinations}
+use Rattle.slots.specs.Signatures.{sharedSecrets, senderMask, signed}
 use Rattle.slots.specs.Slot.{sharedFor, sharedAny}
+use Rattle.steps.specs.Names.{sigAlice, sigBob, secretAlice, secretBob, spendB}
 use Rattle.position.specs.declared.Position.{Position}
-use Rattle.position.specs.Position.{slot, shared}
+use Rattle.position.specs.Position.{slot, shared, keys, holds, senderHas}
+use Rattle.position.proofs.Opened.{opened}
 use Rattle.careful.specs.Claim.{inShared}
 use Rattle.careful.proofs.Setting.{sheet}
 use Rattle.careful.proofs.Table.{fifteen}
@@ -31,3 +39,36 @@ shown-in u p t i l h =
     rw (fifteen (perDay u))
     (any-found 15 t (λ k. bit (sharedAny (slot p k)) i) l
     (union-any destinations (sharedFor (slot p t)) i ∙ any-found destinations contract (λ e. bit (sharedFor (slot p t) e) i) (omega arith) h))
+
+-- a sender has what it holds, and every secret in shared knowledge
+pub held-has : (s : List ℕ) (p : Position) (party t e i : ℕ) → holds p party i ≡ true → bit (senderHas s p party t e) i ≡ true
+unfolding senderHas senderMask holds
+held-has s p party t e i h = rw (bit-or, h)
+
+pub shared-has : (s : List ℕ) (p : Position) (party t e i : ℕ) → bit (secrets s) i ≡ true → inShared s p i ≡ true → bit (senderHas s p party t e) i ≡ true
+unfolding senderHas senderMask sharedSecrets inShared
+shared-has s p party t e i n h =
+    let all = unionBelow (count s) (λ k. sharedAny (slot p k)) in
+    let w : bit (bitAnd (secrets s) all) i ≡ true = bit-and (secrets s) all i ∙ rw (n, union-any (count s) (λ k. sharedAny (slot p k)) i, h) in
+    bit-or (keys p party) (bitOr (bitAnd (secrets s) all) (shared p t e)) i
+    ∙ or-right (bit (keys p party) i) _ (bit-or (bitAnd (secrets s) all) (shared p t e) i ∙ rw w)
+
+-- spend_B needs both secrets, and nothing else
+needed : (d : ℕ)
+    → (bit (required (saswap d) spendB) sigAlice ≡ false)
+    × (bit (required (saswap d) spendB) sigBob ≡ false)
+    × (bit (required (saswap d) spendB) secretAlice ≡ true)
+    × (bit (required (saswap d) spendB) secretBob ≡ true)
+unfolding opened
+needed d = (refl, refl, refl, refl)
+
+pub signs-spendB : (d have : ℕ) → bit have secretAlice ≡ true → bit have secretBob ≡ true → signed (saswap d) have spendB ≡ true
+unfolding signed subset allBelow saswap saswapAt
+signs-spendB d have a b = let n = needed d in rw (n .0, n .1, n .2, n .3, a, b)
+
+-- a mask of four signatures that is not empty has one of them
+pub some-bit : (m : ℕ) → m < 16 → eqb m 0 ≡ false → (i : ℕ) × (bit m i ≡ true)
+unfolding allBelow anyBelow bit
+some-bit m l h =
+    let w = any-some 4 (bit m) (rw h at (all-at 16 (λ k. eqb k 0 || anyBelow 4 (bit k)) refl m l)) in
+    (w .0, w .2)

@@ -5,18 +5,20 @@ use mathlib.Core.Bool.{true}
 use Rattle.laws.specs.Booleans.{either, or-parts}
 use Rattle.sheet.specs.Saswap.{saswap}
 use Rattle.sheet.specs.Setup.{perDay}
-use Rattle.sheet.proofs.Theorems.{setup-checked}
+use Rattle.sheet.proofs.Theorems.{saswap-passes, setup-checked}
 use Rattle.position.specs.Position.{start, inPool, inBlock}
 use Rattle.moves.proofs.Theorems.{wellformed-start, wellformed-play}
 use Rattle.agreement.specs.Claim.{positionOf}
 use Rattle.agreement.proofs.SoundSteps.{sound-start, sound-play}
 use Rattle.careful.proofs.Along.{guarded}
 use Rattle.claim_model.specs.Words.{noneRemains}
-use Rattle.claim_model.specs.Claim.{ModelKept, ModelExpected}
+use Rattle.claim_model.specs.Claim.{ModelKept, ModelExpected, FairEnding}
 use Rattle.claim_model.proofs.AnySheets.{kept}
 use Rattle.claim_model.proofs.Phases.{one-phase}
 use Rattle.claim_model.proofs.Unexpected.{nowhere}
 use Rattle.claim_model.proofs.Endings.{none-left, late-remains, spendB-left, pool-left, block-left, finished, pool-empty, block-empty}
+use Rattle.claim_model.proofs.Exposed.{watched}
+use Rattle.claim_model.proofs.Fair.{fair}
 
 -- On every checked sheet: TypeOK, NoConflictingTransactions, TransactionTimelocksEnforced.
 pub model-kept : ModelKept
@@ -47,3 +49,14 @@ model-expected u r c bs =
         λ t y. either (or-parts (inPool p t) (inBlock p t) y) (pool-left u some p g j h t) (block-left u some p g j h t),
       );
     }
+
+-- Under careful conduct on the SASwap sheet: where coin A is paid out, the other party has what it needs for coin B, or the swap has
+-- timed out; where both are, each party has one.
+pub fair-ending : FairEnding
+fair-ending u r c bs =
+    let s = saswap (perDay u) in
+    let w = watched u r c bs in
+    let k = w .guarded in
+    let h = saswap-passes (perDay u) in
+    fair u (setup-checked s u r .blocks-some) (positionOf s u bs) (k .sound) (k .invariant) (w .beside)
+    (wellformed-play s u bs (start s) h (wellformed-start s h))

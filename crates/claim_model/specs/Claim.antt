@@ -7,6 +7,7 @@ use mathlib.Core.Path.{_≡_}
 use mathlib.Core.Bool.{Bool, true, false, not, _&&_, _||_}
 use mathlib.Core.Logic.{_⊎_}
 use mathlib.Core.List.{List}
+use lib.Dec.{eqb}
 use lib.ListN.{getD}
 use Rattle.sheet.specs.Refusal.{accepted}
 use Rattle.sheet.specs.Field.{count}
@@ -14,14 +15,19 @@ use Rattle.sheet.specs.Check.{sheetRefusal}
 use Rattle.sheet.specs.Saswap.{saswap}
 use Rattle.sheet.specs.Setup.{perDay, conduct, setupRefusal}
 use Rattle.slots.specs.Conflict.{conflict}
+use Rattle.slots.specs.Destination.{alice, bob}
+use Rattle.slots.specs.Signatures.{signed}
 use Rattle.steps.specs.Decode.{sharesTo}
-use Rattle.steps.specs.Names.{lockB, spendB, spendRefund1Bob}
+use Rattle.steps.specs.Names.{secretAlice, secretBob, lockA, lockB, spendB, spendRefund1Bob}
 use Rattle.position.specs.declared.Position.{Position}
-use Rattle.position.specs.Position.{inPool, poolTo, inBlock, blockTo, isConfirmed, confirmedTo, sent, placed, lockHeightIn}
-use Rattle.position.specs.Conduct.{phase}
+use Rattle.position.specs.Position.{inPool, poolTo, inBlock, blockTo, isConfirmed, confirmedTo, sent, placed, holds, senderHas, lockHeightIn}
+use Rattle.position.specs.Conduct.{phase, successUnshared}
+use Rattle.readings.specs.Holder.{isPayout, isPayoutTo}
+use Rattle.position.specs.Holder.{holderIn}
 use Rattle.position.specs.Play.{FourBytes}
 use Rattle.moves.specs.Wellformed.{Wellformed}
 use Rattle.agreement.specs.Claim.{positionOf}
+use Rattle.careful.specs.Claim.{inShared}
 use Rattle.claim_model.specs.Words.{phases, cardinality, remains, noneRemains, swapSuccessful, swapAborted, swapTimedOut, contractFinished}
 
 -- ---- on any sheet
@@ -72,3 +78,24 @@ ModelExpected =
     → conduct u ≡ 2
     → (bs : List FourBytes)
     → Expected (saswap (perDay u)) u (positionOf (saswap (perDay u)) u bs)
+
+-- ---- beyond 001, a fair ending, with the holders "read .. from the position"
+pub record Fair (s u : List ℕ) (p : Position) : Type 0 where
+  -- success is shared only in phase 3, with coin B locked
+  pub success-late : successUnshared p ≡ false → phase p ≡ 3
+  -- both coins paid out: successful or aborted, one coin each
+  pub both-paid : isPayout s (holderIn s p) lockA ≡ true → isPayout s (holderIn s p) lockB ≡ true
+      → ((swapSuccessful p || swapAborted p) ≡ true) × (eqb (holderIn s p lockA) (holderIn s p lockB) ≡ false)
+  -- coin A paid to Alice: secretAlice is in shared knowledge, and Bob has what spend_B needs
+  pub alice-paid : isPayoutTo s (holderIn s p) alice lockA ≡ true → (inShared s p secretAlice ≡ true) × (signed s (senderHas s p bob spendB bob) spendB ≡ true)
+  -- coin A paid to Bob: Alice has secretBob, by key or shared, so what spend_B needs, and coin B is locked; or the swap has timed out
+  pub bob-paid : isPayoutTo s (holderIn s p) bob lockA ≡ true → swapTimedOut s p ≡ false
+      → ((holds p alice secretBob || inShared s p secretBob) ≡ true) × (signed s (senderHas s p alice spendB alice) spendB ≡ true) × (isConfirmed p lockB ≡ true)
+
+abbrev pub FairEnding : Type 0
+FairEnding =
+    (u : List ℕ)
+    → setupRefusal (saswap (perDay u)) u ≡ accepted
+    → conduct u ≡ 2
+    → (bs : List FourBytes)
+    → Fair (saswap (perDay u)) u (positionOf (saswap (perDay u)) u bs)
