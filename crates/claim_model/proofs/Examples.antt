@@ -20,7 +20,7 @@ use Rattle.position.specs.Play.{run}
 use Rattle.position.proofs.Opened.{opened}
 use Rattle.careful.specs.Claim.{inShared}
 use Rattle.claim_model.specs.Words.{bothShared, phases, cardinality, remains, noneRemains, hasCustody, swapSuccessful, swapAborted, swapTimedOut, contractFinished}
-use Rattle.claim_model.specs.Claim.{ConflictFree, Kept, Expected, Fair}
+use Rattle.claim_model.specs.Claim.{Kept, Expected, Fair}
 
 abbrev s3 : List ℕ
 s3 = saswap 3
@@ -184,3 +184,75 @@ rivals = (
 early : (Kept s3 open3 (pooled refund1 contract empty) → ⊥) × (Kept s3 open3 (filled refund1 contract empty) → ⊥)
 unfolding opened
 early = ((λ k. omega (arith, k .pool-locks refund1 refl)), (λ k. omega (arith, k .block-locks refund1 refl)))
+
+-- spend_refund_1_bob in pool and block
+unexpected-stands : (Expected s3 careful3 (pooled spendRefund1Bob bob empty) → ⊥) × (Expected s3 careful3 (filled spendRefund1Bob bob empty) → ⊥)
+unfolding opened
+unexpected-stands = ((λ k. clash refl (k .unexpected .0)), (λ k. clash refl (k .unexpected .1)))
+
+-- spend_timeout confirmed without its parents: lock_A remains
+timeout-alone : Expected s3 careful3 (mined spendTimeout bob empty) → ⊥
+unfolding opened inShared swapTimedOut remains
+timeout-alone k = either (k .on-timeout refl lockA (omega arith) refl) (λ e. omega arith) (λ e. omega arith)
+
+-- nothing remains, and the swap is neither successful nor aborted
+one-takes-all : (Expected s3 careful3 (after open3 bothToBob) → ⊥) × (Expected s3 careful3 (after open3 bothToBob) → ⊥)
+    × (Fair s3 careful3 (after open3 bothToBob) → ⊥) × (Fair s3 careful3 (after open3 bothToBob) → ⊥)
+unfolding opened inShared hasCustody swapSuccessful swapAborted swapTimedOut contractFinished remains noneRemains
+one-takes-all = (
+  (λ k. clash refl (k .none-remaining)),
+  (λ k. clash refl (k .not-timed-out)),
+  (λ k. clash (k .both-paid refl refl .0) refl),
+  (λ k. clash refl (k .both-paid refl refl .1)),
+)
+
+-- finished, and lock_A remains, or waits in the pool or the block
+waits-on : (Expected s3 careful3 (mined spendB alice (mined spendA bob empty)) → ⊥)
+    × (Expected s3 careful3 (pooled lockA contract (after careful3 successful)) → ⊥)
+    × (Expected s3 careful3 (filled lockA contract (after careful3 successful)) → ⊥)
+unfolding opened inShared hasCustody swapSuccessful swapAborted swapTimedOut contractFinished remains noneRemains
+waits-on = (
+  (λ k. clash (k .finished refl refl .0) refl),
+  (λ k. clash refl (k .finished refl refl .1 lockA .0)),
+  (λ k. clash refl (k .finished refl refl .1 lockA .1)),
+)
+
+-- timed out, and spend_B is confirmed, or waits in the pool or the block
+spent-late : (Expected s3 careful3 (mined spendB bob (after careful3 timedOut)) → ⊥)
+    × (Expected s3 careful3 (pooled spendB bob (after careful3 timedOut)) → ⊥)
+    × (Expected s3 careful3 (filled spendB bob (after careful3 timedOut)) → ⊥)
+unfolding opened inShared swapTimedOut remains
+spent-late = (
+  (λ k. clash (k .timed-out refl .0) refl),
+  (λ k. omega (arith, k .timed-out refl .1 spendB refl)),
+  (λ k. omega (arith, k .timed-out refl .1 spendB refl)),
+)
+
+-- success shared before any phase
+shared-early : Fair s3 careful3 (after open3 (1 ∷ 0 ∷ 2 ∷ 2 ∷ [])) → ⊥
+unfolding opened
+shared-early k = omega (arith, k .success-late refl)
+
+-- other keys
+abbrev keyed : ℕ → ℕ → Position → Position
+keyed a b p = record { slots = p .slots; mined = p .mined; keys = a ∷ b ∷ 0 ∷ 0 ∷ 0 ∷ 0 ∷ [] }
+
+-- coin A paid to Alice: secretAlice not shared; shared, and Bob without his own secret
+abbrev toAlice : Position
+toAlice = mined spendA alice (mined lockA contract empty)
+
+alice-alone : (Fair s3 careful3 toAlice → ⊥) × (Fair s3 careful3 (keyed 5 2 (changeSlot refund1 (withShared contract 4) toAlice)) → ⊥)
+unfolding opened inShared
+alice-alone = ((λ k. clash (k .alice-paid refl .0) refl), (λ k. clash (k .alice-paid refl .1) refl))
+
+-- coin A paid to Bob: secretBob neither Alice's nor shared; hers, and she without her own; hers, and coin B not locked
+abbrev toBob : Position
+toBob = mined spendA bob (mined lockA contract empty)
+
+bob-alone : (Fair s3 careful3 toBob → ⊥) × (Fair s3 careful3 (keyed 9 10 (mined lockB contract toBob)) → ⊥) × (Fair s3 careful3 (keyed 13 10 toBob) → ⊥)
+unfolding opened inShared swapTimedOut
+bob-alone = (
+  (λ k. clash (k .bob-paid refl refl .0) refl),
+  (λ k. clash (k .bob-paid refl refl .1) refl),
+  (λ k. clash (k .bob-paid refl refl .2) refl),
+)
