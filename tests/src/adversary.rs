@@ -83,6 +83,11 @@ impl Graph {
         position
     }
 
+    /// All the positions.
+    pub fn positions(&self) -> impl Iterator<Item = &Position> {
+        self.numbers.keys()
+    }
+
     /// The number of a position.
     pub fn number(&self, position: &Position) -> usize {
         self.numbers[&self.folded(position.clone())]

@@ -5,7 +5,7 @@ use crate::calls::{Call, Calls, Inputs, MODEL};
 use crate::model::journal::Course;
 use crate::model::setup::{Conduct, Setup};
 use crate::model::sheet::{self, Sheet};
-use crate::model::{calls, claims, open, report, step};
+use crate::model::{calls, claims, invariants, open, report, step};
 use crate::random::{self, Case, Manner, Random};
 use std::collections::BTreeSet;
 use std::fmt;
@@ -298,13 +298,15 @@ fn most_open(sheet: &Sheet) -> usize {
     }
 }
 
-/// Demand 3 in one position: the ledger agrees with it and with its report; under careful conduct a secret is kept and
-/// nobody is paid from two coins.
+/// Demand 3 in one position: the ledger agrees with it and with its report, no rivals stand together and no lock is early; under
+/// careful conduct a secret is kept and nobody is paid from two coins.
 fn assert_claims(game: &Game, course: &Course, report: &[u8]) {
     let (sheet, setup, position) = (&game.sheet, &game.setup, &course.position);
     let accepted = &course.accepted;
     let agrees = claims::ledger_agrees(sheet, setup, course, report);
     assert!(agrees, "ledger after {accepted:?}");
+    let broken = invariants::false_on_any_sheet(sheet, setup, position);
+    assert!(broken.is_empty(), "{broken:?} after {accepted:?}");
     if setup.conduct == Conduct::Careful {
         let out = claims::both_secrets_out(sheet, position);
         assert!(!out, "both secrets out after {accepted:?}");

@@ -68,7 +68,10 @@ fn named(case: &Case) -> bool {
     match (phase(case.position), case.step.party) {
         (0, _) => is_first_share(case),
         (1, ALICE) => is_send(case) && case.step.transaction == LOCK_A,
-        (2, ALICE) => case.setup.slips.alice_sends_in_phase_2 && is_send(case),
+        (2, ALICE) => {
+            case.setup.slips.alice_sends_in_phase_2 && is_send(case)
+                || case.setup.faults.success_in_phase_2 && shares_success(case)
+        }
         (2, BOB) | (3, BOB) => is_send(case) || gives_secret_bob(case),
         (3, ALICE) => is_send(case) || gives_sig_alice(case) || shares_success(case),
         _ => false,

@@ -15,6 +15,8 @@ pub struct Faults {
     pub mines_though_owed: bool,
     /// "a secret shared by a hand-in before its block".
     pub hand_in_shares: bool,
+    /// Alice shares success in phase 2 as in phase 3.
+    pub success_in_phase_2: bool,
 }
 
 impl Faults {
@@ -24,5 +26,6 @@ impl Faults {
         bump_beside_rivals: false,
         mines_though_owed: false,
         hand_in_shares: false,
+        success_in_phase_2: false,
     };
 }

@@ -1,8 +1,8 @@
 //! The reference model, one file for each idea of document 01. In its order:
 //! sheet, setup, heights, report (holders and payouts), ledger, position, step,
 //! conduct, journal, open, calls, swapreport; slips, document 02's changes of
-//! them; claims, what demand 3 says of them; faults, rules that the claims
-//! fail without; first_open, the counts of Slip 9; and a file for each further
+//! them; claims, what demand 3 says of them; invariants, what document 001's
+//! model checks of them; faults, rules that the claims fail without; first_open, the counts of Slip 9; and a file for each further
 //! call.
 
 pub mod asks;
@@ -15,6 +15,7 @@ pub mod ending;
 pub mod faults;
 pub mod first_open;
 pub mod heights;
+pub mod invariants;
 pub mod journal;
 pub mod ledger;
 pub mod open;
