@@ -11,11 +11,13 @@ use Rattle.sheet.specs.Refusal.{accepted}
 use Rattle.sheet.specs.Saswap.{saswap}
 use Rattle.slots.specs.Destination.{alice, bob, contract}
 use Rattle.slots.specs.Slot.{entryFor, withPool, withBlock, withConfirmed, withShared}
+use Rattle.ledger.specs.Coin.{nobody}
 use Rattle.steps.specs.Names.{lockA, lockB, success, refund1, revoke, spendA, spendB, spendRefund1Bob, spendTimeout}
 use Rattle.position.specs.declared.Position.{Position}
 use Rattle.position.specs.Position.{start}
 use Rattle.position.specs.Conduct.{phase}
 use Rattle.position.specs.Effect.{changeSlot}
+use Rattle.position.specs.Holder.{holderIn}
 use Rattle.position.specs.Play.{run}
 use Rattle.position.proofs.Opened.{opened}
 use Rattle.careful.specs.Claim.{inShared}
@@ -84,8 +86,8 @@ after setup journal = run s3 setup journal .position
 unfoldable left : Position → List ℕ
 left p = gather 15 (λ t. pick (remains s3 p t) (t ∷ []) [])
 
--- what a journal that is accepted whole comes to
-record Comes (setup journal : List ℕ) (phaseNumber : ℕ) (succeeds aborts timesOut ends : Bool) (remaining : List ℕ) : Type 0 where
+-- what a journal that is accepted whole comes to: phase, endings, what remains, who holds the coins
+record Comes (setup journal : List ℕ) (phaseNumber : ℕ) (succeeds aborts timesOut ends : Bool) (remaining : List ℕ) (holderA holderB : ℕ) : Type 0 where
   accepts : run s3 setup journal .refusal ≡ accepted
   in-phase : phase (after setup journal) ≡ phaseNumber
   succeeded : swapSuccessful (after setup journal) ≡ succeeds
@@ -93,32 +95,34 @@ record Comes (setup journal : List ℕ) (phaseNumber : ℕ) (succeeds aborts tim
   timed-out : swapTimedOut s3 (after setup journal) ≡ timesOut
   finished : contractFinished s3 (after setup journal) ≡ ends
   leaves : left (after setup journal) ≡ remaining
+  coinA : holderIn s3 (after setup journal) lockA ≡ holderA
+  coinB : holderIn s3 (after setup journal) lockB ≡ holderB
 
 -- the three endings
-by-success : Comes careful3 successful 3 true false false true []
+by-success : Comes careful3 successful 3 true false false true [] bob alice
 unfolding opened inShared hasCustody swapSuccessful swapAborted swapTimedOut contractFinished remains left
-by-success = record { accepts = refl; in-phase = refl; succeeded = refl; was-aborted = refl; timed-out = refl; finished = refl; leaves = refl }
+by-success = record { accepts = refl; in-phase = refl; succeeded = refl; was-aborted = refl; timed-out = refl; finished = refl; leaves = refl; coinA = refl; coinB = refl }
 
-by-abort : Comes careful3 aborted 3 false true false true []
+by-abort : Comes careful3 aborted 3 false true false true [] alice bob
 unfolding opened inShared hasCustody swapSuccessful swapAborted swapTimedOut contractFinished remains left
-by-abort = record { accepts = refl; in-phase = refl; succeeded = refl; was-aborted = refl; timed-out = refl; finished = refl; leaves = refl }
+by-abort = record { accepts = refl; in-phase = refl; succeeded = refl; was-aborted = refl; timed-out = refl; finished = refl; leaves = refl; coinA = refl; coinB = refl }
 
-by-timeout : Comes careful3 timedOut 3 false false true true (spendB ∷ [])
+by-timeout : Comes careful3 timedOut 3 false false true true (spendB ∷ []) bob contract
 unfolding opened inShared hasCustody swapSuccessful swapAborted swapTimedOut contractFinished remains left
-by-timeout = record { accepts = refl; in-phase = refl; succeeded = refl; was-aborted = refl; timed-out = refl; finished = refl; leaves = refl }
+by-timeout = record { accepts = refl; in-phase = refl; succeeded = refl; was-aborted = refl; timed-out = refl; finished = refl; leaves = refl; coinA = refl; coinB = refl }
 
-by-timeout-alone : Comes careful3 timedOutAlone 2 false false true true (lockB ∷ spendB ∷ [])
+by-timeout-alone : Comes careful3 timedOutAlone 2 false false true true (lockB ∷ spendB ∷ []) bob nobody
 unfolding opened inShared hasCustody swapSuccessful swapAborted swapTimedOut contractFinished remains left
-by-timeout-alone = record { accepts = refl; in-phase = refl; succeeded = refl; was-aborted = refl; timed-out = refl; finished = refl; leaves = refl }
+by-timeout-alone = record { accepts = refl; in-phase = refl; succeeded = refl; was-aborted = refl; timed-out = refl; finished = refl; leaves = refl; coinA = refl; coinB = refl }
 
 -- none of them: both coins locked; and, open, both coins taken by Bob, after which nothing remains
-none-yet : Comes careful3 locked 3 false false false false (2 ∷ 3 ∷ 4 ∷ 5 ∷ 6 ∷ 7 ∷ 8 ∷ 9 ∷ 10 ∷ 11 ∷ 12 ∷ 13 ∷ 14 ∷ [])
+none-yet : Comes careful3 locked 3 false false false false (2 ∷ 3 ∷ 4 ∷ 5 ∷ 6 ∷ 7 ∷ 8 ∷ 9 ∷ 10 ∷ 11 ∷ 12 ∷ 13 ∷ 14 ∷ []) contract contract
 unfolding opened inShared hasCustody swapSuccessful swapAborted swapTimedOut contractFinished remains left
-none-yet = record { accepts = refl; in-phase = refl; succeeded = refl; was-aborted = refl; timed-out = refl; finished = refl; leaves = refl }
+none-yet = record { accepts = refl; in-phase = refl; succeeded = refl; was-aborted = refl; timed-out = refl; finished = refl; leaves = refl; coinA = refl; coinB = refl }
 
-neither : Comes open3 bothToBob 3 false false false false []
+neither : Comes open3 bothToBob 3 false false false false [] bob bob
 unfolding opened inShared hasCustody swapSuccessful swapAborted swapTimedOut contractFinished remains left
-neither = record { accepts = refl; in-phase = refl; succeeded = refl; was-aborted = refl; timed-out = refl; finished = refl; leaves = refl }
+neither = record { accepts = refl; in-phase = refl; succeeded = refl; was-aborted = refl; timed-out = refl; finished = refl; leaves = refl; coinA = refl; coinB = refl }
 
 -- a timeout with secretBob in shared knowledge, or held by Alice, is none
 shared-no-timeout : swapTimedOut s3 (changeSlot success (withShared contract 8) (after careful3 timedOut)) ≡ false
@@ -186,18 +190,18 @@ unfolding opened
 early = ((λ k. omega (arith, k .pool-locks refund1 refl)), (λ k. omega (arith, k .block-locks refund1 refl)))
 
 -- spend_refund_1_bob in pool and block
-unexpected-stands : (Expected s3 careful3 (pooled spendRefund1Bob bob empty) → ⊥) × (Expected s3 careful3 (filled spendRefund1Bob bob empty) → ⊥)
+unexpected-stands : (Expected s3 (pooled spendRefund1Bob bob empty) → ⊥) × (Expected s3 (filled spendRefund1Bob bob empty) → ⊥)
 unfolding opened
 unexpected-stands = ((λ k. clash refl (k .unexpected .0)), (λ k. clash refl (k .unexpected .1)))
 
 -- spend_timeout confirmed without its parents: lock_A remains
-timeout-alone : Expected s3 careful3 (mined spendTimeout bob empty) → ⊥
+timeout-alone : Expected s3 (mined spendTimeout bob empty) → ⊥
 unfolding opened inShared swapTimedOut remains
 timeout-alone k = either (k .on-timeout refl lockA (omega arith) refl) (λ e. omega arith) (λ e. omega arith)
 
 -- nothing remains, and the swap is neither successful nor aborted
-one-takes-all : (Expected s3 careful3 (after open3 bothToBob) → ⊥) × (Expected s3 careful3 (after open3 bothToBob) → ⊥)
-    × (Fair s3 careful3 (after open3 bothToBob) → ⊥) × (Fair s3 careful3 (after open3 bothToBob) → ⊥)
+one-takes-all : (Expected s3 (after open3 bothToBob) → ⊥) × (Expected s3 (after open3 bothToBob) → ⊥)
+    × (Fair s3 (after open3 bothToBob) → ⊥) × (Fair s3 (after open3 bothToBob) → ⊥)
 unfolding opened inShared hasCustody swapSuccessful swapAborted swapTimedOut contractFinished remains noneRemains
 one-takes-all = (
   (λ k. clash refl (k .none-remaining)),
@@ -207,9 +211,9 @@ one-takes-all = (
 )
 
 -- finished, and lock_A remains, or waits in the pool or the block
-waits-on : (Expected s3 careful3 (mined spendB alice (mined spendA bob empty)) → ⊥)
-    × (Expected s3 careful3 (pooled lockA contract (after careful3 successful)) → ⊥)
-    × (Expected s3 careful3 (filled lockA contract (after careful3 successful)) → ⊥)
+waits-on : (Expected s3 (mined spendB alice (mined spendA bob empty)) → ⊥)
+    × (Expected s3 (pooled lockA contract (after careful3 successful)) → ⊥)
+    × (Expected s3 (filled lockA contract (after careful3 successful)) → ⊥)
 unfolding opened inShared hasCustody swapSuccessful swapAborted swapTimedOut contractFinished remains noneRemains
 waits-on = (
   (λ k. clash (k .finished refl refl .0) refl),
@@ -218,9 +222,9 @@ waits-on = (
 )
 
 -- timed out, and spend_B is confirmed, or waits in the pool or the block
-spent-late : (Expected s3 careful3 (mined spendB bob (after careful3 timedOut)) → ⊥)
-    × (Expected s3 careful3 (pooled spendB bob (after careful3 timedOut)) → ⊥)
-    × (Expected s3 careful3 (filled spendB bob (after careful3 timedOut)) → ⊥)
+spent-late : (Expected s3 (mined spendB bob (after careful3 timedOut)) → ⊥)
+    × (Expected s3 (pooled spendB bob (after careful3 timedOut)) → ⊥)
+    × (Expected s3 (filled spendB bob (after careful3 timedOut)) → ⊥)
 unfolding opened inShared swapTimedOut remains
 spent-late = (
   (λ k. clash (k .timed-out refl .0) refl),
@@ -229,7 +233,7 @@ spent-late = (
 )
 
 -- success shared before any phase
-shared-early : Fair s3 careful3 (after open3 (1 ∷ 0 ∷ 2 ∷ 2 ∷ [])) → ⊥
+shared-early : Fair s3 (after open3 (1 ∷ 0 ∷ 2 ∷ 2 ∷ [])) → ⊥
 unfolding opened
 shared-early k = omega (arith, k .success-late refl)
 
@@ -241,7 +245,7 @@ keyed a b p = record { slots = p .slots; mined = p .mined; keys = a ∷ b ∷ 0 
 abbrev toAlice : Position
 toAlice = mined spendA alice (mined lockA contract empty)
 
-alice-alone : (Fair s3 careful3 toAlice → ⊥) × (Fair s3 careful3 (keyed 5 2 (changeSlot refund1 (withShared contract 4) toAlice)) → ⊥)
+alice-alone : (Fair s3 toAlice → ⊥) × (Fair s3 (keyed 5 2 (changeSlot refund1 (withShared contract 4) toAlice)) → ⊥)
 unfolding opened inShared
 alice-alone = ((λ k. clash (k .alice-paid refl .0) refl), (λ k. clash (k .alice-paid refl .1) refl))
 
@@ -249,7 +253,7 @@ alice-alone = ((λ k. clash (k .alice-paid refl .0) refl), (λ k. clash (k .alic
 abbrev toBob : Position
 toBob = mined spendA bob (mined lockA contract empty)
 
-bob-alone : (Fair s3 careful3 toBob → ⊥) × (Fair s3 careful3 (keyed 9 10 (mined lockB contract toBob)) → ⊥) × (Fair s3 careful3 (keyed 13 10 toBob) → ⊥)
+bob-alone : (Fair s3 toBob → ⊥) × (Fair s3 (keyed 9 10 (mined lockB contract toBob)) → ⊥) × (Fair s3 (keyed 13 10 toBob) → ⊥)
 unfolding opened inShared swapTimedOut
 bob-alone = (
   (λ k. clash (k .bob-paid refl refl .0) refl),

@@ -157,7 +157,7 @@ module _ (u : List ℕ) (one : 0 < perDay u) (p : Position) (g : Sound (sheet u)
       let small : shared p success contract < 16 = rw (needs (perDay u) .four) at (wf .slots success .shared contract) in
       in-three p (x .lockB-first (some-bit (shared p success contract) small h))
 
-  pub fair : Wellformed (sheet u) p → Fair (sheet u) u p
+  pub fair : Wellformed (sheet u) p → Fair (sheet u) p
   fair wf =
       let s = sheet u in
       let held = holderIn s p in

@@ -54,7 +54,7 @@ abbrev pub ModelKept : Type 0
 ModelKept = (s u : List ℕ) → sheetRefusal s ≡ accepted → setupRefusal s u ≡ accepted → (bs : List FourBytes) → Kept s u (positionOf s u bs)
 
 -- ---- on the SASwap sheet under careful conduct
-pub record Expected (s u : List ℕ) (p : Position) : Type 0 where
+pub record Expected (s : List ℕ) (p : Position) : Type 0 where
   -- ConsistentPhase: exactly one, document 01's
   pub one-phase : cardinality (phases p) ≡ 1
   pub phase-is : getD (phases p) (phase p) false ≡ true
@@ -77,10 +77,10 @@ ModelExpected =
     → setupRefusal (saswap (perDay u)) u ≡ accepted
     → conduct u ≡ 2
     → (bs : List FourBytes)
-    → Expected (saswap (perDay u)) u (positionOf (saswap (perDay u)) u bs)
+    → Expected (saswap (perDay u)) (positionOf (saswap (perDay u)) u bs)
 
 -- ---- beyond 001, a fair ending, with the holders "read .. from the position"
-pub record Fair (s u : List ℕ) (p : Position) : Type 0 where
+pub record Fair (s : List ℕ) (p : Position) : Type 0 where
   -- success is shared only in phase 3, with coin B locked
   pub success-late : successUnshared p ≡ false → phase p ≡ 3
   -- both coins paid out: successful or aborted, one coin each
@@ -98,4 +98,4 @@ FairEnding =
     → setupRefusal (saswap (perDay u)) u ≡ accepted
     → conduct u ≡ 2
     → (bs : List FourBytes)
-    → Fair (saswap (perDay u)) u (positionOf (saswap (perDay u)) u bs)
+    → Fair (saswap (perDay u)) (positionOf (saswap (perDay u)) u bs)
