@@ -92,9 +92,16 @@ static bool read_here(const struct deal *deal, struct swap *swap)
     return unreadable.file == NULL || fail(deal, unreadable.file, unreadable.reason);
 }
 
-static void show_refusal(uint32_t refusal)
+/* Whether the journal is refused since it has no room for a step. */
+static bool is_full(const struct swap *swap, uint32_t refusal)
 {
-    printf("refused: %s (%s)\n", swap_refusal_words(refusal), swap_refusal_name(refusal));
+    return refusal == SWAP_JOURNAL_LENGTH && swap->journal_length == SWAP_JOURNAL_SIZE;
+}
+
+static void show_refusal(const struct swap *swap, uint32_t refusal)
+{
+    printf("refused: %s (%s)\n", is_full(swap, refusal) ? "the journal is full" : swap_refusal_words(refusal),
+           swap_refusal_name(refusal));
 }
 
 /* Whether the journal passed, so that the answer is the step's. */
@@ -122,19 +129,15 @@ static void show_answer(const struct deal *deal, uint32_t answer)
 {
     uint32_t refusal = SWAP_REFUSAL(answer);
 
-    if (refusal == SWAP_JOURNAL_LENGTH && deal->swap.journal_length == SWAP_JOURNAL_SIZE) {
-        printf("refused: the journal is full, with %d steps (%s)\n", SWAP_JOURNAL_SIZE / 4, swap_refusal_name(refusal));
-        return;
-    }
     if (is_of_step(&deal->swap, answer)) {
         show_step(deal, answer);
-    } else {
+    } else if (!is_full(&deal->swap, refusal)) {
         printf("the journal, after step %lu, is ", (unsigned long)SWAP_COUNT(answer));
     }
     if (refusal == SWAP_ACCEPTED) {
         printf("would pass\ncommit? ");
     } else {
-        show_refusal(refusal);
+        show_refusal(&deal->swap, refusal);
     }
 }
 
@@ -185,7 +188,7 @@ static bool commit_locked(const struct deal *deal, uint32_t count)
     answer = swap_commit(now.sheet, now.sheet_length, now.setup, now.setup_length, deal->step, sizeof deal->step, count,
                          now.journal, sizeof now.journal, (uint32_t)now.journal_length);
     if (answer != SWAP_ACCEPTED) {
-        show_refusal(SWAP_REFUSAL(answer));
+        show_refusal(&now, SWAP_REFUSAL(answer));
         return false;
     }
     return replace_journal(deal, &now);
