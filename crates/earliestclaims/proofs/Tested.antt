@@ -5,7 +5,7 @@ use native.Mathlib.Omega.{arith}
 use mathlib.Core.Path.{_≡_}
 use mathlib.Core.Bool.{Bool, true, not, _&&_, _||_}
 use mathlib.Core.List.{List}
-use lib.Dec.{eqb, leb}
+use lib.Dec.{eqb}
 use lib.ListN.{length}
 use borrow.Author.Tests.{eqb-true, eq-eqb, leb-true}
 use Rattle.laws.specs.Booleans.{and-parts}
@@ -17,7 +17,6 @@ use Rattle.ledger.specs.Coin.{coinOf}
 use Rattle.position.specs.Tests.{blockLimit}
 use Rattle.agreement.proofs.Tested.{entryAt, place-low, place-at}
 use Rattle.endings.specs.Earliest.{earliest}
-use Rattle.endings.specs.Plan.{planned}
 use Rattle.endings.specs.Ending.{coinsApart, inTime, isPossible}
 use Rattle.earliestclaims.specs.Words.{ConfirmsTo}
 use Rattle.earliestclaims.specs.Claim.{Cause, one-coin, too-late}
