@@ -4,7 +4,7 @@
 use Prim.Native.Nat.{ℕ, _<_}
 use native.Mathlib.Omega.{arith}
 use mathlib.Core.Path.{_≡_, refl}
-use mathlib.Core.Bool.{Bool, true, not, _&&_, false≢true}
+use mathlib.Core.Bool.{Bool, true, false, not, _&&_, false≢true}
 use mathlib.Core.List.{List, [], _∷_, _++_, flatMap}
 use lib.Dec.{eqb, lit<}
 use lib.ListN.{length, replicate}
@@ -27,7 +27,7 @@ use Rattle.readings.specs.Holder.{isPayout, isPayoutTo}
 use Rattle.readings.specs.Reported.{reportedHolder}
 use Rattle.position.specs.Holder.{holderIn}
 use Rattle.dated.proofs.OpenedRules.{opened-dated}
-use Rattle.agreement.specs.Claim.{entriesOf, booksOf, positionOf, reportOf, reportedBytes}
+use Rattle.agreement.specs.Claim.{entriesOf, booksOf, positionOf, reportOf, reportedBytes, Same}
 use Rattle.agreement.specs.Once.{OpenedOnce, SpentOnce, SpentAfter, NoEarlyLock}
 use Rattle.agreement.proofs.Tested.{apart, openBoth, spendBoth, parentAt, behind, opened-by, spent-by, after-by, after-says, locks-by}
 
@@ -138,6 +138,12 @@ examples =
       reading = record { holderA = alice; holderB = bob; paidByA = alice ∷ []; paidByB = bob ∷ [] };
     }
     ∷ []
+
+-- holders that are the ledger's, whatever they are read from: where Bob is paid from coin A, they say so
+pub paid-as-kept : (held : ℕ → ℕ) → Same sheet held (booksOf sheet setup (journalSteps (locked ++ swapped ++ mined)) .kept)
+    → (held lockA ≡ bob) × (isPayout sheet held lockA ≡ true) × (isPayoutTo sheet held bob lockA ≡ true) × (isPayoutTo sheet held alice lockA ≡ false)
+unfolding opened-dated
+paid-as-kept held x = (x .holders lockA, x .payouts lockA, x .payouts-to bob lockA, x .payouts-to alice lockA)
 
 -- the one fact
 pub all-hold : every holds examples ≡ true

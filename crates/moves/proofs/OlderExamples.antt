@@ -2,10 +2,13 @@
 -- number that each got and the one that it gets.
 -- Assumes nothing.
 use Prim.Native.Nat.{ℕ}
-use mathlib.Core.Path.{_≡_, refl}
+use native.Mathlib.Omega.{arith}
+use mathlib.Core.Path.{_≡_, refl, ap}
 use mathlib.Core.Bool.{Bool, true, false, _&&_, Bool·beq}
+use mathlib.Core.Logic.{_⊎_}
 use mathlib.Core.List.{List, [], _∷_, _++_}
 use lib.Dec.{eqb}
+use Rattle.laws.specs.Booleans.{either}
 use Rattle.laws.specs.Gather.{every}
 use Rattle.sheet.specs.Refusal.{stepSignatures, stepLock}
 use Rattle.sheet.specs.Saswap.{saswap}
@@ -14,10 +17,12 @@ use Rattle.slots.specs.declared.Step.{Step}
 use Rattle.slots.specs.declared.Step.the-variants.{SendToPool, HandToMiner}
 use Rattle.slots.specs.Destination.{alice, bob}
 use Rattle.steps.specs.Names.{revoke, refund2}
+use Rattle.position.specs.declared.Position.{Position}
+use Rattle.position.specs.declared.Ran.{Ran}
 use Rattle.position.specs.StepRefusal.{tests, stepRefusal}
 use Rattle.position.specs.Play.{run}
 use Rattle.position.proofs.Opened.{opened}
-use Rattle.moves.specs.OlderOrder.{olderSendTests, olderPoolTests, olderMinerTests, olderPayingPasses, olderCanPay, olderPayingFirst, olderAllows, olderRefusal, meets, passesBelow, meetsBoth, olderTake, olderRunFrom, olderRun}
+use Rattle.moves.specs.OlderOrder.{olderSendTests, olderPoolTests, olderMinerTests, olderPayingPasses, olderCanPay, olderPayingFirst, olderAllows, olderRefusal, meets, passesBelow, meetsBoth, olderTake, olderRunFrom, olderRun, SameRun}
 
 -- "open .., stealth 1"
 abbrev setup : List ℕ
@@ -79,3 +84,13 @@ journal-got = refl
 pub journal-gets : run (saswap 3) setup (at5 ++ (3 ∷ 1 ∷ 4 ∷ 2 ∷ mine)) .refusal ≡ 17
 unfolding opened
 journal-gets = refl
+
+-- what is said of the two answers, where run accepts seven steps and refuses by 17, and where it accepts all
+pub as-far : (older : Ran) → SameRun older (run (saswap 3) setup (at5 ++ (3 ∷ 1 ∷ 4 ∷ 2 ∷ mine)))
+    → (older .accepted ≡ 7) × (older .position .mined ≡ 5) × ((older .refusal ≡ 17) ⊎ ((older .refusal ≡ 16) × (_≡_ {A = ℕ} 17 17)))
+unfolding opened
+as-far older x = (x .accepted, ap (λ (p : Position). p .mined) (x .position), x .refusal)
+
+pub as-far-accepted : (older : Ran) → SameRun older (run (saswap 3) setup at5) → older .refusal ≡ 0
+unfolding opened
+as-far-accepted older x = either (x .refusal) (λ e. e) (λ w. let z : _≡_ {A = ℕ} 0 17 = w .1 in absurd (omega (arith, z)))

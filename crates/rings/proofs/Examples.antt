@@ -9,12 +9,15 @@ use Rattle.sheet.specs.Refusal.{accepted}
 use Rattle.laws.specs.Sets.{joined, setBelow}
 use Rattle.sheet.specs.Field.{place, partyAt}
 use Rattle.sheet.specs.Check.{sheetRefusal}
+use Rattle.sheet.specs.LockHeight.{never}
 use Rattle.slots.specs.Destination.{destinations}
+use Rattle.position.specs.declared.Position.{Position}
 use Rattle.position.specs.declared.Ran.{Ran}
-use Rattle.position.specs.Position.{start}
+use Rattle.position.specs.Position.{start, blockOf, lockHeightIn, deadlineIn}
 use Rattle.position.specs.Play.{run}
+use Rattle.position.specs.Report.{status, payee}
 use Rattle.position.proofs.Opened.{opened}
-use Rattle.rings.specs.Renaming.{Renaming, RenamedSheet, renamedPayees, renamedByte, renamedSheet, renamedJournal, renamedEntry, Renamed, RunRenamed}
+use Rattle.rings.specs.Renaming.{Renaming, RenamedSheet, renamedPayees, renamedByte, renamedSheet, renamedJournal, renamedEntry, Renamed, RunRenamed, RowRenamed}
 use Rattle.rings.proofs.Theorems.{renaming-of-rings}
 
 -- Alice becomes Bob, Bob Carol, Carol Alice
@@ -151,3 +154,9 @@ same-journal = refl
 pub ring-runs : (u j : List ℕ) → RunRenamed turn ring (renamedSheet turn ring) u j
 unfolding opened
 ring-runs u j = renaming-of-rings turn ring u j refl ring-passes
+
+-- what is said of 5's row in a renamed position, in numbers: status 1, for the pool; unconfirmed; lock height 3, no deadline
+pub row-says : (q : Position) → RowRenamed turn ring renamedRing setup (run ring setup journal .position) q 5
+    → (status renamedRing q 5 ≡ 1) × (payee q 5 ≡ 255) × (blockOf q 5 ≡ 0) × (lockHeightIn renamedRing setup q 5 ≡ 3) × (deadlineIn renamedRing setup q 5 ≡ never)
+unfolding opened turn turned
+row-says q x = (x .status-same, x .payee-renamed, x .block-same, x .lock-same, x .deadline-same)
