@@ -18,7 +18,7 @@ fn main() {
             let broken = [
                 invariants::false_on_any_sheet(&game.sheet, &game.setup, position),
                 invariants::false_under_care(&game.sheet, position),
-                invariants::unfair(&game.sheet, position),
+                invariants::unfair(&game.sheet, &game.setup, position),
             ]
             .concat();
             assert_eq!(broken, [""; 0], "{position:?}");

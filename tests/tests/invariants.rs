@@ -12,7 +12,7 @@ fn broken(game: &Game, position: &Position) -> Vec<&'static str> {
     [
         invariants::false_on_any_sheet(&game.sheet, &game.setup, position),
         invariants::false_under_care(&game.sheet, position),
-        invariants::unfair(&game.sheet, position),
+        invariants::unfair(&game.sheet, &game.setup, position),
     ]
     .concat()
 }
@@ -71,7 +71,10 @@ fn success_shared_in_phase_2() {
         ..Faults::NONE
     };
     let expected = BTreeMap::from([
-        ("coin A paid to Bob: Alice has what spend_B needs and coin B is locked, or the swap has timed out", 504),
+        (
+            "coin A paid to Bob: Alice can take coin B, or the swap has timed out",
+            504,
+        ),
         ("success is shared in phase 3 alone", 1_684),
     ]);
     assert_eq!(false_ones(&game), expected);
@@ -86,6 +89,14 @@ fn loose_conduct() {
         (
             "both coins paid out: successful or aborted, one coin each",
             143,
+        ),
+        (
+            "coin A paid to Alice: Bob can take coin B if it is locked",
+            144,
+        ),
+        (
+            "coin A paid to Bob: Alice can take coin B, or the swap has timed out",
+            38,
         ),
     ]);
     assert_eq!(false_ones(&Game::saswap(1, 1, 0)), expected);

@@ -22,7 +22,7 @@ use Rattle.position.specs.Play.{run}
 use Rattle.position.proofs.Opened.{opened}
 use Rattle.careful.specs.Claim.{inShared}
 use Rattle.claim_model.specs.Words.{bothShared, phases, cardinality, remains, noneRemains, hasCustody, swapSuccessful, swapAborted, swapTimedOut, contractFinished}
-use Rattle.claim_model.specs.Claim.{Kept, Expected, Fair}
+use Rattle.claim_model.specs.Claim.{Kept, Expected, Takes, Fair}
 
 abbrev s3 : List ℕ
 s3 = saswap 3
@@ -201,7 +201,7 @@ timeout-alone k = either (k .on-timeout refl lockA (omega arith) refl) (λ e. om
 
 -- nothing remains, and the swap is neither successful nor aborted
 one-takes-all : (Expected s3 (after open3 bothToBob) → ⊥) × (Expected s3 (after open3 bothToBob) → ⊥)
-    × (Fair s3 (after open3 bothToBob) → ⊥) × (Fair s3 (after open3 bothToBob) → ⊥)
+    × (Fair s3 careful3 (after open3 bothToBob) → ⊥) × (Fair s3 careful3 (after open3 bothToBob) → ⊥)
 unfolding opened inShared hasCustody swapSuccessful swapAborted swapTimedOut contractFinished remains noneRemains
 one-takes-all = (
   (λ k. clash refl (k .none-remaining)),
@@ -233,7 +233,7 @@ spent-late = (
 )
 
 -- success shared before any phase
-shared-early : Fair s3 (after open3 (1 ∷ 0 ∷ 2 ∷ 2 ∷ [])) → ⊥
+shared-early : Fair s3 careful3 (after open3 (1 ∷ 0 ∷ 2 ∷ 2 ∷ [])) → ⊥
 unfolding opened
 shared-early k = omega (arith, k .success-late refl)
 
@@ -245,7 +245,7 @@ keyed a b p = record { slots = p .slots; mined = p .mined; keys = a ∷ b ∷ 0 
 abbrev toAlice : Position
 toAlice = mined spendA alice (mined lockA contract empty)
 
-alice-alone : (Fair s3 toAlice → ⊥) × (Fair s3 (keyed 5 2 (changeSlot refund1 (withShared contract 4) toAlice)) → ⊥)
+alice-alone : (Fair s3 careful3 toAlice → ⊥) × (Fair s3 careful3 (keyed 5 2 (changeSlot refund1 (withShared contract 4) toAlice)) → ⊥)
 unfolding opened inShared
 alice-alone = ((λ k. clash (k .alice-paid refl .0) refl), (λ k. clash (k .alice-paid refl .1) refl))
 
@@ -253,10 +253,23 @@ alice-alone = ((λ k. clash (k .alice-paid refl .0) refl), (λ k. clash (k .alic
 abbrev toBob : Position
 toBob = mined spendA bob (mined lockA contract empty)
 
-bob-alone : (Fair s3 toBob → ⊥) × (Fair s3 (keyed 9 10 (mined lockB contract toBob)) → ⊥) × (Fair s3 (keyed 13 10 toBob) → ⊥)
+bob-alone : (Fair s3 careful3 toBob → ⊥) × (Fair s3 careful3 (keyed 9 10 (mined lockB contract toBob)) → ⊥) × (Fair s3 careful3 (keyed 13 10 toBob) → ⊥)
 unfolding opened inShared swapTimedOut
 bob-alone = (
   (λ k. clash (k .bob-paid refl refl .0) refl),
   (λ k. clash (k .bob-paid refl refl .1) refl),
   (λ k. clash (k .bob-paid refl refl .2) refl),
+)
+
+-- coin B cannot be taken before it is locked; where spend_B stands for Bob it is not Alice's
+bob-takes : (Takes s3 careful3 empty alice → ⊥)
+    × (Takes s3 careful3 (pooled spendB bob empty) alice → ⊥)
+    × (Takes s3 careful3 (filled spendB bob empty) alice → ⊥)
+    × (Takes s3 careful3 (mined spendB bob empty) alice → ⊥)
+unfolding opened
+bob-takes = (
+  (λ k. omega (arith, k .now refl)),
+  (λ k. omega (arith, k .in-pool refl)),
+  (λ k. omega (arith, k .in-block refl)),
+  (λ k. omega (arith, k .in-chain refl)),
 )

@@ -4,16 +4,16 @@ use Prim.Native.Nat.{ℕ, _<_}
 use native.Mathlib.Omega.{arith}
 use mathlib.Core.Path.{_≡_, refl}
 use mathlib.Core.Bool.{Bool, true, false, not, _&&_, _||_}
-use mathlib.Core.Logic.{inl}
+use mathlib.Core.Logic.{inl, inr}
 use mathlib.Core.List.{List}
 use lib.Dec.{eqb}
-use borrow.Author.Tests.{eqb-true, eq-eqb, lt-ltb}
+use borrow.Author.Tests.{eqb-true, eq-eqb}
 use Rattle.laws.specs.Booleans.{either, clash, or-parts, or-right, fails-by}
 use Rattle.laws.specs.Below.{any-some}
 use Rattle.laws.specs.Mask.{bit}
 use Rattle.sheet.specs.Field.{count, secrets}
 use Rattle.sheet.specs.Saswap.{saswap}
-use Rattle.sheet.specs.Setup.{perDay}
+use Rattle.sheet.specs.Setup.{perDay, conduct}
 use Rattle.slots.specs.Destination.{alice, bob, contract}
 use Rattle.slots.specs.Signatures.{exposedMask, signed}
 use Rattle.slots.specs.Slot.{sharedAny}
@@ -27,16 +27,18 @@ use Rattle.position.proofs.Opened.{opened}
 use Rattle.moves.specs.Wellformed.{Wellformed}
 use Rattle.agreement.proofs.Sound.{Sound}
 use Rattle.careful.specs.Claim.{inShared}
-use Rattle.careful.proofs.Apart.{secretBob-shown}
+use Rattle.careful.proofs.Apart.{secretAlice-shown, secretBob-shown, bob-out, secrets-apart}
 use Rattle.careful.proofs.Has.{somewhere}
-use Rattle.careful.proofs.Invariant.{Invariant}
+use Rattle.careful.proofs.Invariant.{SecretBobOut, SecretAliceOut, Invariant}
 use Rattle.careful.proofs.Payouts.{Paid, paid, stands, pays, above, not-both-paid}
 use Rattle.careful.proofs.Setting.{sheet}
 use Rattle.careful.proofs.Table.{needs, pays-alice, pays-bob, contracts, below}
 use Rattle.claim_model.specs.Words.{swapTimedOut}
-use Rattle.claim_model.specs.Claim.{Fair}
+use Rattle.claim_model.specs.Claim.{Takes, Fair}
 use Rattle.claim_model.proofs.Shared.{shown-in, held-has, shared-has, signs-spendB, some-bit}
+use Rattle.claim_model.proofs.AnySheets.{has-block}
 use Rattle.claim_model.proofs.Endings.{ended}
+use Rattle.claim_model.proofs.Taking.{confirmed-at, in-three, taken-by, alice-sends, bob-sends}
 use Rattle.claim_model.proofs.Exposed.{Exposed}
 
 -- column "needs": success exposes secretBob, the refunds secretAlice
@@ -52,27 +54,18 @@ both-secret : (d : ℕ) → (bit (secrets (saswap d)) secretAlice ≡ true) × (
 unfolding opened
 both-secret d = (refl, refl)
 
-confirmed-at : (p : Position) (t : ℕ) → 0 < blockOf p t → isConfirmed p t ≡ true
-unfolding isConfirmed
-confirmed-at p t h = lt-ltb 0 (blockOf p t) h
-
 -- a secret that Alice lacks, by key and in shared knowledge
 known : (k o : Bool) → (not k && not o) ≡ false → (k || o) ≡ true
 known true o h = refl
 known false true h = refl
 known false false h = clash refl h
 
--- "Phase 3: lock_B confirmed"
-in-three : (p : Position) → 0 < blockOf p lockB → phase p ≡ 3
-unfolding phase
-in-three p h = rw (confirmed-at p lockB h)
-
 -- a coin that is paid out is paid to its holder
 to-holder : (s : List ℕ) (held : ℕ → ℕ) (coin : ℕ) → isPayout s held coin ≡ true → isPayoutTo s held (held coin) coin ≡ true
 unfolding isPayoutTo
 to-holder s held coin h = rw (h, eq-eqb (held coin) (held coin) refl)
 
-module _ (u : List ℕ) (one : 0 < perDay u) (p : Position) (g : Sound (sheet u) u p) (j : Invariant u p) (x : Exposed u p) where
+module _ (u : List ℕ) (c : conduct u ≡ 2) (one : 0 < perDay u) (p : Position) (g : Sound (sheet u) u p) (j : Invariant u p) (x : Exposed u p) where
   -- ---- coin A to Alice
   alice-refunded : Paid (sheet u) p alice lockA → inShared (sheet u) p secretAlice ≡ true
   alice-refunded a =
@@ -119,15 +112,17 @@ module _ (u : List ℕ) (one : 0 < perDay u) (p : Position) (g : Sound (sheet u)
       known key out (rw now at n)))
 
   -- secretBob is with Alice only where success is shared, and then coin B is locked
-  alice-locked : AliceKnows → 0 < blockOf p lockB
+  secretBob-out : AliceKnows → SecretBobOut p
   unfolding inShared
-  alice-locked h =
-      x .lockB-first
-      (either (or-parts (holds p alice secretBob) (inShared (sheet u) p secretBob) h)
-      (j .secretBob-given)
+  secretBob-out h =
+      either (or-parts (holds p alice secretBob) (inShared (sheet u) p secretBob) h)
+      inl
       (λ y.
       let w = any-some (count (sheet u)) (λ t. bit (sharedAny (slot p t)) secretBob) y in
-      (secretBob, secretBob-shown u p j (somewhere p (w .0) secretBob (w .2)))))
+      inr (secretBob-shown u p j (somewhere p (w .0) secretBob (w .2))))
+
+  alice-locked : AliceKnows → 0 < blockOf p lockB
+  alice-locked h = x .lockB-first (bob-out u p j (secretBob-out h))
 
   alice-signs : AliceKnows → signed (sheet u) (senderHas (sheet u) p alice spendB alice) spendB ≡ true
   alice-signs h =
@@ -136,6 +131,23 @@ module _ (u : List ℕ) (one : 0 < perDay u) (p : Position) (g : Sound (sheet u)
       (either (or-parts (holds p alice secretBob) (inShared (sheet u) p secretBob) h)
       (held-has (sheet u) p alice spendB alice secretBob)
       (shared-has (sheet u) p alice spendB alice secretBob (both-secret (perDay u) .1)))
+
+  -- ---- coin B
+  secretAlice-out : inShared (sheet u) p secretAlice ≡ true → SecretAliceOut p
+  unfolding inShared
+  secretAlice-out h =
+      let w = any-some (count (sheet u)) (λ t. bit (sharedAny (slot p t)) secretAlice) h in
+      secretAlice-shown u p j (somewhere p (w .0) secretAlice (w .2))
+
+  bob-takes : inShared (sheet u) p secretAlice ≡ true → 0 < blockOf p lockB → Takes (sheet u) u p bob
+  bob-takes h l =
+      taken-by u c p l g bob (bob-sends u c p l g (bob-signs h))
+      (λ e k o. either o (λ y. absurd (secrets-apart u one p g j (secretAlice-out h) (j .spendB-alice (rw y at k)))) (λ y. y))
+
+  alice-takes : AliceKnows → 0 < blockOf p lockB → Takes (sheet u) u p alice
+  alice-takes h l =
+      taken-by u c p l g alice (alice-sends u c p l g (alice-signs h))
+      (λ e k o. either o (λ y. y) (λ y. absurd (secrets-apart u one p g j (j .spendB-bob (rw y at k)) (secretBob-out h))))
 
   -- ---- both coins
   one-each : isPayout (sheet u) (holderIn (sheet u) p) lockA ≡ true → isPayout (sheet u) (holderIn (sheet u) p) lockB ≡ true
@@ -157,13 +169,13 @@ module _ (u : List ℕ) (one : 0 < perDay u) (p : Position) (g : Sound (sheet u)
       let small : shared p success contract < 16 = rw (needs (perDay u) .four) at (wf .slots success .shared contract) in
       in-three p (x .lockB-first (some-bit (shared p success contract) small h))
 
-  pub fair : Wellformed (sheet u) p → Fair (sheet u) p
+  pub fair : Wellformed (sheet u) p → Fair (sheet u) u p
   fair wf =
       let s = sheet u in
       let held = holderIn s p in
       record {
         success-late = shared-late wf;
         both-paid = λ a b. (ended u one p g j (held lockA) (held lockB) (paid s p (held lockA) lockA (to-holder s held lockA a)) (paid s p (held lockB) lockB (to-holder s held lockB b)), one-each a b);
-        alice-paid = λ h. let w = alice-refunded (paid s p alice lockA h) in (w, bob-signs w);
-        bob-paid = λ h n. let w = bob-given (paid s p bob lockA h) n in (w, alice-signs w, confirmed-at p lockB (alice-locked w));
+        alice-paid = λ h. let w = alice-refunded (paid s p alice lockA h) in (w, bob-signs w, λ l. bob-takes w (has-block s u p g lockB l));
+        bob-paid = λ h n. let w = bob-given (paid s p bob lockA h) n in let l = alice-locked w in (w, alice-signs w, confirmed-at p lockB l, alice-takes w l);
       }

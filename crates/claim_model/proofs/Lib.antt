@@ -7,6 +7,7 @@ pub mod Waiting
 pub mod Shared
 pub mod Endings
 pub mod Exposed
+pub mod Taking
 pub mod Fair
 pub mod Theorems
 pub mod Examples

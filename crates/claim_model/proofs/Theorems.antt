@@ -58,5 +58,5 @@ fair-ending u r c bs =
     let w = watched u r c bs in
     let k = w .guarded in
     let h = saswap-passes (perDay u) in
-    fair u (setup-checked s u r .blocks-some) (positionOf s u bs) (k .sound) (k .invariant) (w .beside)
+    fair u c (setup-checked s u r .blocks-some) (positionOf s u bs) (k .sound) (k .invariant) (w .beside)
     (wellformed-play s u bs (start s) h (wellformed-start s h))

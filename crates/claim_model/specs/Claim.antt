@@ -24,7 +24,7 @@ use Rattle.position.specs.Position.{inPool, poolTo, inBlock, blockTo, isConfirm
 use Rattle.position.specs.Conduct.{phase, successUnshared}
 use Rattle.readings.specs.Holder.{isPayout, isPayoutTo}
 use Rattle.position.specs.Holder.{holderIn}
-use Rattle.position.specs.Play.{FourBytes}
+use Rattle.position.specs.Play.{FourBytes, step}
 use Rattle.moves.specs.Wellformed.{Wellformed}
 use Rattle.agreement.specs.Claim.{positionOf}
 use Rattle.careful.specs.Claim.{inShared}
@@ -79,18 +79,28 @@ ModelExpected =
     → (bs : List FourBytes)
     → Expected (saswap (perDay u)) (positionOf (saswap (perDay u)) u bs)
 
--- ---- beyond 001, a fair ending, with the holders "read .. from the position"
-pub record Fair (s : List ℕ) (p : Position) : Type 0 where
+-- ---- beyond 001, a fair ending
+-- a party can take coin B: its send of spend_B to the pool passes, and where spend_B stands already it is that party's
+pub record Takes (s u : List ℕ) (p : Position) (party : ℕ) : Type 0 where
+  pub now : sent p spendB ≡ false → step s u p (record { kind = 3; party = party; transaction = spendB; destination = party }) .refusal ≡ accepted
+  pub in-pool : inPool p spendB ≡ true → poolTo p spendB ≡ party
+  pub in-block : inBlock p spendB ≡ true → blockTo p spendB ≡ party
+  pub in-chain : isConfirmed p spendB ≡ true → confirmedTo p spendB ≡ party
+
+-- a fair ending, with the holders "read .. from the position"
+pub record Fair (s u : List ℕ) (p : Position) : Type 0 where
   -- success is shared only in phase 3, with coin B locked
   pub success-late : successUnshared p ≡ false → phase p ≡ 3
   -- both coins paid out: successful or aborted, one coin each
   pub both-paid : isPayout s (holderIn s p) lockA ≡ true → isPayout s (holderIn s p) lockB ≡ true
       → ((swapSuccessful p || swapAborted p) ≡ true) × (eqb (holderIn s p lockA) (holderIn s p lockB) ≡ false)
-  -- coin A paid to Alice: secretAlice is in shared knowledge, and Bob has what spend_B needs
-  pub alice-paid : isPayoutTo s (holderIn s p) alice lockA ≡ true → (inShared s p secretAlice ≡ true) × (signed s (senderHas s p bob spendB bob) spendB ≡ true)
-  -- coin A paid to Bob: Alice has secretBob, by key or shared, so what spend_B needs, and coin B is locked; or the swap has timed out
+  -- coin A paid to Alice: secretAlice is in shared knowledge, so Bob has what spend_B needs; if coin B is locked, he can take it
+  pub alice-paid : isPayoutTo s (holderIn s p) alice lockA ≡ true
+      → (inShared s p secretAlice ≡ true) × (signed s (senderHas s p bob spendB bob) spendB ≡ true) × (isConfirmed p lockB ≡ true → Takes s u p bob)
+  -- coin A paid to Bob: the swap has timed out, or Alice has secretBob, by key or shared, so what spend_B needs; coin B is locked, and she
+  -- can take it
   pub bob-paid : isPayoutTo s (holderIn s p) bob lockA ≡ true → swapTimedOut s p ≡ false
-      → ((holds p alice secretBob || inShared s p secretBob) ≡ true) × (signed s (senderHas s p alice spendB alice) spendB ≡ true) × (isConfirmed p lockB ≡ true)
+      → ((holds p alice secretBob || inShared s p secretBob) ≡ true) × (signed s (senderHas s p alice spendB alice) spendB ≡ true) × (isConfirmed p lockB ≡ true) × Takes s u p alice
 
 abbrev pub FairEnding : Type 0
 FairEnding =
@@ -98,4 +108,4 @@ FairEnding =
     → setupRefusal (saswap (perDay u)) u ≡ accepted
     → conduct u ≡ 2
     → (bs : List FourBytes)
-    → Fair (saswap (perDay u)) (positionOf (saswap (perDay u)) u bs)
+    → Fair (saswap (perDay u)) u (positionOf (saswap (perDay u)) u bs)

@@ -6,7 +6,7 @@ use super::heights;
 use super::position::{contains, within, Position};
 use super::setup::Setup;
 use super::sheet::Sheet;
-use super::{report, ALICE, BOB, CONTRACT};
+use super::{report, step, ALICE, BOB, CONTRACT};
 use std::collections::BTreeSet;
 
 /// The transactions of the SASwap sheet that pay, beside spend_B.
@@ -178,7 +178,7 @@ pub fn false_under_care(sheet: &Sheet, position: &Position) -> Vec<&'static str>
 }
 
 /// A fair ending, under careful conduct, likewise.
-pub fn unfair(sheet: &Sheet, position: &Position) -> Vec<&'static str> {
+pub fn unfair(sheet: &Sheet, setup: &Setup, position: &Position) -> Vec<&'static str> {
     let holders = report::holders_from_position(sheet, position);
     let payouts = report::payouts(&holders);
     let paid = |party: u8| payouts.get(&LOCK_A) == Some(&party);
@@ -186,6 +186,18 @@ pub fn unfair(sheet: &Sheet, position: &Position) -> Vec<&'static str> {
         let needs = sheet.transaction(SPEND_B).needs;
         within(needs, position.signatures(sheet, party, SPEND_B, party))
     };
+    let takes = |party: u8| {
+        let pool = position.pool.get(&SPEND_B).copied();
+        let block = position.block.get(&SPEND_B).copied();
+        let chain = position.confirmed.get(&SPEND_B).map(|c| c.destination);
+        let own = [pool, block, chain]
+            .into_iter()
+            .flatten()
+            .all(|to| to == party);
+        let sent = pool.is_some() || chain.is_some();
+        own && (sent || step::refusal(sheet, setup, position, &[3, party, SPEND_B, party]) == 0)
+    };
+    let locked = position.is_confirmed(LOCK_B);
     let knows = position.holds(ALICE, SECRET_BOB) || is_shared(position, SECRET_BOB);
     let shared_success = position.shared.contains_key(&(SUCCESS, CONTRACT));
     let each_one = payouts.get(&LOCK_A) != payouts.get(&LOCK_B);
@@ -199,14 +211,13 @@ pub fn unfair(sheet: &Sheet, position: &Position) -> Vec<&'static str> {
             payouts.len() < 2 || (successful(position) || aborted(position)) && each_one,
         ),
         (
-            "coin A paid to Alice: Bob has what spend_B needs",
-            !paid(ALICE) || is_shared(position, SECRET_ALICE) && signs(BOB),
+            "coin A paid to Alice: Bob can take coin B if it is locked",
+            !paid(ALICE)
+                || is_shared(position, SECRET_ALICE) && signs(BOB) && (!locked || takes(BOB)),
         ),
         (
-            "coin A paid to Bob: Alice has what spend_B needs and coin B is locked, or the swap has timed out",
-            !paid(BOB)
-                || timed_out(position)
-                || knows && signs(ALICE) && position.is_confirmed(LOCK_B),
+            "coin A paid to Bob: Alice can take coin B, or the swap has timed out",
+            !paid(BOB) || timed_out(position) || knows && signs(ALICE) && locked && takes(ALICE),
         ),
     ])
 }
