@@ -12,6 +12,7 @@ use Rattle.laws.specs.Below.{allBelow, all-at}
 use Rattle.laws.specs.Mask.{bit}
 use Rattle.sheet.specs.Field.{count, parent, opening, signatures, secrets, required}
 use Rattle.sheet.specs.Saswap.{saswap}
+use Rattle.sheet.proofs.Theorems.{saswap-sizes}
 use Rattle.slots.specs.Conflict.{conflict}
 use Rattle.slots.specs.Destination.{alice, bob, isContract, isPayee}
 use Rattle.slots.specs.Signatures.{exposedMask}
@@ -20,8 +21,7 @@ use Rattle.steps.specs.Names.{sigAlice, sigBob, secretAlice, secretBob, lockA, 
 use Rattle.position.proofs.Opened.{opened}
 
 pub fifteen : (d : ℕ) → count (saswap d) ≡ 15
-unfolding opened
-fifteen d = refl
+fifteen d = saswap-sizes d .0
 
 -- a rule: every transaction that passes the first test passes the second
 pub rule : (d : ℕ) (if then : ℕ → Bool) → allBelow 15 (λ t. not (if t) || then t) ≡ true → (t : ℕ) → t < count (saswap d)

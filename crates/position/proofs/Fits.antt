@@ -2,20 +2,15 @@
 -- Assumes nothing.
 use Prim.Native.Nat.{ℕ}
 use native.Mathlib.Omega.{arith}
-use mathlib.Core.Path.{_≡_, refl, ap, _∙_}
+use mathlib.Core.Path.{_≡_, ap, _∙_}
 use mathlib.Core.Bool.{false}
 use mathlib.Core.List.{List}
 use borrow.Author.Tests.{eqb-false}
 use Rattle.sheet.specs.Field.{count}
-use Rattle.sheet.specs.Saswap.{saswap}
 use Rattle.sheet.specs.Setup.{perDay, conduct}
 use Rattle.sheet.specs.Checked.{SetupChecked}
-use Rattle.sheet.proofs.Opened.{opened}
+use Rattle.sheet.proofs.Theorems.{saswap-sizes}
 use Rattle.position.specs.Conduct.{isOpen}
-
-saswap-count : (d : ℕ) → count (saswap d) ≡ 15
-unfolding opened
-saswap-count d = refl
 
 not-open : (u : List ℕ) → isOpen u ≡ false → conduct u ≡ 0 → ⊥
 unfolding isOpen
@@ -23,4 +18,4 @@ not-open u h = eqb-false (conduct u) 0 h
 
 -- "Conduct 1 and 2 take only the SASwap sheet"
 pub named : {s u : List ℕ} → SetupChecked s u → isOpen u ≡ false → count s ≡ 15
-named {s} {u} setup o = let z = not-open u o in ap count (setup .sheet-fits (omega (arith, z))) ∙ saswap-count (perDay u)
+named {s} {u} setup o = let z = not-open u o in ap count (setup .sheet-fits (omega (arith, z))) ∙ saswap-sizes (perDay u) .0

@@ -7,8 +7,9 @@ use mathlib.Core.Bool.{false}
 use mathlib.Core.List.{List, [], _∷_}
 use lib.Dec.{eqb}
 use lib.ListN.{getD, drop}
-use borrow.Author.Tests.{lt-ltb, le-ltb}
+use borrow.Author.Tests.{le-ltb}
 use Rattle.sheet.specs.Field.{byte, parties, arrays, place, isParty, count, entry, lockPair}
+use Rattle.sheet.proofs.Parties.{parties-two, parties-three}
 use Rattle.slots.specs.Destination.{carol}
 use Rattle.rings.specs.Claim.{withCarol}
 use Rattle.rings.proofs.Alike.{Alike}
@@ -20,12 +21,11 @@ getD-drop (suc n) (x ∷ s) i = let e : suc n + i ≡ suc (n + i) = omega arith 
 
 module _ (s : List ℕ) (two : byte s 0 < 128) where
   pub two-parties : parties s ≡ 2
-  unfolding parties
-  two-parties = rw (lt-ltb (byte s 0) 128 two)
+  two-parties = parties-two s two
 
   pub three-parties : parties (withCarol s) ≡ 3
-  unfolding parties withCarol
-  three-parties = rw (le-ltb (128 + byte s 0) 128 (omega arith))
+  unfolding withCarol
+  three-parties = parties-three (withCarol s) (omega arith)
 
   count-same : count (withCarol s) ≡ count s
   unfolding count withCarol

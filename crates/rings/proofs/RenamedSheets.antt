@@ -16,7 +16,7 @@ use Rattle.laws.specs.Sets.{set-bit, set-some}
 use Rattle.sheet.specs.Refusal.{accepted}
 use Rattle.sheet.specs.Field.{byte, parties, arrays, miner, place, partyAt, isParty, count, startMask, startKeys, entry, lockPair, payees}
 use Rattle.sheet.specs.Check.{sheetRefusal}
-use Rattle.sheet.proofs.Parties.{place-at, place-below, at-place, party-at, party-past}
+use Rattle.sheet.proofs.Parties.{parties-same, place-at, place-below, at-place, party-at, party-past}
 use Rattle.sheet.proofs.PassedSheet.{passed-sheet}
 use Rattle.slots.specs.Destination.{destinations, isPayee, isContract}
 use Rattle.rings.specs.Renaming.{Renaming, SameTransactions, RenamedSheet, renamedPayees, renamedByte, renamedSheet}
@@ -72,8 +72,7 @@ module _ (ρ : Renaming) (s : List ℕ) (three : parties s ≡ 3) (h : sheetRefu
       (λ y. not-rewritten (length s) (renamedByte ρ s) s i 0 (ltb-false i (length s) y))
 
   pub parties-kept : parties (renamedSheet ρ s) ≡ 3
-  unfolding parties
-  parties-kept = rw (other 0 refl refl) three
+  parties-kept = parties-same s (renamedSheet ρ s) (other 0 refl refl) ∙ three
 
   pub count-kept : count (renamedSheet ρ s) ≡ count s
   unfolding count

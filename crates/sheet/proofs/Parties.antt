@@ -20,6 +20,19 @@ pub parties-few : (s : List ℕ) → parties s ≤ 3
 unfolding parties
 parties-few s = split (ltb (byte s 0) 128) (λ e. rw e (lit≤ tt)) (λ e. rw e (lit≤ tt))
 
+-- by the first byte: below 128 two, else three
+pub parties-two : (s : List ℕ) → byte s 0 < 128 → parties s ≡ 2
+unfolding parties
+parties-two s h = rw (lt-ltb (byte s 0) 128 h)
+
+pub parties-three : (s : List ℕ) → 128 ≤ byte s 0 → parties s ≡ 3
+unfolding parties
+parties-three s h = rw (le-ltb (byte s 0) 128 h)
+
+pub parties-same : (s v : List ℕ) → byte v 0 ≡ byte s 0 → parties v ≡ parties s
+unfolding parties
+parties-same s v e = rw e
+
 -- a sheet without bytes has two
 pub parties-empty : (s : List ℕ) → length s ≡ 0 → parties s ≡ 2
 unfolding parties
@@ -81,6 +94,11 @@ module _ (s : List ℕ) where
   pub party-at : (k : ℕ) → k < parties s → isParty s (partyAt k) ≡ true
   unfolding isParty
   party-at k h = rw (at-not-miner k, place-at k) (lt-ltb k (parties s) h)
+
+  -- a place past the sheet's parties is nobody's
+  pub party-none : (k : ℕ) → parties s ≤ k → isParty s (partyAt k) ≡ false
+  unfolding isParty
+  party-none k h = rw (at-not-miner k, place-at k) (le-ltb k (parties s) h)
 
   pub party-alice : isParty s 0 ≡ true
   unfolding isParty place

@@ -11,7 +11,7 @@ use borrow.Author.Tests.{eqb-true, eq-eqb, le-leb}
 use Rattle.laws.specs.Below.{allBelow, all-at}
 use Rattle.laws.specs.Failing.{firstFailing}
 use Rattle.laws.specs.Same.{equal-same}
-use Rattle.sheet.specs.Field.{parties}
+use Rattle.sheet.specs.Field.{parties, count, signatures}
 use Rattle.sheet.specs.Check.{sheetRefusal}
 use Rattle.sheet.proofs.Opened.{opened}
 use Rattle.sheet.proofs.Offset.{offset-small}
@@ -32,6 +32,11 @@ saswap-passes d =
 pub parties-saswap : (d : ℕ) → parties (saswap d) ≡ 2
 unfolding opened
 parties-saswap d = refl
+
+-- and 15 transactions with 4 signatures
+pub saswap-sizes : (d : ℕ) → (count (saswap d) ≡ 15) × (signatures (saswap d) ≡ 4)
+unfolding opened
+saswap-sizes d = (refl, refl)
 
 pub saswap-fits : (u : List ℕ) → length u ≡ 4 → 1 ≤ perDay u → perDay u ≤ 1000 → conduct u ≤ 2 → stealth u ≤ 1 → setupRefusal (saswap (perDay u)) u ≡ 0
 unfolding setupRefusal setupTests firstFailing blocksRight partiesRight conductRight isSaswap

@@ -6,7 +6,7 @@ use mathlib.Core.List.{List}
 use lib.Dec.{lit<}
 use lib.ListN.{length}
 use Rattle.laws.specs.Failing.{answer-below}
-use Rattle.sheet.specs.Field.{parties}
+use Rattle.sheet.specs.Field.{parties, count, signatures}
 use Rattle.sheet.specs.Check.{arrayTests, sheetTests, sheetRefusal}
 use Rattle.sheet.specs.Saswap.{offset, offsetByDifference, saswap}
 use Rattle.sheet.specs.Setup.{perDay, conduct, stealth, setupRefusal}
@@ -30,6 +30,10 @@ saswap-passes = SaswapFits.saswap-passes
 -- It has two parties.
 pub parties-saswap : (d : ℕ) → parties (saswap d) ≡ 2
 parties-saswap = SaswapFits.parties-saswap
+
+-- It has 15 transactions and 4 signatures.
+pub saswap-sizes : (d : ℕ) → (count (saswap d) ≡ 15) × (signatures (saswap d) ≡ 4)
+saswap-sizes = SaswapFits.saswap-sizes
 
 -- A setup of 1 to 1,000 blocks per day, any conduct and any stealth passes with its SASwap sheet.
 pub saswap-fits : (u : List ℕ) → length u ≡ 4 → 1 ≤ perDay u → perDay u ≤ 1000 → conduct u ≤ 2 → stealth u ≤ 1 → setupRefusal (saswap (perDay u)) u ≡ 0
