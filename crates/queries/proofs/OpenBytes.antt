@@ -1,13 +1,15 @@
 -- The bytes of an actor's open steps, written from their sets, are those of the list.
 -- Assumes nothing.
-use Prim.Native.Nat.{ℕ, zero, suc, _+_, _*_, _/_, _%_, _<_}
+use Prim.Native.Nat.{ℕ, zero, suc, _+_, _*_, _/_, _%_, _≤_, _<_}
 use native.Mathlib.Omega.{arith}
+use native.Mathlib.Numerals.{add-one}
+use native.Mathlib.Nat.{eq-or-lt-of-le, le-of-suc-le-suc}
 use mathlib.Core.Path.{_≡_, refl, sym, ap, ap₂, _∙_}
 use mathlib.Core.Bool.{Bool, true, false}
 use mathlib.Core.List.{List, [], _∷_, _++_, flatMap, append-assoc, append-nil}
 use lib.Dec.{eqb}
 use lib.ListN.{length, getD, replicate, length-append}
-use Rattle.laws.specs.Booleans.{split, clash, and-parts}
+use Rattle.laws.specs.Booleans.{split, either, clash, and-parts}
 use Rattle.laws.specs.Each.{rewritten}
 use Rattle.laws.specs.Gather.{gather, gather-empty}
 use Rattle.laws.specs.Mask.{bit}
@@ -16,9 +18,9 @@ use Rattle.sheet.specs.Refusal.{accepted}
 use Rattle.slots.specs.declared.Step.{Step}
 use Rattle.slots.specs.declared.Step.the-variants.{Share, Give, SendToPool, HandToMiner, Include, Mine, Bump}
 use Rattle.slots.specs.Destination.{alice, bob, carol, miner, destinations}
-use Rattle.sheet.specs.Field.{parties, place, partyAt, isParty}
-use Rattle.sheet.proofs.Parties.{parties-some, parties-few}
-use borrow.Author.Tests.{eqb-true, eqb-false}
+use Rattle.sheet.specs.Field.{parties, partyAt, isParty}
+use Rattle.sheet.proofs.Parties.{parties-few, party-none, at-not-miner}
+use borrow.Author.Tests.{lt-ltb, le-ltb}
 use Rattle.steps.specs.declared.Decoded.{Decoded}
 use Rattle.steps.specs.declared.Decoded.the-variants.{Read, Refused}
 use Rattle.steps.specs.Decode.{noTransaction, fieldsRight, decode, stepBytes}
@@ -37,6 +39,15 @@ pub gather-same : {A : Type 0} (n : ℕ) (f g : ℕ → List A) → ((k : ℕ) �
 unfolding gather
 gather-same zero f g h = refl
 gather-same (suc n) f g h = ap₂ _++_ (gather-same n f g (λ k l. h k (omega arith))) (h n (omega arith))
+
+-- lists that are empty from m on
+gather-past : {A : Type 0} (f : ℕ → List A) (m n : ℕ) → m ≤ n → ((k : ℕ) → m ≤ k → f k ≡ []) → gather n f ≡ gather m f
+unfolding gather
+gather-past f m zero h e = let z : m ≡ 0 = omega arith in rw z
+gather-past f m (suc n) h e =
+    either (eq-or-lt-of-le h)
+    (λ q. rw q)
+    (λ l. let low = le-of-suc-le-suc l in rw (gather-past f m n low e, e n low) (append-nil (gather m f)))
 
 module _ {A B : Type 0} (f : A → List B) where
   pub flat-append : (a b : List A) → flatMap f (a ++ b) ≡ flatMap f a ++ flatMap f b
@@ -121,7 +132,7 @@ module _ (s u : List ℕ) (p : Position) where
         flat-gather stepBytes kinds (λ k. openOf s u p actor (k + 1))
         ∙ gather-same kinds (λ k. flatMap stepBytes (openOf s u p actor (k + 1))) (kindBytes below last actor) kind-bytes
 
-  -- ---- the whole list: the parties', by place, then the miner's. A number that is no party's has no open step, so Carol's part is there on every sheet
+  -- ---- the whole list: the parties', by place, then the miner's. A number that is no party's has no open step
   module _ (a : ℕ) (h : isParty s a ≡ false) (m : eqb a miner ≡ false) where
     never : (y : Step) (k t d : ℕ) → stepBytes y ≡ k ∷ a ∷ t ∷ d ∷ [] → fieldsRight s u y ≡ true → ⊥
     unfolding stepBytes fieldsRight
@@ -150,27 +161,24 @@ module _ (s u : List ℕ) (p : Position) where
     unfolding actorSteps
     no-steps = gather-empty (λ k. openOf s u p a (k + 1)) kinds (λ k. none-of (k + 1))
 
-  two-actors : parties s ≡ 2 → actorSteps s u p carol ≡ [] → openSteps s u p ≡ actorSteps s u p alice ++ (actorSteps s u p bob ++ (actorSteps s u p carol ++ actorSteps s u p miner))
-  unfolding openSteps actorAt partyAt gather
-  two-actors e n = rw (e, n) (append-assoc (actorSteps s u p alice) (actorSteps s u p bob) (actorSteps s u p miner))
+  -- the steps of the first n places' parties, of which the sheet has no more
+  by-places : (n : ℕ) → parties s ≤ n → openSteps s u p ≡ gather n (λ k. actorSteps s u p (partyAt k)) ++ actorSteps s u p miner
+  unfolding openSteps actorAt gather
+  by-places n h =
+      rw (
+        add-one,
+        le-ltb (parties s) (parties s) (omega arith),
+        gather-same (parties s) (λ k. actorSteps s u p (actorAt s k)) (λ k. actorSteps s u p (partyAt k)) (λ k l. rw (lt-ltb k (parties s) l)),
+        gather-past (λ k. actorSteps s u p (partyAt k)) (parties s) n h (λ k l. no-steps (partyAt k) (party-none s k l) (at-not-miner k)),
+      )
 
-  three-actors : parties s ≡ 3 → openSteps s u p ≡ actorSteps s u p alice ++ (actorSteps s u p bob ++ (actorSteps s u p carol ++ actorSteps s u p miner))
-  unfolding openSteps actorAt partyAt gather
-  three-actors e =
-      rw e
-      (append-assoc (actorSteps s u p alice ++ actorSteps s u p bob) (actorSteps s u p carol) (actorSteps s u p miner)
-      ∙ append-assoc (actorSteps s u p alice) (actorSteps s u p bob) (actorSteps s u p carol ++ actorSteps s u p miner))
-
-  -- Carol is no party of a sheet of two
-  not-third : parties s ≡ 2 → isParty s carol ≡ false
-  unfolding isParty place
-  not-third e = rw e
-
+  -- of three: Carol's part is there on every sheet
   pub by-actors : openSteps s u p ≡ actorSteps s u p alice ++ (actorSteps s u p bob ++ (actorSteps s u p carol ++ actorSteps s u p miner))
+  unfolding gather partyAt
   by-actors =
-      split (eqb (parties s) 2)
-      (λ e. let q = eqb-true (parties s) 2 e in two-actors q (no-steps carol (not-third q) refl))
-      (λ e. three-actors (omega (arith, eqb-false (parties s) 2 e, parties-some s, parties-few s)))
+      by-places 3 (parties-few s)
+      ∙ append-assoc (actorSteps s u p alice ++ actorSteps s u p bob) (actorSteps s u p carol) (actorSteps s u p miner)
+      ∙ append-assoc (actorSteps s u p alice) (actorSteps s u p bob) (actorSteps s u p carol ++ actorSteps s u p miner)
 
   pub list-bytes : (b₀ b₁ b₂ b₃ : List ℕ) (l₀ l₁ l₂ l₃ : ℕ) → Opens s u p alice b₀ l₀ → Opens s u p bob b₁ l₁ → Opens s u p carol b₂ l₂ → Opens s u p miner b₃ l₃
       → listBytes s u p ≡ actorBytes b₀ l₀ alice ++ (actorBytes b₁ l₁ bob ++ (actorBytes b₂ l₂ carol ++ actorBytes b₃ l₃ miner))
