@@ -83,6 +83,6 @@ listed-accepted s u p b m =
     let e = four-is (o .0) (o .1) (o .2) (o .3) (w .0) b (decodes s u (o .0) (o .1) (o .2) (o .3) (w .0) (o .4 .reads) .bytes) (w .1) in
     rw (e, o .4 .reads) (accepted-take s u p (w .0) (o .4 .passes))
 
-pub list-rises : (s u : List ℕ) (p : Position) → Rising listedBefore (listSteps s u p)
+pub list-rises : (s u : List ℕ) (p : Position) → Rising (listedBefore s) (listSteps s u p)
 unfolding stepBefore
-list-rises s u p = rw (list-steps s u p) (rising-map listedBefore fourOf (openSteps s u p) (open-rises s u p))
+list-rises s u p = rw (list-steps s u p) (rising-map (listedBefore s) fourOf (openSteps s u p) (open-rises s u p))

@@ -32,7 +32,7 @@ pub open-exact : (s u : List ℕ) (p : Position) (b : FourBytes) → sheetRefusa
 open-exact s u p b h = (ListedBytes.accepted-listed s u p b (sheet-checked s h), ListedBytes.listed-accepted s u p b)
 
 -- The list rises by actor, kind, transaction and destination: each step stands before every later one.
-pub list-rises : (s u : List ℕ) (p : Position) → Rising listedBefore (listSteps s u p)
+pub list-rises : (s u : List ℕ) (p : Position) → Rising (listedBefore s) (listSteps s u p)
 list-rises = ListedBytes.list-rises
 
 -- It has at most eight steps for each transaction, one for each signature, a block, and first shares under conduct; with a third party seven more

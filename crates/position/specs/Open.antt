@@ -61,14 +61,14 @@ listBytes s u p = flatMap stepBytes (openSteps s u p)
 unfoldable pub listSteps : List ℕ → List ℕ → Position → List FourBytes
 listSteps s u p = journalSteps (listBytes s u p)
 
--- where an actor stands in the list: a party by its place, the miner last
-unfoldable pub rank : ℕ → ℕ
-rank actor = pick (eqb actor miner) 3 (place actor)
+-- where an actor stands in the list: a party of the sheet by its place, the miner after them
+unfoldable pub rank : List ℕ → ℕ → ℕ
+rank s actor = pick (eqb actor miner) (parties s) (place actor)
 
 -- where a step stands in the list: by actor, then "by kind, transaction, destination"
-unfoldable pub listPlace : FourBytes → List ℕ
-listPlace b = rank (b .party) ∷ b .kind ∷ b .transaction ∷ b .destination ∷ []
+unfoldable pub listPlace : List ℕ → FourBytes → List ℕ
+listPlace s b = rank s (b .party) ∷ b .kind ∷ b .transaction ∷ b .destination ∷ []
 
 -- the first stands before the second
-unfoldable pub listedBefore : FourBytes → FourBytes → Bool
-listedBefore a b = lower (listPlace a) (listPlace b)
+unfoldable pub listedBefore : List ℕ → FourBytes → FourBytes → Bool
+listedBefore s a b = lower (listPlace s a) (listPlace s b)
