@@ -1,15 +1,14 @@
 -- What is proved of the open steps, of every position that steps lead to, and of the order of a send's tests.
 -- Assumes nothing.
-use Prim.Native.Nat.{ℕ, _+_, _*_, _≤_}
-use mathlib.Core.Path.{_≡_}
+use Prim.Native.Nat.{ℕ, _≤_}
+use mathlib.Core.Path.{_≡_, refl}
 use mathlib.Core.List.{List, List·Memᴰ}
 use lib.Dec.{eqb}
 use lib.ListN.{length}
 use Rattle.laws.specs.Booleans.{pick}
 use Rattle.laws.specs.Members.{Rising}
 use Rattle.sheet.specs.Refusal.{accepted}
-use Rattle.sheet.specs.Field.{isParty, count, signatures}
-use Rattle.slots.specs.Destination.{carol}
+use Rattle.sheet.specs.Field.{parties, count, signatures}
 use Rattle.sheet.specs.Check.{sheetRefusal}
 use Rattle.sheet.specs.Setup.{conduct, setupRefusal}
 use Rattle.sheet.proofs.Theorems.{sheet-checked, setup-checked}
@@ -20,6 +19,7 @@ use Rattle.position.specs.Play.{FourBytes, step, run, play}
 use Rattle.position.specs.Open.{openSteps, listSteps, listedBefore}
 use Rattle.position.specs.Conduct.{payingFirst}
 use Rattle.moves.specs.Wellformed.{Wellformed}
+use Rattle.moves.specs.ListBound.{mostOpen}
 use Rattle.moves.specs.OlderOrder.{olderPayingFirst, SameButBoth, olderRun, SameRun}
 use Rattle.moves.proofs.ListedBytes
 use Rattle.moves.proofs.ListSize
@@ -35,17 +35,23 @@ open-exact s u p b h = (ListedBytes.accepted-listed s u p b (sheet-checked s h),
 pub list-rises : (s u : List ℕ) (p : Position) → Rising (listedBefore s) (listSteps s u p)
 list-rises = ListedBytes.list-rises
 
--- It has at most eight steps for each transaction, one for each signature, a block, and first shares under conduct; with a third party seven more
--- for each transaction and one more for each signature.
+-- It has at most (P² + 2P)·n + ⌊P²/4⌋·m + 1 steps for P parties, n transactions and m signatures, and P first shares more where the conduct is not open.
 pub list-few : (s u : List ℕ) (p : Position) → count s ≤ slotCount → signatures s ≤ slotCount
-    → length (openSteps s u p)
-    ≤ 8 * count s + signatures s + 1 + 2 * pick (eqb (conduct u) 0) 0 1
-    + pick (isParty s carol) (7 * count s + signatures s + pick (eqb (conduct u) 0) 0 1) 0
+    → length (openSteps s u p) ≤ mostOpen (parties s) (count s) (signatures s) (pick (eqb (conduct u) 0) 0 1)
 list-few = ListSize.list-few
 
--- So it has at most 265 on every checked sheet of two parties with its setup, and 497 on one of three.
-pub list-size : (s u : List ℕ) (p : Position) → sheetRefusal s ≡ 0 → setupRefusal s u ≡ 0 → length (openSteps s u p) ≤ pick (isParty s carol) 497 265
-list-size s u p h k = ListSize.list-size s u p (sheet-checked s h) (setup-checked s u k)
+-- So on every checked sheet with its setup it has at most what 32 transactions and 8 signatures give under open conduct.
+pub list-most : (s u : List ℕ) (p : Position) → sheetRefusal s ≡ 0 → setupRefusal s u ≡ 0 → length (openSteps s u p) ≤ mostOpen (parties s) 32 8 0
+list-most s u p h k = ListSize.list-most s u p (sheet-checked s h) (setup-checked s u k)
+
+-- That is 265 for two parties, and 497 for three.
+pub list-size : (s u : List ℕ) (p : Position) → sheetRefusal s ≡ 0 → setupRefusal s u ≡ 0
+    → (parties s ≡ 2 → length (openSteps s u p) ≤ 265) × (parties s ≡ 3 → length (openSteps s u p) ≤ 497)
+list-size s u p h k = ((λ e. rw e at (list-most s u p h k)), (λ e. rw e at (list-most s u p h k)))
+
+-- By example, with that of the SASwap sheet under conduct 1 and 2.
+pub most-open : (mostOpen 2 32 8 0 ≡ 265) × (mostOpen 3 32 8 0 ≡ 497) × (mostOpen 2 15 4 1 ≡ 127)
+most-open = (refl, refl, refl)
 
 -- The empty journal's position is well formed on a checked sheet.
 pub wellformed-start : (s : List ℕ) → sheetRefusal s ≡ 0 → Wellformed s (start s)

@@ -1,2 +1,3 @@
 pub mod Wellformed
 pub mod OlderOrder
+pub mod ListBound
