@@ -100,14 +100,6 @@ module _ (s : List ℕ) where
   unfolding isParty
   party-none k h = rw (at-not-miner k, place-at k) (le-ltb k (parties s) h)
 
-  pub party-alice : isParty s 0 ≡ true
-  unfolding isParty place
-  party-alice = lt-ltb 0 (parties s) (omega (arith, parties-some s))
-
-  pub party-bob : isParty s 1 ≡ true
-  unfolding isParty place
-  party-bob = lt-ltb 1 (parties s) (omega (arith, parties-some s))
-
   pub party-miner : isParty s 2 ≡ false
   unfolding isParty
   party-miner = refl
