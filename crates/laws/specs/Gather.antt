@@ -4,7 +4,7 @@ use Prim.Native.Nat.{ℕ, zero, suc, _+_, _*_, _≤_, _<_}
 use native.Mathlib.Omega.{arith}
 use mathlib.Core.Path.{_≡_, refl, sym, _∙_}
 use mathlib.Core.Bool.{Bool, true, _&&_}
-use mathlib.Core.List.{List, [], _∷_, _++_}
+use mathlib.Core.List.{List, [], _∷_, _++_, flatMap}
 use lib.ListN.{length, getD, length-append, List·getD-append}
 use lib.Seq.{getD-append-add}
 use native.Mathlib.Numerals.{add-one}
@@ -43,6 +43,12 @@ module _ {A : Type 0} (f : ℕ → List A) where
   gather-empty zero e = refl
   gather-empty (suc n) e = rw (gather-empty n e, e n)
 
+-- lists that agree below n
+pub gather-same : {A : Type 0} (n : ℕ) (f g : ℕ → List A) → ((k : ℕ) → k < n → f k ≡ g k) → gather n f ≡ gather n g
+unfolding gather
+gather-same zero f g h = refl
+gather-same (suc n) f g h = rw (gather-same n f g (λ k l. h k (omega arith)), h n (omega arith))
+
 -- p holds of every element
 unfoldable pub every : {A : Type 0} → (A → Bool) → List A → Bool
 every p [] = true
@@ -54,6 +60,12 @@ unfolding every
 every-at p [] d e i h = absurd (not-suc-le-zero h)
 every-at p (x ∷ l) d e zero h = and-parts (p x) (every p l) e .0
 every-at p (x ∷ l) d e (suc i) h = every-at p l d (and-parts (p x) (every p l) e .1) i (le-of-suc-le-suc h)
+
+-- elements that become w each
+pub length-flat : {A B : Type 0} (f : A → List B) (w : ℕ) → ((x : A) → length (f x) ≡ w) → (l : List A) → length (flatMap f l) ≡ w * length l
+unfolding flatMap
+length-flat f w wide [] = sym (mul-zero w)
+length-flat f w wide (x ∷ l) = length-append (f x) (flatMap f l) ∙ rw (wide x, length-flat f w wide l, mul-suc) (omega arith)
 
 -- lists of one length w: the whole length, and the element at place j of list t
 module _ {A : Type 0} (f : ℕ → List A) (w : ℕ) (wide : (k : ℕ) → length (f k) ≡ w) where

@@ -1,13 +1,13 @@
 -- A list whose front is overwritten.
 -- Assumes nothing.
-use Prim.Native.Nat.{ℕ, suc, _-_, _≤_}
+use Prim.Native.Nat.{ℕ, zero, suc, _-_, _≤_, _<_}
 use native.Mathlib.Nat.{not-suc-le-zero, le-of-suc-le-suc}
 use native.Mathlib.Numerals.{add-one}
 use native.Mathlib.Omega.{arith}
 use mathlib.Core.Path.{_≡_, refl, ap, sym, _∙_}
 use mathlib.Core.List.{List, [], _∷_, _++_, append-nil}
-use lib.ListN.{length, take, drop, set, length-append, length-drop, drop-of-length-le}
-use lib.Seq.{take-all, sets, append-snoc}
+use lib.ListN.{length, take, drop, getD, set, length-append, length-drop, drop-of-length-le}
+use lib.Seq.{take-all, getD-take, sets, append-snoc}
 
 -- l with the elements of w in the place of as many of its first
 unfoldable pub over : {A : Type 0} → List A → List A → List A
@@ -21,6 +21,17 @@ unfolding over
 take-over [] l h = refl
 take-over (x ∷ w) [] h = absurd (not-suc-le-zero h)
 take-over (x ∷ w) (y ∷ l) h = ap (λ r. x ∷ r) (take-over w l (le-of-suc-le-suc h))
+
+-- an element of what was written, and one behind it
+pub over-front : {A : Type 0} (w l : List A) (i : ℕ) (d : A) → length w ≤ length l → i < length w → getD (over w l) i d ≡ getD w i d
+over-front w l i d h m = sym (getD-take (length w) (over w l) i d m) ∙ ap (λ r. getD r i d) (take-over w l h)
+
+pub over-behind : {A : Type 0} (w l : List A) (i : ℕ) (d : A) → length w ≤ i → getD (over w l) i d ≡ getD l i d
+unfolding over
+over-behind [] l i d h = refl
+over-behind (x ∷ w) [] i d h = refl
+over-behind (x ∷ w) (y ∷ l) zero d h = absurd (not-suc-le-zero h)
+over-behind (x ∷ w) (y ∷ l) (suc i) d h = over-behind w l i d (le-of-suc-le-suc h)
 
 module _ {A : Type 0} where
   pub over-none : (l : List A) → l ≡ over [] l
