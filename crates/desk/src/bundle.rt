@@ -1,5 +1,5 @@
 // The parts of a bundle, and 28.
-use output::number::number;
+use sheet::little::u32_at;
 ghost use Prim.Native.Nat.{_<_, _≤_};
 ghost use mathlib.Core.Path.{_≡_};
 ghost use lib.ListN.{length};
@@ -23,7 +23,7 @@ pub fn length_of(bundle: &[u8], i: usize) -> usize
     ensures { λ r. ⌜ Length (now (bundle .entry)) i r ⌝ }
 {
     let n = swaps(bundle);
-    number(bundle, 1 + 4 * n + 4 * i) as usize
+    u32_at(bundle, 1 + 4 * n + 4 * i) as usize
 }
 
 // The sum of the lengths: of at most 64 numbers of four bytes, so that it fits.

@@ -1,17 +1,14 @@
--- The bits of a mask counted, and a number of four bytes.
+-- The bits of a mask counted.
 -- Assumes nothing.
 use Prim.Native.Nat.{ℕ, zero, suc, _+_, _*_, _^_, _≤_, _<_}
 use native.Mathlib.Nat.{eq-or-lt-of-le, le-of-suc-le-suc}
 use native.Mathlib.Omega.{arith}
 use native.Mathlib.Numerals.{add-one}
-use mathlib.Core.Path.{_≡_, refl, sym, _∙_}
+use mathlib.Core.Path.{_≡_}
 use mathlib.Core.Bool.{true}
-use mathlib.Core.List.{List}
 use Rattle.laws.specs.Booleans.{pick, either}
-use Rattle.laws.specs.Little.{numberAt}
 use Rattle.laws.specs.Mask.{bit}
 use Rattle.laws.specs.Sum.{sumBelow, bitsBelow}
-use Rattle.sheet.specs.Field.{byte}
 
 -- one bit more of a mask that has it
 ones-more : (mask t : ℕ) → bit mask t ≡ true → bitsBelow (suc t) mask ≡ bitsBelow t mask + 1
@@ -29,13 +26,3 @@ ones-grow mask k (suc n) h =
 -- a destination's four bytes stand in a list that has four for each bit
 pub ones-room : (mask t n place size : ℕ) → t < n → bit mask t ≡ true → place ≡ bitsBelow t mask → size ≡ 4 * bitsBelow n mask → 4 * place + 4 ≤ size
 ones-room mask t n place size h b e f = omega (arith, ones-more mask t b, ones-grow mask (suc t) n h)
-
-number-four : (l : List ℕ) (i j k m : ℕ) → suc i ≡ j → suc j ≡ k → suc k ≡ m
-    → numberAt 4 l i ≡ byte l i + 256 * byte l j + 65536 * byte l k + 16777216 * byte l m
-unfolding numberAt
-number-four l i j k m e f g = rw (e, f, g) (omega arith)
-
-pub number-by : (l : List ℕ) (i a b c d : ℕ) → a ≡ byte l i → b ≡ byte l (i + 1) → c ≡ byte l (i + 2) → d ≡ byte l (i + 3)
-    → a + 256 * b + 65536 * c + 16777216 * d ≡ numberAt 4 l i
-number-by l i a b c d e f g h =
-    rw (e, f, g, h) (sym (number-four l i (i + 1) (i + 2) (i + 3) (omega arith) (omega arith) (omega arith)))

@@ -3,9 +3,10 @@ use crate::block::earliest_block;
 use crate::planned::is_planned;
 use crate::refusal;
 use readings::holder::coin_of;
+use sheet::little::u32_at;
 use sheet::set;
 use slots::party;
-ghost use Prim.Native.Nat.{_+_, _*_, _^_, _≤_, _<_};
+ghost use Prim.Native.Nat.{_*_, _^_, _≤_, _<_};
 ghost use mathlib.Core.Path.{_≡_};
 ghost use mathlib.Core.Bool.{not, _&&_};
 ghost use lib.Dec.{ltb};
@@ -13,7 +14,6 @@ ghost use lib.ListN.{length};
 ghost use Rattle.laws.specs.Booleans.{pick};
 ghost use Rattle.laws.specs.Below.{allBelow};
 ghost use Rattle.laws.specs.Failing.{firstFailing};
-ghost use Rattle.laws.specs.Little.{numberAt};
 ghost use Rattle.laws.specs.Mask.{bit};
 ghost use Rattle.laws.specs.Sum.{bitsBelow};
 ghost use Rattle.sheet.specs.Field.{count, Sized};
@@ -21,7 +21,6 @@ ghost use Rattle.sheet.specs.Checked.{Fit};
 ghost use Rattle.slots.specs.Destination.{isContract};
 ghost use Rattle.steps.specs.Decode.{sharesTo};
 ghost use Rattle.endings.specs.Ending.{payingNamed, endingRight, coinsApart, inTime, isPossible, endingTests};
-ghost use Rattle.sheet.specs.Forms.Field.{Wide};
 ghost use Rattle.endings.specs.Forms.Bounds.{Ones};
 
 // 1 where t is in the mask, else 0.
@@ -44,25 +43,6 @@ pub fn ones_below(mask: u32, n: usize) -> usize
         t += 1;
     }
     sum
-}
-
-// A byte in a wider type.
-fn wide32(x: u8) -> u32
-    ensures { λ r. ⌜ Wide x r ⌝ }
-{
-    x as u32
-}
-
-// The number in the four bytes from place i on.
-pub fn number_at(bytes: &[u8], i: usize) -> u32
-    requires { ⌜ i + 4 ≤ length (now bytes) ⌝ }
-    ensures { λ r. ⌜ r ≡ numberAt 4 (now (bytes .entry)) i ⌝ }
-{
-    let a = wide32(bytes[i]);
-    let b = wide32(bytes[i + 1]);
-    let c = wide32(bytes[i + 2]);
-    let d = wide32(bytes[i + 3]);
-    a + 256 * b + 65536 * c + 16777216 * d
 }
 
 // Whether a number is a payee of t, which is a paying transaction.
@@ -91,7 +71,7 @@ fn paying_named(sheet: &[u8], mask: u32, dests: &[u8], t: usize) -> bool
         return true;
     }
     let place = ones_below(mask, t);
-    pays(sheet, t, number_at(dests, 4 * place))
+    pays(sheet, t, u32_at(dests, 4 * place))
 }
 
 // The same of every transaction.

@@ -1,4 +1,3 @@
 pub mod Lengths
 pub mod Four
 pub mod Examples
-pub mod Numbers

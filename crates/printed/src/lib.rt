@@ -1,7 +1,7 @@
 // The numbers that the program swapreport prints.
-use output::number::number;
 use readings::reported::ROW_WIDTH;
 use runs::journal;
+use sheet::little::u32_at;
 ghost use Prim.Native.Nat.{suc, _+_, _*_, _≤_};
 ghost use mathlib.Core.Path.{_≡_};
 ghost use mathlib.Core.List.{[], _∷_};
@@ -60,8 +60,8 @@ pub fn transaction_line(report: &[u8], t: usize) -> Line
     Line {
         status: report[at],
         payee: report[at + 1],
-        block: number(report, at + 2),
-        lock: number(report, at + 6),
-        deadline: number(report, at + 10),
+        block: u32_at(report, at + 2),
+        lock: u32_at(report, at + 6),
+        deadline: u32_at(report, at + 10),
     }
 }

@@ -1,11 +1,12 @@
 -- The setup: its fields, and the checks 9, 32 and 10.
 -- Assumes nothing.
-use Prim.Native.Nat.{ℕ, _+_, _*_}
+use Prim.Native.Nat.{ℕ}
 use mathlib.Core.Bool.{Bool, not, _&&_, _||_}
 use mathlib.Core.List.{List, [], _∷_}
 use lib.Dec.{eqb, leb}
 use lib.ListN.{length}
 use Rattle.laws.specs.Failing.{firstFailing}
+use Rattle.laws.specs.Little.{numberAt}
 use Rattle.laws.specs.Same.{same}
 use Rattle.sheet.specs.Refusal.{setupBlocks, setupParties, setupConduct}
 use Rattle.sheet.specs.Field.{byte, parties}
@@ -13,7 +14,7 @@ use Rattle.sheet.specs.Saswap.{saswap}
 
 -- "blocks per day (2 bytes, 1 to 1,000)", "little-endian"
 unfoldable pub perDay : List ℕ → ℕ
-perDay u = byte u 0 + 256 * byte u 1
+perDay u = numberAt 2 u 0
 
 -- "conduct (0 open, 1 loose, 2 careful)"
 abbrev pub conduct : List ℕ → ℕ

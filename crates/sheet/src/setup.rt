@@ -1,5 +1,6 @@
 // The setup: its fields, and the checks 9, 32 and 10.
 use crate::field;
+use crate::little;
 use crate::refusal;
 use crate::saswap;
 ghost use Prim.Native.Nat.{_<_};
@@ -7,22 +8,14 @@ ghost use mathlib.Core.Path.{_≡_};
 ghost use lib.ListN.{length};
 ghost use lib.Dec.{eqb};
 ghost use Rattle.sheet.specs.Field.{parties};
-ghost use Rattle.sheet.specs.Forms.Field.{Wide};
 ghost use Rattle.sheet.specs.Setup.{perDay, conduct, stealth, blocksRight, partiesRight, conductRight, setupRefusal};
-
-// A byte as a number of two bytes.
-fn wide16(x: u8) -> u16
-    ensures { λ r. ⌜ Wide x r ⌝ }
-{
-    x as u16
-}
 
 // The blocks per day.
 pub fn per_day(setup: &[u8]) -> u16
     requires { ⌜ length (now setup) ≡ 4 ⌝ }
     ensures { λ r. ⌜ r ≡ perDay (now (setup .entry)) ⌝ }
 {
-    wide16(setup[0]) + 256 * wide16(setup[1])
+    little::u16_at(setup, 0)
 }
 
 // The conduct: 0 open, 1 loose, 2 careful.

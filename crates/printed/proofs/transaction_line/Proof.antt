@@ -16,27 +16,27 @@ add-t6 c = search needs
 shared-slice-read-t8 : tie.Need-shared-slice-read-t8
 shared-slice-read-t8 c = search needs
 
-add-number : tie.Need-add-number
-add-number c = search needs
+add-u32-at : tie.Need-add-u32-at
+add-u32-at c = search needs
 
-number-requires : tie.Need-number-requires
-number-requires c κs = search needs
+u32-at-requires : tie.Need-u32-at-requires
+u32-at-requires c κs = search needs
 
-add-number-2 : tie.Need-add-number-2
-add-number-2 c = search needs
+add-u32-at-2 : tie.Need-add-u32-at-2
+add-u32-at-2 c = search needs
 
-number-requires-2 : tie.Need-number-requires-2
-number-requires-2 c κs = search needs
+u32-at-requires-2 : tie.Need-u32-at-requires-2
+u32-at-requires-2 c κs = search needs
 
-add-number-3 : tie.Need-add-number-3
-add-number-3 c = search needs
+add-u32-at-3 : tie.Need-add-u32-at-3
+add-u32-at-3 c = search needs
 
-number-requires-3 : tie.Need-number-requires-3
-number-requires-3 c κs = search needs
+u32-at-requires-3 : tie.Need-u32-at-requires-3
+u32-at-requires-3 c κs = search needs
 
 returns : tie.Need-returns
 unfolding reportedLine reportedStatus reportedPayee
-returns c = rw (c .before .before .number .ensures, c .before .number2 .ensures, c .number3 .ensures)
+returns c = rw (c .before .before .u32-at .ensures, c .before .u32-at2 .ensures, c .u32-at3 .ensures)
 
 pub transaction-line-spec : {M : Type 1} → statement M
 transaction-line-spec =
@@ -46,10 +46,10 @@ transaction-line-spec =
     shared-slice-read-t5
     add-t6
     shared-slice-read-t8
-    add-number
-    number-requires
-    add-number-2
-    number-requires-2
-    add-number-3
-    number-requires-3
+    add-u32-at
+    u32-at-requires
+    add-u32-at-2
+    u32-at-requires-2
+    add-u32-at-3
+    u32-at-requires-3
     returns)

@@ -16,18 +16,18 @@ returns c = named-out _ _ _ _ _ (c .before .has .ensures) (c .if1 .taken)
 ones-below-requires : tie.Need-ones-below-requires
 ones-below-requires c κs = search needs
 
-mul-number-at : tie.Need-mul-number-at
-mul-number-at c = search needs
+mul-u32-at : tie.Need-mul-u32-at
+mul-u32-at c = search needs
 
-number-at-requires : tie.Need-number-at-requires
-number-at-requires c κs = let p = c .before .before .before .before .before .pre in ones-room _ _ _ _ _ (p .1 .0) (held _ _ (c .before .before .has .ensures) (c .before .if1 .left)) (c .ones-below .ensures .is) (p .1 .1)
+u32-at-requires : tie.Need-u32-at-requires
+u32-at-requires c κs = let p = c .before .before .before .before .before .pre in ones-room _ _ _ _ _ (p .1 .0) (held _ _ (c .before .before .has .ensures) (c .before .if1 .left)) (c .ones-below .ensures .is) (p .1 .1)
 
 pays-requires : tie.Need-pays-requires
 pays-requires c κs = search needs
 
 returns-2 : tie.Need-returns-2
 unfolding destinationOf
-returns-2 c = named-in _ _ _ _ _ _ _ (c .before .before .before .before .has .ensures) (c .before .before .before .if1 .left) (c .pays .ensures) (rw (c .before .before .ones-below .ensures .is) at (c .before .number-at .ensures))
+returns-2 c = named-in _ _ _ _ _ _ _ (c .before .before .before .before .has .ensures) (c .before .before .before .if1 .left) (c .pays .ensures) (rw (c .before .before .ones-below .ensures .is) at (c .before .u32-at .ensures))
 
 pub paying-named-spec : {M : Type 1} → statement M
 paying-named-spec =
@@ -36,7 +36,7 @@ paying-named-spec =
     has-requires
     returns
     ones-below-requires
-    mul-number-at
-    number-at-requires
+    mul-u32-at
+    u32-at-requires
     pays-requires
     returns-2)
