@@ -1,3 +1,4 @@
+pub mod Lengths
 pub mod Walk
 pub mod Named
 pub mod Rise

@@ -9,6 +9,7 @@ use lib.ListN.{length, drop, length-drop}
 use lib.Seq.{getD-drop, drop-drop}
 use borrow.Author.Tests.{not-true, not-false}
 use Rattle.laws.specs.Gather.{every}
+use Rattle.laws.specs.Little.{numberAt, number-part}
 use Rattle.ledger.specs.Entry.{Entry}
 use Rattle.blocks.specs.declared.Listed.{Listed}
 use Rattle.blocks.specs.BlockList.{listEntries}
@@ -19,7 +20,7 @@ none-more i = omega arith
 
 -- the first entry, and none where fewer than four bytes are left
 front : (l : List ℕ) → 4 ≤ length l → listEntries l ≡ entryOf (listedAt l 0) ∷ listEntries (drop 4 l)
-unfolding listEntries listedAt
+unfolding listEntries listedAt numberAt
 front [] h = absurd (omega arith)
 front (t ∷ []) h = absurd (omega arith)
 front (t ∷ d ∷ []) h = absurd (omega arith)
@@ -34,11 +35,15 @@ few (t ∷ d ∷ []) h = refl
 few (t ∷ d ∷ b ∷ []) h = refl
 few (t ∷ d ∷ b ∷ c ∷ l) h = absurd (omega arith)
 
+-- the block of the entry that starts at byte i
+block-at : (l : List ℕ) (i : ℕ) → numberAt 2 (drop i l) 2 ≡ numberAt 2 l (i + 2)
+block-at l i = number-part 2 (drop i l) 2 ∙ rw (drop-drop 2 i l) (sym (number-part 2 l (i + 2)))
+
 next-at : (l : List ℕ) (i : ℕ) → i + 4 ≤ length l → listEntries (drop i l) ≡ entryOf (listedAt l i) ∷ listEntries (drop (i + 4) l)
 unfolding listedAt
 next-at l i h =
     front (drop i l) (omega (arith, length-drop i l))
-    ∙ rw (getD-drop i l 0 0, getD-drop i l 1 0, getD-drop i l 2 0, getD-drop i l 3 0, drop-drop 4 i l, none-more i)
+    ∙ rw (getD-drop i l 0 0, getD-drop i l 1 0, block-at l i, drop-drop 4 i l, none-more i)
 
 -- the entries from number k on
 unfoldable pub entriesFrom : List ℕ → ℕ → List Entry

@@ -1,13 +1,13 @@
 -- Slip 8, "Check another firm's block list": "what was confirmed, without steps", as bytes, and what the check of one answers.
 -- Assumes nothing.
-use Prim.Native.Nat.{ℕ, _+_, _*_, _%_}
+use Prim.Native.Nat.{ℕ, _%_}
 use mathlib.Core.Bool.{Bool, _&&_}
 use mathlib.Core.List.{List, [], _∷_, _++_}
 use lib.Dec.{eqb, ltb, leb}
 use lib.ListN.{length}
 use Rattle.laws.specs.Failing.{firstFailing}
 use Rattle.laws.specs.Gather.{every}
-use Rattle.laws.specs.Little.{bytesOf}
+use Rattle.laws.specs.Little.{bytesOf, numberAt}
 use Rattle.sheet.specs.Field.{count}
 use Rattle.sheet.specs.Check.{sheetTests}
 use Rattle.sheet.specs.Setup.{perDay, setupTests}
@@ -23,7 +23,7 @@ listEntries [] = []
 listEntries (t ∷ []) = []
 listEntries (t ∷ d ∷ []) = []
 listEntries (t ∷ d ∷ b ∷ []) = []
-listEntries (t ∷ d ∷ b ∷ c ∷ rest) = record { transaction = t; destination = d; block = b + 256 * c } ∷ listEntries rest
+listEntries (t ∷ d ∷ b ∷ c ∷ rest) = record { transaction = t; destination = d; block = numberAt 2 (b ∷ c ∷ []) 0 } ∷ listEntries rest
 
 -- the four bytes of an entry
 unfoldable pub entryBytes : Entry → List ℕ

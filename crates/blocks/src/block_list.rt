@@ -2,6 +2,7 @@
 use crate::Listed;
 use crate::kept;
 use crate::refusal;
+use sheet::little::u16_at;
 use slots::party;
 ghost use Prim.Native.Nat.{_+_, _≤_, _<_};
 ghost use mathlib.Core.Path.{_≡_};
@@ -9,7 +10,6 @@ ghost use mathlib.Core.Bool.{_&&_};
 ghost use lib.ListN.{length};
 ghost use Rattle.laws.specs.Failing.{firstFailing};
 ghost use Rattle.sheet.specs.Field.{count, Sized};
-ghost use Rattle.sheet.specs.Forms.Field.{Wide};
 ghost use Rattle.sheet.specs.Checked.{Fit};
 ghost use Rattle.ledger.specs.Entry.{before};
 ghost use Rattle.steps.specs.Decode.{sharesTo};
@@ -19,13 +19,6 @@ ghost use Rattle.blocks.specs.Forms.Listed.{listedAt, entryOf};
 // The last block that a list may have.
 const LIMIT: u16 = 10000;
 
-// A byte as a number of two bytes.
-fn wide16(x: u8) -> u16
-    ensures { λ r. ⌜ Wide x r ⌝ }
-{
-    x as u16
-}
-
 // The entry that starts at byte i.
 pub fn listed_at(list: &[u8], i: usize) -> Listed
     requires { ⌜ i + 4 ≤ length (now list) ⌝ }
@@ -34,7 +27,7 @@ pub fn listed_at(list: &[u8], i: usize) -> Listed
     Listed {
         transaction: list[i],
         destination: list[i + 1],
-        block: wide16(list[i + 2]) + 256 * wide16(list[i + 3]),
+        block: u16_at(list, i + 2),
     }
 }
 

@@ -25,11 +25,12 @@ use Rattle.position.specs.Tests.{blockLimit}
 use Rattle.position.specs.Answers.{Written, fitted}
 use Rattle.position.proofs.Passing.{written, not-written}
 use Rattle.blocks.specs.BlockList.{listBytes}
+use Rattle.blocks.proofs.Lengths.{length-list}
 use Rattle.endings.specs.Plan.{plan}
 use Rattle.endings.specs.Ending.{destinationOf, payingNamed, endingRight, isPossible, endingTests}
 use Rattle.earliest.specs.Answer.{earliestRefusal, earliestList, earliestAnswer}
 use Rattle.earliest.specs.Forms.Table.{members, table, Destined, tableBytes}
-use Rattle.earliest.proofs.Rows.{table-plan, bytes-four}
+use Rattle.earliest.proofs.Rows.{table-plan}
 use Rattle.earliest.proofs.Lengths.{plan-length}
 
 -- the refusal x, the count y and the buffer l of an answer
@@ -119,7 +120,7 @@ module _ (s : List ℕ) (d mask : ℕ) (dests out : List ℕ) (few : count s ≤
   plan-count = rw (e, g) at q ∙ sym (plan-length s d mask (destinationOf mask dests) few can)
 
   plan-bytes : length (listBytes (plan s d mask (destinationOf mask dests) blockLimit)) ≡ 4 * k
-  plan-bytes = bytes-four (plan s d mask (destinationOf mask dests) blockLimit) ∙ rw (← plan-count)
+  plan-bytes = length-list (plan s d mask (destinationOf mask dests) blockLimit) ∙ rw (← plan-count)
 
   pub plan-few : k ≤ 32
   plan-few = omega (arith, q, bits-bound n f, e)

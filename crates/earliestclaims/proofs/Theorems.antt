@@ -36,7 +36,7 @@ use Rattle.endings.specs.Earliest.{earliestFrom, earliest}
 use Rattle.endings.specs.Plan.{planEntry, plan}
 use Rattle.endings.specs.Ending.{destinationOf, endingRight, isPossible, endingTests}
 use Rattle.earliest.specs.Answer.{earliestRefusal, earliestList, earliestAnswer}
-use Rattle.earliest.proofs.Rows.{bytes-four}
+use Rattle.blocks.proofs.Lengths.{length-list}
 use Rattle.earliest.proofs.Answers.{unrefused}
 use Rattle.earliestclaims.specs.Claim.{Written, Way, Cause, Endings, EarliestEndings, Listed, Answered, EarliestAnswers}
 use Rattle.earliestclaims.proofs.Lowest
@@ -179,7 +179,7 @@ module _ (s u : List ℕ) (mask : ℕ) (dests out : List ℕ) where
   listed z room =
       let p = unrefused s u mask dests number refl z in
       let w = written s u (p .sheet) (p .setup) mask dests z in
-      let size = bytes-four list in
+      let size = length-list list in
       let front : take (4 * length list) (over (listBytes list) out) ≡ listBytes list = rw (← size) (take-over (listBytes list) out (omega (arith, size))) in
       let whole : over (listBytes list) out ≡ listBytes list ++ drop (length (listBytes list)) out = rw zero-add at (sym (stores-over (listBytes list) out) ∙ sets-eq (listBytes list) out 0 (omega (arith, size))) in
       let back : listEntries (listBytes list) ≡ list = list-back s u (p .sheet) (p .setup) mask dests in
@@ -203,12 +203,12 @@ module _ (s u : List ℕ) (mask : ℕ) (dests out : List ℕ) where
 
   by-room : eqb number accepted ≡ true → length out < 4 * length list → Answers (earliestAnswer s u mask dests out)
   by-room y l =
-      let e = answer-planned y ∙ fit.not-written (listBytes list) out (length list) (lt-leb (length (listBytes list)) (length out) (omega (arith, bytes-four list))) in
+      let e = answer-planned y ∙ fit.not-written (listBytes list) out (length list) (lt-leb (length (listBytes list)) (length out) (omega (arith, length-list list))) in
       rw e (record { number = rw (y, lt-ltb (length out) (4 * length list) l); written = λ z. absurd (eqb-false bufferShort accepted refl z); refused = λ f. (refl, refl) })
 
   by-list : eqb number accepted ≡ true → 4 * length list ≤ length out → Answers (earliestAnswer s u mask dests out)
   by-list y l =
-      let e = answer-planned y ∙ fit.written (listBytes list) out (length list) (le-leb (length (listBytes list)) (length out) (omega (arith, bytes-four list))) in
+      let e = answer-planned y ∙ fit.written (listBytes list) out (length list) (le-leb (length (listBytes list)) (length out) (omega (arith, length-list list))) in
       let z = eqb-true number accepted y in
       rw e (record { number = rw (y, le-ltb (length out) (4 * length list) l, z); written = λ f. listed z l; refused = λ f. absurd (f refl) })
 

@@ -1,11 +1,12 @@
 -- An entry as the code has it, and what is kept for each coin as an array of these.
 -- Assumes nothing.
-use Prim.Native.Nat.{ℕ, _+_, _*_}
+use Prim.Native.Nat.{ℕ, _+_}
 use mathlib.Core.List.{List}
 use mathlib.Core.Option.{Option, none, some}
 use lib.Dec.{eqb}
 use lib.ListN.{getD}
 use Rattle.laws.specs.Booleans.{pick}
+use Rattle.laws.specs.Little.{numberAt}
 use Rattle.sheet.specs.Field.{byte}
 use Rattle.ledger.specs.Entry.{Entry}
 use Rattle.ledger.specs.Ledger.{Kept}
@@ -14,7 +15,7 @@ use Rattle.blocks.specs.declared.Listed.{Listed}
 -- the entry that starts at byte i of a list
 unfoldable pub listedAt : List ℕ → ℕ → Listed
 listedAt list i =
-    record { transaction = byte list i; destination = byte list (i + 1); block = byte list (i + 2) + 256 * byte list (i + 3) }
+    record { transaction = byte list i; destination = byte list (i + 1); block = numberAt 2 list (i + 2) }
 
 -- none: no entry stands in block 0
 abbrev pub nothing : Listed
