@@ -6,18 +6,19 @@ use mathlib.Core.Path.{_≡_, refl, sym, ap, _∙_}
 use mathlib.Core.Logic.{_⊎_, inl, inr}
 use mathlib.Core.List.{List}
 use lib.Dec.{eqb, leb, ltb}
-use lib.ListN.{length, getD}
+use lib.ListN.{length, take, drop, getD, length-take, length-drop}
+use lib.Seq.{getD-take, getD-drop, ext-getD}
 use borrow.Author.Tests.{eqb-true, eqb-false, leb-true, leb-false, ltb-true, ltb-false}
 use Rattle.laws.specs.Booleans.{split, either}
 use Rattle.laws.specs.Failing.{firstFailing}
-use Rattle.laws.specs.Over.{over}
+use Rattle.laws.specs.Little.{number-same}
+use Rattle.laws.specs.Over.{over, over-behind}
 use Rattle.laws.specs.Sum.{sum-same}
 use Rattle.sheet.specs.Field.{byte}
 use Rattle.desk.specs.Bundle.{swaps, setupOf, lengthOf, journals, startOf, journalOf, addsUp, bundleRight}
 use Rattle.desk.specs.Desk.{swapRun, swapBytes, deskBytes, deskTests, deskAnswer}
 use Rattle.desk.specs.Claim.{Beside, SwapApart}
 use Rattle.desk.proofs.Bundles.{sum-room}
-use Rattle.desk.proofs.Numbers.{number-same, over-behind, part-same}
 use Rattle.desk.proofs.Desks.{desk-length, desk-refused, desk-short, desk-whole}
 use Rattle.desk.proofs.Entries.{entry-byte}
 
@@ -27,6 +28,15 @@ sides k i n =
     split (ltb k i)
     (λ e. inl (ltb-true k i e))
     (λ e. split (ltb i k) (λ f. inr (ltb-true i k f)) (λ f. absurd (n (omega (arith, ltb-false k i e, ltb-false i k f)))))
+
+-- two lists of one length with the same n bytes from a on have the same part there
+part-same : (l m : List ℕ) (a n : ℕ) → length l ≡ length m → ((j : ℕ) → j < n → getD l (a + j) 0 ≡ getD m (a + j) 0) → take n (drop a l) ≡ take n (drop a m)
+part-same l m a n e h =
+    ext-getD 0 (take n (drop a l)) (take n (drop a m))
+    (length-take n (drop a l) ∙ rw (length-drop a l, e, ← (length-drop a m)) (sym (length-take n (drop a m))))
+    (λ j d.
+    let s : j < n = omega (arith, d, length-take n (drop a l)) in
+    getD-take n (drop a l) j 0 s ∙ getD-drop a l j 0 ∙ h j s ∙ sym (getD-drop a m j 0) ∙ sym (getD-take n (drop a m) j 0 s))
 
 -- journals start behind the arrays, and each behind those before it
 module _ (b : List ℕ) where
@@ -51,7 +61,7 @@ module _ (b c : List ℕ) (i : ℕ) (h : i < swaps b) (a : SwapApart b c i) wher
   unfolding lengthOf
   length-same k l =
       rw swaps-same
-      (number-same 4 c b (1 + 4 * swaps b + 4 * k) (λ j d. in-arrays (1 + 4 * swaps b + 4 * k + j) (inr (omega arith)) (omega arith)))
+      (number-same 4 c b (1 + 4 * swaps b + 4 * k) (1 + 4 * swaps b + 4 * k) (λ j d. in-arrays (1 + 4 * swaps b + 4 * k + j) (inr (omega arith)) (omega arith)))
 
   start-same : (k : ℕ) → k ≤ swaps b → startOf c k ≡ startOf b k
   unfolding startOf journals
@@ -103,8 +113,8 @@ module _ (b c : List ℕ) (i : ℕ) (h : i < swaps b) (a : SwapApart b c i) wher
       ∙ ap (byte (over (deskBytes s b) out)) (sym q))
       (λ e.
       let m = ltb-false p (8 * swaps b) e in
-      over-behind (deskBytes s c) out p (omega (arith, desk-length s c, swaps-same, m))
-      ∙ sym (over-behind (deskBytes s b) out p (omega (arith, desk-length s b, m))))
+      over-behind (deskBytes s c) out p 0 (omega (arith, desk-length s c, swaps-same, m))
+      ∙ sym (over-behind (deskBytes s b) out p 0 (omega (arith, desk-length s b, m))))
 
   -- in every case
   pub others-kept : (s out : List ℕ) → (deskAnswer s c out .refusal ≡ deskAnswer s b out .refusal)

@@ -10,7 +10,7 @@ use borrow.Author.Tests.{eq-eqb, ne-eqb, eqb-true, eqb-false, le-leb, lt-leb}
 use Rattle.laws.specs.Booleans.{split}
 use Rattle.laws.specs.Failing.{firstFailing, numbered, passed, passed-append, failed-append, answer-below, fails, passes, none-left}
 use Rattle.laws.specs.Gather.{length-gather}
-use Rattle.laws.specs.Little.{bytesOf}
+use Rattle.laws.specs.Little.{length-pair}
 use Rattle.laws.specs.Over.{over}
 use Rattle.sheet.specs.Refusal.{accepted, bufferShort}
 use Rattle.sheet.specs.Check.{arrayTests, sheetTests, sheetRefusal}
@@ -18,16 +18,12 @@ use Rattle.position.specs.Answers.{Written, fitted}
 use Rattle.position.proofs.Passing.{written, not-written}
 use Rattle.desk.specs.Refusal.{bundleLayout}
 use Rattle.desk.specs.Bundle.{swaps, bundleRight}
-use Rattle.desk.specs.Desk.{entryBytes, swapBytes, deskBytes, deskTests, deskAnswer}
+use Rattle.desk.specs.Desk.{swapRun, entryBytes, swapBytes, deskBytes, deskTests, deskAnswer}
 
 -- eight bytes for each swap
-pub entry-length : (x y : ℕ) → 8 ≡ length (entryBytes x y)
-unfolding entryBytes bytesOf
-entry-length x y = refl
-
 pub swap-length : (s b : List ℕ) (i : ℕ) → length (swapBytes s b i) ≡ 8
-unfolding swapBytes
-swap-length s b i = sym (entry-length _ _)
+unfolding swapBytes entryBytes
+swap-length s b i = length-pair 4 (λ k. swapRun s b k .refusal) (λ k. swapRun s b k .accepted) i
 
 pub desk-length : (s b : List ℕ) → length (deskBytes s b) ≡ 8 * swaps b
 unfolding deskBytes

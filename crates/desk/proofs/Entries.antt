@@ -2,24 +2,22 @@
 -- Assumes nothing.
 use Prim.Native.Nat.{ℕ, _+_, _*_, _≤_, _<_}
 use native.Mathlib.Omega.{arith}
-use mathlib.Core.Path.{_≡_, refl, sym, ap, _∙_}
-use mathlib.Core.List.{List, _++_}
+use mathlib.Core.Path.{_≡_, refl, _∙_}
+use mathlib.Core.List.{List}
 use lib.Dec.{eqb, leb}
-use lib.ListN.{length, getD, List·getD-append}
-use lib.Seq.{getD-append-add}
+use lib.ListN.{length, getD}
 use borrow.Author.Tests.{eqb-true, eqb-false, leb-true, leb-false}
 use Rattle.laws.specs.Booleans.{split}
 use Rattle.laws.specs.Failing.{firstFailing}
 use Rattle.laws.specs.Gather.{gather-at}
-use Rattle.laws.specs.Little.{bytesOf, numberAt}
-use Rattle.laws.specs.Over.{over}
+use Rattle.laws.specs.Little.{first-read, second-read}
+use Rattle.laws.specs.Over.{over, over-front}
 use Rattle.sheet.specs.Refusal.{accepted}
 use Rattle.position.specs.Play.{run}
 use Rattle.runs.proofs.Bounds.{run-bounds}
 use Rattle.desk.specs.Bundle.{swaps, setupOf, journalOf}
 use Rattle.desk.specs.Desk.{swapRun, entryBytes, swapBytes, deskBytes, deskTests, deskAnswer}
 use Rattle.desk.specs.Claim.{numberOf, countOf}
-use Rattle.desk.proofs.Numbers.{number-back, over-front}
 use Rattle.desk.proofs.Desks.{swap-length, desk-length, desk-refused, desk-short, desk-whole}
 
 -- a call that answers 0 has the answers at the front of the buffer
@@ -39,44 +37,18 @@ module _ (s b out : List ℕ) where
   pub entry-byte : 8 * swaps b ≤ length out → (i j : ℕ) → i < swaps b → j < 8 → getD (over (deskBytes s b) out) (8 * i + j) 0 ≡ getD (swapBytes s b i) j 0
   unfolding deskBytes
   entry-byte l i j h d =
-      over-front (deskBytes s b) out (8 * i + j) (omega (arith, desk-length s b, l)) (omega (arith, desk-length s b, h, d))
+      over-front (deskBytes s b) out (8 * i + j) 0 (omega (arith, desk-length s b, l)) (omega (arith, desk-length s b, h, d))
       ∙ gather-at (swapBytes s b) 8 (swap-length s b) (swaps b) i j 0 h d
-
--- the two numbers of eight bytes
-module _ (x y : ℕ) where
-  four : length (bytesOf 4 x) ≡ 4
-  unfolding bytesOf
-  four = refl
-
-  first-byte : (j : ℕ) → j < 4 → getD (entryBytes x y) j 0 ≡ getD (bytesOf 4 x) j 0
-  unfolding entryBytes
-  first-byte j d = List·getD-append (bytesOf 4 x) (bytesOf 4 y) 0 j (rw four d)
-
-  second-byte : (j : ℕ) → getD (entryBytes x y) (4 + j) 0 ≡ getD (bytesOf 4 y) j 0
-  unfolding entryBytes
-  second-byte j = ap (λ n. getD (bytesOf 4 x ++ bytesOf 4 y) (n + j) 0) (sym four) ∙ getD-append-add (bytesOf 4 x) (bytesOf 4 y) j 0
-
-  -- from a list that has these eight from p on
-  module _ (l : List ℕ) (p : ℕ) (h : (j : ℕ) → j < 8 → getD l (p + j) 0 ≡ getD (entryBytes x y) j 0) where
-    pub first-number : x < 4294967296 → numberAt 4 l p ≡ x
-    first-number b = number-back 4 x l p b (λ j d. h j (omega arith) ∙ first-byte j d)
-
-    pub second-number : y < 4294967296 → numberAt 4 l (p + 4) ≡ y
-    second-number b =
-        number-back 4 y l (p + 4) b
-        (λ j d. let e : p + 4 + j ≡ p + (4 + j) = omega arith in rw e (h (4 + j) (omega arith)) ∙ second-byte j)
 
 -- entry i is what a run of swap i answers
 module _ (s b out : List ℕ) (h : deskAnswer s b out .refusal ≡ accepted) (i : ℕ) (l : i < swaps b) where
   pub single-run : (numberOf (deskAnswer s b out .buffer) i ≡ run s (setupOf b i) (journalOf b i) .refusal)
       × (countOf (deskAnswer s b out .buffer) i ≡ run s (setupOf b i) (journalOf b i) .accepted)
-  unfolding swapRun swapBytes
+  unfolding swapRun swapBytes entryBytes deskBytes
   single-run =
       let w = answered s b out h in
-      let r = run s (setupOf b i) (journalOf b i) in
       let k = run-bounds s (setupOf b i) (journalOf b i) in
-      let bytes = entry-byte s b out (w .0) i in
       rw (w .1) (
-        first-number (r .refusal) (r .accepted) (over (deskBytes s b) out) (8 * i) (λ j d. bytes j l d) (omega (arith, k .0)),
-        second-number (r .refusal) (r .accepted) (over (deskBytes s b) out) (8 * i) (λ j d. bytes j l d) (omega (arith, k .2)),
+        first-read 4 (λ j. swapRun s b j .refusal) (λ j. swapRun s b j .accepted) (swaps b) out (w .0) i l (omega (arith, k .0)),
+        second-read 4 (λ j. swapRun s b j .refusal) (λ j. swapRun s b j .accepted) (swaps b) out (w .0) i l (omega (arith, k .2)),
       )

@@ -2,19 +2,18 @@
 -- Assumes nothing.
 use Prim.Native.Nat.{ℕ, zero, suc, _+_, _-_, _*_, _≤_, _<_}
 use native.Mathlib.Omega.{arith}
-use mathlib.Core.Path.{_≡_, refl, sym, ap, _∙_}
+use mathlib.Core.Path.{_≡_, refl, ap, _∙_}
 use mathlib.Core.Bool.{true}
 use mathlib.Core.List.{List, [], _∷_, _++_, flatMap, append-nil}
 use lib.ListN.{length, take, drop, getD, length-append}
-use lib.Seq.{take-all, drop-append-add, getD-take, getD-drop}
+use lib.Seq.{take-all, drop-append-add}
 use borrow.Author.Tests.{eq-eqb, le-leb}
 use Rattle.laws.specs.All.{All, empty, also, all-weaken}
-use Rattle.laws.specs.Little.{bytesOf}
+use Rattle.laws.specs.Little.{bytesOf, numberAt, length-bytes, number-part, number-back}
 use Rattle.laws.specs.Sum.{sumBelow, sum-same}
 use Rattle.desk.specs.Bundle.{swaps, setupOf, lengthOf, journals, startOf, journalOf, addsUp, bundleRight}
 use Rattle.desk.specs.Desk.{swapRun, swapBytes, deskBytes}
 use Rattle.desk.specs.Layout.{Swap, bundleOf, Fitting, answerOf}
-use Rattle.desk.proofs.Numbers.{number-back}
 use Rattle.desk.proofs.Flat.{flat-part, flat-sum, flat-width, gather-flat}
 
 -- what stands past the end of a list of swaps
@@ -31,8 +30,7 @@ abbrev rows : Swap → List ℕ
 rows x = x .journal
 
 four : (x : Swap) → length (lengths x) ≡ 4
-unfolding bytesOf
-four x = refl
+four x = length-bytes 4 (length (x .journal))
 
 all-four : (l : List Swap) → All (λ x. length (lengths x) ≡ 4) l
 all-four [] = empty
@@ -96,11 +94,9 @@ module _ (l : List Swap) (fits : All Fitting l) where
     unfolding lengthOf
     length-there =
         rw count
-        (number-back 4 (length (getD l i none .journal)) b (1 + 4 * length l + 4 * i) (at-place Fitting l i fits h .journal-size)
-        (λ j d.
-        sym (getD-drop (1 + 4 * length l + 4 * i) b j 0)
-        ∙ sym (getD-take 4 (drop (1 + 4 * length l + 4 * i) b) j 0 d)
-        ∙ ap (λ r. getD r j 0) lengths-there))
+        (number-part 4 b (1 + 4 * length l + 4 * i)
+        ∙ ap (λ r. numberAt 4 r 0) lengths-there
+        ∙ number-back 4 (length (getD l i none .journal)) (at-place Fitting l i fits h .journal-size))
 
   sums : (i : ℕ) → i ≤ length l → sumBelow i (lengthOf b) ≡ length (flatMap rows (take i l))
   sums i h =

@@ -1,7 +1,6 @@
 pub mod Bundles
 pub mod Desks
 pub mod Swaps
-pub mod Numbers
 pub mod Entries
 pub mod Apart
 pub mod Flat

@@ -3,10 +3,11 @@
 use Prim.Native.Nat.{ℕ, _+_, _-_, _*_, _≤_, _<_}
 use native.Mathlib.Omega.{arith}
 use mathlib.Core.Path.{_≡_, sym}
-use mathlib.Core.List.{List}
+use mathlib.Core.List.{List, _++_}
 use lib.ListN.{length, take, drop}
 use borrow.Rule.Slice.PartMut.{putMid}
 use Rattle.laws.specs.Gather.{gather, length-gather}
+use Rattle.laws.specs.Little.{bytesOf}
 use Rattle.laws.specs.Over.{over}
 use Rattle.laws.specs.Wrote.{Turns, turn-room, turn-end, turn-more, turns-done}
 use Rattle.position.specs.declared.Ran.{Ran}
@@ -17,8 +18,8 @@ use Rattle.desk.specs.Forms.Bundle.{Stands}
 use Rattle.desk.proofs.Desks.{swap-length}
 
 -- the answer of the run that the code found
-entry-of : (s b : List ℕ) (t : ℕ) (r : Ran) → r ≡ swapRun s b t → entryBytes (r .refusal) (r .accepted) ≡ swapBytes s b t
-unfolding swapBytes
+entry-of : (s b : List ℕ) (t : ℕ) (r : Ran) → r ≡ swapRun s b t → bytesOf 4 (r .refusal) ++ bytesOf 4 (r .accepted) ≡ swapBytes s b t
+unfolding swapBytes entryBytes
 entry-of s b t r e = rw e
 
 module _ (s b : List ℕ) where
@@ -44,11 +45,10 @@ module _ (s b : List ℕ) where
     eight-end h m = turn-end (swapBytes s b) n l₀ l at t 8 h m (sym (swap-length s b t))
 
     pub eight-more : (ys : List ℕ) (r : Ran) → Turns (swapBytes s b) n l₀ l at t → t < n → r ≡ swapRun s b t
-        → ys ≡ over (entryBytes (r .refusal) (r .accepted)) (take (length l - at) (drop at l))
+        → ys ≡ over (bytesOf 4 (r .refusal) ++ bytesOf 4 (r .accepted)) (take (length l - at) (drop at l))
         → Turns (swapBytes s b) n l₀ (putMid at (length l - at) l ys) (at + 8) (t + 1)
     eight-more ys r h m e o =
-        let f : entryBytes (r .refusal) (r .accepted) ≡ swapBytes s b t = entry-of s b t r e in
-        turn-more (swapBytes s b) n l₀ l ys at t 8 h m (sym (swap-length s b t)) (rw f at o)
+        turn-more (swapBytes s b) n l₀ l ys at t 8 h m (sym (swap-length s b t)) (rw (entry-of s b t r e) at o)
 
     pub answers-done : n ≡ swaps b → Turns (swapBytes s b) n l₀ l at t → n ≤ t → l ≡ over (deskBytes s b) l₀
     unfolding deskBytes

@@ -1,6 +1,6 @@
 // The answers of a bundle's swaps, written one after the other.
 use crate::bundle;
-use output::row::write_number;
+use output::row::write_pair;
 use position::Ran;
 use runs::journal::ran_checked;
 ghost use Prim.Native.Nat.{_≤_, _*_};
@@ -11,7 +11,7 @@ ghost use Rattle.laws.specs.Over.{over};
 ghost use Rattle.sheet.specs.Refusal.{accepted};
 ghost use Rattle.sheet.specs.Check.{sheetRefusal};
 ghost use Rattle.desk.specs.Bundle.{swaps, bundleRight};
-ghost use Rattle.desk.specs.Desk.{swapRun, entryBytes, deskBytes};
+ghost use Rattle.desk.specs.Desk.{swapRun, deskBytes};
 ghost use Rattle.desk.specs.Forms.Bundle.{Stands};
 
 // The run of swap i, whose journal has `size` bytes from `start` on.
@@ -22,15 +22,6 @@ fn swap_ran(sheet: &[u8], bundle: &[u8], i: usize, start: usize, size: usize) ->
 {
     let at = 1 + 4 * i;
     ran_checked(sheet, &bundle[at..at + 4], &bundle[start..start + size])
-}
-
-// A swap's number and then its accepted count.
-fn write_entry(number: u32, count: u32, out: &mut [u8])
-    requires { ⌜ 8 ≤ length (now out) ⌝ }
-    ensures { λ _. ⌜ now (out .exit) ≡ over (entryBytes number count) (now (out .entry)) ⌝ }
-{
-    write_number(out, number);
-    write_number(&mut out[4..], count);
 }
 
 // The answers of all swaps, refused ones too, at the front of the buffer.
@@ -47,7 +38,7 @@ pub fn write_answers(sheet: &[u8], bundle: &[u8], out: &mut [u8])
     while i < n {
         let size = bundle::length_of(bundle, i);
         let ran = swap_ran(sheet, bundle, i, start, size);
-        write_entry(ran.refusal, ran.accepted, &mut out[at..]);
+        write_pair(&mut out[at..], ran.refusal, ran.accepted);
         start += size;
         at += 8;
         i += 1;

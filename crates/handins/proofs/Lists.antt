@@ -2,37 +2,22 @@
 -- Assumes nothing.
 use Prim.Native.Nat.{ℕ, _*_}
 use native.Mathlib.Omega.{arith}
-use mathlib.Core.Path.{_≡_, refl}
-use mathlib.Core.List.{List, [], _∷_, flatMap}
+use mathlib.Core.Path.{_≡_}
+use mathlib.Core.List.{List}
 use lib.Dec.{eqb, leb}
-use lib.ListN.{length, length-append}
+use lib.ListN.{length}
 use borrow.Author.Tests.{leb-true, eq-eqb}
 use Rattle.laws.specs.Booleans.{split, clash}
+use Rattle.laws.specs.Gather.{length-flat}
 use Rattle.laws.specs.Over.{take-over}
 use Rattle.sheet.specs.Refusal.{accepted}
-use Rattle.slots.specs.declared.Step.{Step}
-use Rattle.slots.specs.declared.Step.the-variants.{Share, Give, SendToPool, HandToMiner, Include, Mine, Bump}
 use Rattle.steps.specs.Decode.{stepBytes}
 use Rattle.position.specs.declared.Ran.{Ran}
 use Rattle.position.specs.Play.{run}
 use Rattle.position.specs.Open.{openSteps, listBytes}
 use Rattle.position.specs.Answers.{fitted, passOn, listAnswer}
+use Rattle.position.proofs.Decoding.{length-step}
 use Rattle.handins.specs.Early.{writtenBytes}
-
-four-each : (x : Step) → length (stepBytes x) ≡ 4
-unfolding stepBytes
-four-each (Share a t to) = refl
-four-each (Give a t to) = refl
-four-each (SendToPool a t to) = refl
-four-each (HandToMiner a t to) = refl
-four-each (Include a t to) = refl
-four-each (Mine a t to) = refl
-four-each (Bump a t to) = refl
-
-four-all : (l : List Step) → length (flatMap stepBytes l) ≡ 4 * length l
-unfolding flatMap
-four-all [] = refl
-four-all (x ∷ l) = omega (arith, length-append (stepBytes x) (flatMap stepBytes l), four-each x, four-all l)
 
 fitted-bytes : (bytes : List ℕ) (n : ℕ) (out : List ℕ) → length bytes ≡ 4 * n → fitted bytes n out .refusal ≡ accepted → writtenBytes (fitted bytes n out) ≡ bytes
 unfolding fitted writtenBytes
@@ -50,4 +35,4 @@ passed-bytes r bytes n out e h =
 
 pub list-written : (s u j out : List ℕ) → listAnswer s u j out .refusal ≡ accepted → writtenBytes (listAnswer s u j out) ≡ listBytes s u (run s u j .position)
 unfolding listAnswer listBytes
-list-written s u j out h = passed-bytes (run s u j) _ _ out (four-all (openSteps s u (run s u j .position))) h
+list-written s u j out h = passed-bytes (run s u j) _ _ out (length-flat stepBytes 4 length-step (openSteps s u (run s u j .position))) h

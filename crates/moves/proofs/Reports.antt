@@ -1,9 +1,9 @@
 -- The report: what is read from its bytes is what the position says.
 -- Assumes nothing.
-use Prim.Native.Nat.{ℕ, zero, suc, _+_, _*_, _/_, _%_, _≤_, _<_}
+use Prim.Native.Nat.{ℕ, _+_, _*_, _/_, _%_, _≤_, _<_}
 use native.Mathlib.Omega.{arith}
 use native.Mathlib.Nat.{add-zero}
-use mathlib.Core.Path.{_≡_, refl, sym, ap, _∙_}
+use mathlib.Core.Path.{_≡_, sym, ap, _∙_}
 use mathlib.Core.Bool.{Bool, true, false}
 use mathlib.Core.List.{List}
 use lib.Dec.{eqb, lit<, lit≤}
@@ -11,7 +11,7 @@ use lib.ListN.{getD}
 use borrow.Author.Tests.{eq-eqb, ne-eqb}
 use Rattle.laws.specs.Booleans.{pick}
 use Rattle.laws.specs.Gather.{gather, gather-at}
-use Rattle.laws.specs.Little.{bytesOf, numberAt}
+use Rattle.laws.specs.Little.{bytesOf, numberAt, number-gather}
 use Rattle.laws.specs.Mask.{bit}
 use Rattle.sheet.specs.Field.{count}
 use Rattle.sheet.specs.LockHeight.{never}
@@ -35,26 +35,14 @@ confirmed-bit a b true false = eq-eqb ((pick a 1 0 + pick b 2 0 + 4 + 0) / 4 % 2
 confirmed-bit a b false true = ne-eqb ((pick a 1 0 + pick b 2 0 + 0 + 8) / 4 % 2) 1 (λ e. omega (arith, low a 1, low b 2))
 confirmed-bit a b false false = ne-eqb ((pick a 1 0 + pick b 2 0 + 0 + 0) / 4 % 2) 1 (λ e. omega (arith, low a 1, low b 2))
 
--- numbers in the same bytes
-pub number-same : (k : ℕ) (l r : List ℕ) (i j : ℕ) → ((m : ℕ) → m < k → getD l (i + m) 0 ≡ getD r (j + m) 0) → numberAt k l i ≡ numberAt k r j
-unfolding numberAt
-number-same zero l r i j h = refl
-number-same (suc k) l r i j h =
-    let first : getD l i 0 ≡ getD r j 0 = rw (add-zero i, add-zero j) at (h 0 (omega arith)) in
-    let next : (m n : ℕ) → suc n + m ≡ n + suc m = λ m n. omega arith in
-    let rest = number-same k l r (suc i) (suc j) (λ m b. ap (λ x. getD l x 0) (next m i) ∙ h (suc m) (omega arith) ∙ sym (ap (λ x. getD r x 0) (next m j))) in
-    rw (first, rest)
-
 module _ (s u : List ℕ) (p : Position) (counts : List ℕ) (t : ℕ) (l : t < count s) where
   read-at : (j : ℕ) → j < rowWidth → getD (reportBytes s u p counts) (rowWidth * t + j) 0 ≡ getD (fullRow s u p counts t) j 0
   unfolding reportBytes
   read-at j h = gather-at (fullRow s u p counts) rowWidth (row-length s u p counts) (count s) t j 0 l h
 
   read-number : (j : ℕ) → j ≤ 14 → numberAt 4 (reportBytes s u p counts) (rowWidth * t + j) ≡ numberAt 4 (fullRow s u p counts t) j
-  read-number j h =
-      let far : (m : ℕ) → rowWidth * t + j + m ≡ rowWidth * t + (j + m) = λ m. omega arith in
-      number-same 4 (reportBytes s u p counts) (fullRow s u p counts t) (rowWidth * t + j) j
-      (λ m n. ap (λ x. getD (reportBytes s u p counts) x 0) (far m) ∙ read-at (j + m) (omega (arith, n)))
+  unfolding reportBytes
+  read-number j h = number-gather (fullRow s u p counts) rowWidth (row-length s u p counts) 4 (count s) t j l (omega arith)
 
   -- the line of t is that of its row, whatever the counts
   pub line-read : reportedLine (reportBytes s u p counts) t ≡ printedLine s u p t

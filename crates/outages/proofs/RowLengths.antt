@@ -1,19 +1,19 @@
 -- The lengths of the rows.
 -- Assumes nothing.
 use Prim.Native.Nat.{ℕ, _*_, _≤_}
-use mathlib.Core.Path.{_≡_, refl}
+use mathlib.Core.Path.{_≡_}
 use mathlib.Core.List.{List}
-use lib.ListN.{length}
+use lib.ListN.{length, length-append}
 use Rattle.laws.specs.Gather.{gather, length-gather}
-use Rattle.laws.specs.Little.{bytesOf}
+use Rattle.laws.specs.Little.{length-bytes}
 use Rattle.sheet.specs.Field.{count}
 use Rattle.position.specs.declared.Position.{Position}
 use Rattle.outages.specs.Verdict.{outageRow, outageBytes}
 
 module _ (s u : List ℕ) (p : Position) (blocks : ℕ) where
   pub row-length : (t : ℕ) → length (outageRow s u p blocks t) ≡ 10
-  unfolding outageRow bytesOf
-  row-length t = refl
+  unfolding outageRow
+  row-length t = simp (length-append, length-bytes)
 
   pub rows-length : length (outageBytes s u p blocks) ≡ 10 * count s
   unfolding outageBytes

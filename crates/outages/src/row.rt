@@ -14,6 +14,5 @@ pub fn write_row(out: &mut [u8], verdict: u8, payees: u8, block: u32, deadline: 
 {
     out[0] = verdict;
     out[1] = payees;
-    row::write_number(&mut out[2..], block);
-    row::write_number(&mut out[6..], deadline);
+    row::write_pair(&mut out[2..], block, deadline);
 }

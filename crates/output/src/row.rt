@@ -1,6 +1,7 @@
-// The bytes of a report's row.
+// Numbers in four bytes, and the bytes of a report's row.
 ghost use Prim.Native.Nat.{_≤_};
 ghost use mathlib.Core.Path.{_≡_};
+ghost use mathlib.Core.List.{_++_};
 ghost use lib.ListN.{length};
 ghost use Rattle.laws.specs.Little.{bytesOf};
 ghost use Rattle.laws.specs.Over.{over};
@@ -20,6 +21,15 @@ pub fn write_number(out: &mut [u8], x: u32)
     out[3] = (x3 % 256) as u8;
 }
 
+// Two numbers, one after the other.
+pub fn write_pair(out: &mut [u8], first: u32, second: u32)
+    requires { ⌜ 8 ≤ length (now out) ⌝ }
+    ensures { λ _. ⌜ now (out .exit) ≡ over (bytesOf 4 first ++ bytesOf 4 second) (now (out .entry)) ⌝ }
+{
+    write_number(out, first);
+    write_number(&mut out[4..], second);
+}
+
 // The bytes of a row, at the front of the buffer.
 pub fn write_row(
     out: &mut [u8],
@@ -35,8 +45,6 @@ pub fn write_row(
 {
     out[0] = status;
     out[1] = payee;
-    write_number(&mut out[2..], block);
-    write_number(&mut out[6..], lock);
-    write_number(&mut out[10..], deadline);
-    write_number(&mut out[14..], opened);
+    write_pair(&mut out[2..], block, lock);
+    write_pair(&mut out[10..], deadline, opened);
 }

@@ -9,7 +9,7 @@ use lib.Dec.{eqb, lit<, lit≤}
 use lib.ListN.{length, getD, length-append}
 use Rattle.laws.specs.Booleans.{split}
 use Rattle.laws.specs.Gather.{gather}
-use Rattle.laws.specs.Little.{numberAt}
+use Rattle.laws.specs.Little.{numberAt, number-below}
 use Rattle.laws.specs.Sum.{sumBelow, length-gathered}
 use Rattle.sheet.specs.LockHeight.{never}
 use Rattle.slots.specs.Destination.{alice, bob, carol, contract}
@@ -55,9 +55,8 @@ column-within : (w m : ℕ) (x : List ℕ) → w ≤ m → length x ≤ m → le
 column-within w m x h l = omega (arith, length-column w x)
 
 -- a number in four bytes
-number-below : (l : List ℕ) → ((n : ℕ) → getD l n 0 < 256) → (i : ℕ) → numberAt 4 l i < 10 ^ 10
-unfolding numberAt
-number-below l b i = omega (arith, b i, b (suc i), b (suc (suc i)), b (suc (suc (suc i))))
+few-digits : (l : List ℕ) → ((n : ℕ) → getD l n 0 < 256) → (i : ℕ) → numberAt 4 l i < 10 ^ 10
+few-digits l b i = omega (arith, number-below 4 l i (λ j m. b (i + j)))
 
 ended-length : (shown : List ℕ) → length shown ≤ lineWidth → length (ended shown) ≡ 73
 unfolding ended
@@ -111,7 +110,7 @@ bytes-readable n report h b =
       few = h;
       first = λ t l. refl;
       status = λ t l. omega (arith, b (rowWidth * t));
-      number = λ t l. (number-below report b (rowWidth * t + 2), (number-below report b (rowWidth * t + 6), number-below report b (rowWidth * t + 10)));
+      number = λ t l. (few-digits report b (rowWidth * t + 2), (few-digits report b (rowWidth * t + 6), few-digits report b (rowWidth * t + 10)));
     }
 
 module _ (n : ℕ) (shown : ℕ → List ℕ) (r : Readable n shown) where

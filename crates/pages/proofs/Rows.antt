@@ -1,16 +1,16 @@
 -- What stands on a line, for every position.
 -- Assumes nothing.
-use Prim.Native.Nat.{ℕ, zero, suc, _+_, _*_, _/_, _%_, _^_, _≤_, _<_}
+use Prim.Native.Nat.{ℕ, zero, suc, _+_, _^_, _≤_, _<_}
 use native.Mathlib.Omega.{arith}
-use native.Mathlib.Nat.{add-zero}
-use mathlib.Core.Path.{_≡_, refl, ap, ap₂, sym, _∙_}
+use native.Mathlib.Nat.{mod-le}
+use mathlib.Core.Path.{_≡_, refl, ap, _∙_}
 use mathlib.Core.Bool.{Bool, true, false}
 use mathlib.Core.List.{List, [], _∷_}
 use lib.Dec.{lit<, lit≤}
 use lib.ListN.{getD}
 use Rattle.laws.specs.Booleans.{pick}
-use Rattle.laws.specs.Gather.{gather}
-use Rattle.laws.specs.Little.{bytesOf, numberAt}
+use Rattle.laws.specs.Gather.{gather-same}
+use Rattle.laws.specs.Little.{bytesOf, numberAt, number-bytes, bytes-again}
 use Rattle.sheet.specs.Field.{count}
 use Rattle.slots.specs.Invalidated.{invalidated}
 use Rattle.readings.specs.Reported.{reportedLine, rowLine}
@@ -18,41 +18,25 @@ use Rattle.position.specs.declared.Position.{Position}
 use Rattle.position.specs.Position.{inPool, inBlock, isConfirmed, blockOf, lockHeightIn, deadlineIn}
 use Rattle.position.specs.Report.{status, payee, row, reportBytes}
 use Rattle.position.specs.Printed.{printedLine}
-use Rattle.moves.proofs.Reports.{number-same, line-read}
+use Rattle.moves.proofs.Reports.{line-read}
 use Rattle.pages.specs.Line.{line}
 use Rattle.pages.specs.Page.{lineTexts, pageOf}
 use Rattle.pages.proofs.Lines.{Readable}
 
--- the number in the k lowest bytes of x
-abbrev pub low : ℕ → ℕ → ℕ
-low k x = numberAt k (bytesOf k x) 0
-
-low-step : (k x : ℕ) → low (suc k) x ≡ x % 256 + 256 * low k (x / 256)
-unfolding numberAt bytesOf
-low-step k x =
-    let b = bytesOf k (x / 256) in
-    let next : (m : ℕ) → 1 + m ≡ suc (0 + m) = λ m. omega arith in
-    ap (λ n. x % 256 + 256 * n) (number-same k (x % 256 ∷ b) b 1 0 (λ m h. ap (λ n. getD (x % 256 ∷ b) n 0) (next m)))
+-- the number in the four lowest bytes of x
+abbrev pub low : ℕ → ℕ
+low x = numberAt 4 (bytesOf 4 x) 0
 
 -- it has the same bytes
-pub low-bytes : (k x : ℕ) → bytesOf k (low k x) ≡ bytesOf k x
-unfolding bytesOf
-low-bytes zero x = refl
-low-bytes (suc k) x =
-    let e = low-step k x in
-    let one : low (suc k) x % 256 ≡ x % 256 = omega (arith, e) in
-    let more : low (suc k) x / 256 ≡ low k (x / 256) = omega (arith, e) in
-    ap₂ (λ (a : ℕ) (b : List ℕ). a ∷ b) one (ap (λ n. bytesOf k n) more ∙ low-bytes k (x / 256))
+pub low-bytes : (x : ℕ) → bytesOf 4 (low x) ≡ bytesOf 4 x
+low-bytes x = ap (bytesOf 4) (number-bytes 4 x) ∙ bytes-again 4 x
 
 -- it is x at most
-pub low-most : (k x : ℕ) → low k x ≤ x
-unfolding numberAt
-low-most zero x = omega arith
-low-most (suc k) x = omega (arith, low-step k x, low-most k (x / 256))
+pub low-most : (x : ℕ) → low x ≤ x
+low-most x = omega (arith, number-bytes 4 x, mod-le x (256 ^ 4))
 
-pub low-below : (x : ℕ) → low 4 x < 10 ^ 10
-unfolding numberAt bytesOf
-low-below x = omega arith
+pub low-below : (x : ℕ) → low x < 10 ^ 10
+low-below x = omega (arith, number-bytes 4 x)
 
 at-most : (b : Bool) (n : ℕ) → pick b n 0 ≤ n
 at-most true n = omega arith
@@ -67,7 +51,7 @@ status-few s p t = status-below (inPool p t) (inBlock p t) (isConfirmed p t) (in
 
 -- the line of t
 pub read-line : (s u : List ℕ) (p : Position) (t : ℕ)
-    → printedLine s u p t ≡ t ∷ status s p t ∷ payee p t ∷ low 4 (blockOf p t) ∷ low 4 (lockHeightIn s u p t) ∷ low 4 (deadlineIn s u p t) ∷ []
+    → printedLine s u p t ≡ t ∷ status s p t ∷ payee p t ∷ low (blockOf p t) ∷ low (lockHeightIn s u p t) ∷ low (deadlineIn s u p t) ∷ []
 unfolding printedLine rowLine row bytesOf numberAt
 read-line s u p t = refl
 
@@ -82,12 +66,6 @@ lines-readable s u p few =
           let e = read-line s u p t in
           (rw (ap (λ r. getD r 3 0) e) (low-below _), (rw (ap (λ r. getD r 4 0) e) (low-below _), rw (ap (λ r. getD r 5 0) e) (low-below _)));
     }
-
--- lists made of the same parts
-gather-same : (n : ℕ) (f g : ℕ → List ℕ) → ((i : ℕ) → i < n → f i ≡ g i) → gather n f ≡ gather n g
-unfolding gather
-gather-same zero f g h = refl
-gather-same (suc n) f g h = rw (gather-same n f g (λ i l. h i (omega arith)), h n (omega arith))
 
 -- the lines of a report are these, whatever its counts, and so is the page
 line-same : (s u : List ℕ) (p : Position) (counts : List ℕ) (i : ℕ) → i < suc (count s)

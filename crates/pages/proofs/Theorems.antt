@@ -55,18 +55,18 @@ payee-known s p w t =
     (λ e. rw e (inl (omega (arith, w .slots t .confirmed))))
     (λ e. rw e (inr refl))
 
-block-few : (s : List ℕ) (p : Position) → Wellformed s p → (t : ℕ) → low 4 (blockOf p t) < 10 ^ 8
+block-few : (s : List ℕ) (p : Position) → Wellformed s p → (t : ℕ) → low (blockOf p t) < 10 ^ 8
 unfolding blockOf
-block-few s p w t = omega (arith, low-most 4 (slot p t .height), w .slots t .height, w .mined)
+block-few s p w t = omega (arith, low-most (slot p t .height), w .slots t .height, w .mined)
 
 pub reads-back : ReadsBack
 unfolding lineTexts row
 reads-back s u p few w t l =
     let b =
-    values-back t (status s p t) (payee p t) (low 4 (blockOf p t)) (low 4 (lockHeightIn s u p t)) (low 4 (deadlineIn s u p t))
+    values-back t (status s p t) (payee p t) (low (blockOf p t)) (low (lockHeightIn s u p t)) (low (deadlineIn s u p t))
     (omega arith) (omega (arith, status-few s p t)) (payee-known s p w t) (block-few s p w t) (low-below (lockHeightIn s u p t)) (low-below (deadlineIn s u p t)) in
     rw (line-at s u p few (suc t) l, read-line s u p t)
-    (rw (low-bytes 4 (blockOf p t), low-bytes 4 (lockHeightIn s u p t), low-bytes 4 (deadlineIn s u p t)) at b)
+    (rw (low-bytes (blockOf p t), low-bytes (lockHeightIn s u p t), low-bytes (deadlineIn s u p t)) at b)
 
 pub runs-read-back : RunsReadBack
 runs-read-back s u j z t l =

@@ -7,7 +7,7 @@ use mathlib.Core.Bool.{Bool, true, _&&_}
 use mathlib.Core.Logic.{_⊎_, inl, inr}
 use mathlib.Core.List.{List, [], _∷_}
 use lib.Dec.{eqb, ltb, lit≤, lit<}
-use lib.ListN.{getD}
+use lib.ListN.{length, getD}
 use borrow.Author.Tests.{eqb-true, ltb-true}
 use Rattle.laws.specs.Booleans.{pick, split, either, and-parts, or-parts}
 use Rattle.sheet.specs.Field.{count, signatures}
@@ -21,6 +21,17 @@ use Rattle.steps.specs.declared.Decoded.the-variants.{Read, Refused}
 use Rattle.position.specs.Position.{slotCount}
 use Rattle.steps.specs.Decode.{noTransaction, sharesTo, firstShareFields, fieldsRight, ofKind, spelled, rangeChecked, decode, stepBytes}
 use Rattle.position.specs.Open.{kinds}
+
+-- "4 bytes a step"
+pub length-step : (x : Step) → length (stepBytes x) ≡ 4
+unfolding stepBytes
+length-step (Share a t to) = refl
+length-step (Give a t to) = refl
+length-step (SendToPool a t to) = refl
+length-step (HandToMiner a t to) = refl
+length-step (Include a t to) = refl
+length-step (Mine a t to) = refl
+length-step (Bump a t to) = refl
 
 -- what is read from the bytes k a t d, whatever the sheet
 data Spelled (k a t d : ℕ) : Decoded → Type 0 where

@@ -1,11 +1,11 @@
 -- The lengths of a report and of its rows.
 -- Assumes nothing.
 use Prim.Native.Nat.{ℕ, _*_, _≤_}
-use mathlib.Core.Path.{_≡_, refl}
+use mathlib.Core.Path.{_≡_}
 use mathlib.Core.List.{List}
-use lib.ListN.{length}
+use lib.ListN.{length, length-append}
 use Rattle.laws.specs.Gather.{gather, length-gather}
-use Rattle.laws.specs.Little.{bytesOf}
+use Rattle.laws.specs.Little.{length-bytes}
 use Rattle.sheet.specs.Field.{count}
 use Rattle.readings.specs.Reported.{rowWidth}
 use Rattle.position.specs.declared.Position.{Position}
@@ -13,8 +13,8 @@ use Rattle.position.specs.Report.{row, fullRow, reportBytes}
 
 module _ (s u : List ℕ) (p : Position) (counts : List ℕ) where
   pub row-length : (t : ℕ) → length (fullRow s u p counts t) ≡ rowWidth
-  unfolding fullRow row bytesOf
-  row-length t = refl
+  unfolding fullRow row
+  row-length t = simp (length-append, length-bytes)
 
   pub report-length : length (reportBytes s u p counts) ≡ rowWidth * count s
   unfolding reportBytes

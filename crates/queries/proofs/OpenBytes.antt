@@ -8,10 +8,10 @@ use mathlib.Core.Path.{_≡_, refl, sym, ap, ap₂, _∙_}
 use mathlib.Core.Bool.{Bool, true, false}
 use mathlib.Core.List.{List, [], _∷_, _++_, flatMap, append-assoc, append-nil}
 use lib.Dec.{eqb}
-use lib.ListN.{length, getD, replicate, length-append}
+use lib.ListN.{length, getD, replicate}
 use Rattle.laws.specs.Booleans.{split, either, clash, and-parts}
 use Rattle.laws.specs.Each.{rewritten}
-use Rattle.laws.specs.Gather.{gather, gather-empty}
+use Rattle.laws.specs.Gather.{gather, gather-empty, gather-same, length-flat}
 use Rattle.laws.specs.Mask.{bit}
 use Rattle.laws.specs.Sets.{setBelow, set-bit}
 use Rattle.sheet.specs.Refusal.{accepted}
@@ -30,15 +30,9 @@ use Rattle.position.specs.Position.{slotCount}
 use Rattle.position.specs.StepRefusal.{stepRefusal}
 use Rattle.position.specs.Open.{actorAt, kinds, ifAccepted, openAt, openOf, actorSteps, openSteps, listBytes}
 use Rattle.queries.specs.Forms.OpenSets.{isOpenRead, isOpenStep, Opens, openSet, belowSets, lastSet}
-use Rattle.position.proofs.Decoding.{decodes}
+use Rattle.position.proofs.Decoding.{length-step, decodes}
 
 -- ---- lists of lists
-
--- two rows of lists that agree below n
-pub gather-same : {A : Type 0} (n : ℕ) (f g : ℕ → List A) → ((k : ℕ) → k < n → f k ≡ g k) → gather n f ≡ gather n g
-unfolding gather
-gather-same zero f g h = refl
-gather-same (suc n) f g h = ap₂ _++_ (gather-same n f g (λ k l. h k (omega arith))) (h n (omega arith))
 
 -- lists that are empty from m on
 gather-past : {A : Type 0} (f : ℕ → List A) (m n : ℕ) → m ≤ n → ((k : ℕ) → m ≤ k → f k ≡ []) → gather n f ≡ gather m f
@@ -60,27 +54,11 @@ module _ {A B : Type 0} (f : A → List B) where
   flat-gather zero g = refl
   flat-gather (suc n) g = flat-append (gather n g) (g n) ∙ ap (λ r. r ++ flatMap f (g n)) (flat-gather n g)
 
-  -- elements that become four each
-  pub flat-fours : ((x : A) → length (f x) ≡ 4) → (l : List A) → length (flatMap f l) ≡ length l * 4
-  unfolding flatMap
-  flat-fours four [] = refl
-  flat-fours four (x ∷ l) = length-append (f x) (flatMap f l) ∙ rw (four x, flat-fours four l) (omega arith)
-
-step-four : (x : Step) → length (stepBytes x) ≡ 4
-unfolding stepBytes
-step-four (Share a t to) = refl
-step-four (Give a t to) = refl
-step-four (SendToPool a t to) = refl
-step-four (HandToMiner a t to) = refl
-step-four (Include a t to) = refl
-step-four (Mine a t to) = refl
-step-four (Bump a t to) = refl
-
 module _ (s u : List ℕ) (p : Position) where
   -- "4 bytes a step"
   pub list-length : length (listBytes s u p) ≡ length (openSteps s u p) * 4
   unfolding listBytes
-  list-length = flat-fours stepBytes step-four (openSteps s u p)
+  list-length = rw (length-flat stepBytes 4 length-step (openSteps s u p)) (omega arith)
 
   -- ---- one step
   read-bytes : (kind actor t d : ℕ) (y : Decoded) → decode s u kind actor t d ≡ y

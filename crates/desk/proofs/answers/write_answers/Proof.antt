@@ -37,17 +37,17 @@ swap-ran-requires c κs =
     let p = c .before .before .before .before .before .before .before .pre in
     (p .0, stands _ (p .1 .0) _ _ _ (omega (arith, c .before .loop-test .taken, c .before .before .before .swaps .ensures .is)) (c .before .before .loop .inv .1) (c .length-of .ensures .is))
 
-sub-write-entry : tie.Need-sub-write-entry Inv-loop μ-loop
-sub-write-entry c = omega (arith, c .before .before .before .loop .inv .0 .wrote)
+sub-write-pair : tie.Need-sub-write-pair Inv-loop μ-loop
+sub-write-pair c = omega (arith, c .before .before .before .loop .inv .0 .wrote)
 
-part-write-entry-start : tie.Need-part-write-entry-start Inv-loop μ-loop
-part-write-entry-start c = omega (arith, c .before .before .before .loop .inv .0 .wrote)
+part-write-pair-start : tie.Need-part-write-pair-start Inv-loop μ-loop
+part-write-pair-start c = omega (arith, c .before .before .before .loop .inv .0 .wrote)
 
-part-write-entry-end : tie.Need-part-write-entry-end Inv-loop μ-loop
-part-write-entry-end c = search needs
+part-write-pair-end : tie.Need-part-write-pair-end Inv-loop μ-loop
+part-write-pair-end c = search needs
 
-write-entry-requires : tie.Need-write-entry-requires Inv-loop μ-loop
-write-entry-requires c κs = eight-room _ _ _ _ _ _ _ (c .before .before .before .before .loop .inv .0) (c .before .before .before .loop-test .taken)
+write-pair-requires : tie.Need-write-pair-requires Inv-loop μ-loop
+write-pair-requires c κs = eight-room _ _ _ _ _ _ _ (c .before .before .before .before .loop .inv .0) (c .before .before .before .loop-test .taken)
 
 add-start-2 : tie.Need-add-start-2 Inv-loop μ-loop
 add-start-2 c =
@@ -67,7 +67,7 @@ loop-less c = search needs
 loop-again : tie.Need-loop-again Inv-loop μ-loop
 loop-again c =
     let l = c .before .before .before .before .before .before .before .loop in
-    (eight-more _ _ _ _ _ _ _ _ _ (l .inv .0) (c .before .before .before .before .before .before .loop-test .taken) (c .before .before .before .before .swap-ran .ensures) (c .before .before .write-entry .ensures), start-next _ _ _ _ (l .inv .1) (c .before .before .before .before .before .length-of .ensures .is))
+    (eight-more _ _ _ _ _ _ _ _ _ (l .inv .0) (c .before .before .before .before .before .before .loop-test .taken) (c .before .before .before .before .swap-ran .ensures) (c .before .before .write-pair .ensures), start-next _ _ _ _ (l .inv .1) (c .before .before .before .before .before .length-of .ensures .is))
 
 same-length : tie.Need-same-length Inv-loop μ-loop
 same-length c = c .before .loop .inv .0 .wrote .long
@@ -87,10 +87,10 @@ write-answers-spec =
     loop-holds
     length-of-requires
     swap-ran-requires
-    sub-write-entry
-    part-write-entry-start
-    part-write-entry-end
-    write-entry-requires
+    sub-write-pair
+    part-write-pair-start
+    part-write-pair-end
+    write-pair-requires
     add-start-2
     add-at
     add-i
