@@ -1,6 +1,6 @@
 -- The lock over a parent's block, and the earliest block over it.
 -- Assumes nothing.
-use Prim.Native.Nat.{ℕ, _+_, _*_, _≤_, _<_}
+use Prim.Native.Nat.{ℕ, _+_, _≤_, _<_}
 use native.Mathlib.Nat.{max-eq-left, max-eq-right}
 use native.Mathlib.Omega.{arith}
 use mathlib.Core.Path.{_≡_, sym, _∙_}
@@ -9,25 +9,25 @@ use mathlib.Core.List.{List}
 use lib.Dec.{eqb, ltb}
 use borrow.Author.Tests.{eq-eqb, ne-eqb, lt-ltb, le-ltb}
 use Rattle.laws.specs.Climb.{climb-step}
-use Rattle.sheet.specs.Field.{parent, lockType, days}
+use Rattle.sheet.specs.Field.{parent, lockType}
 use Rattle.sheet.specs.LockHeight.{lockBlocks}
 use Rattle.ledger.specs.Ledger.{lockFrom}
 use Rattle.endings.specs.Earliest.{earliestFrom, earliest}
 
--- the returns of the code, where l is the lock's type, d its days, b the product
+-- the returns of the code, where l is the lock's type, b its blocks
 module _ (s : List ℕ) (perDay above t l : ℕ) (e : l ≡ lockType s t) where
   pub lock-none : l ≡ 0 → 0 ≡ lockFrom s perDay above t
   unfolding lockFrom
   lock-none z = rw (eq-eqb (lockType s t) 0 (sym e ∙ z))
 
-  module _ (d b : ℕ) (f : d ≡ days s t) (g : b ≡ d * perDay) (n : l ≡ 0 → ⊥) where
+  module _ (b : ℕ) (g : b ≡ lockBlocks s perDay t) (n : l ≡ 0 → ⊥) where
     pub lock-days : l ≡ 1 → b ≡ lockFrom s perDay above t
-    unfolding lockFrom lockBlocks
-    lock-days z = rw (ne-eqb (lockType s t) 0 (λ y. n (e ∙ y)), eq-eqb (lockType s t) 1 (sym e ∙ z), ← f) g
+    unfolding lockFrom
+    lock-days z = rw (ne-eqb (lockType s t) 0 (λ y. n (e ∙ y)), eq-eqb (lockType s t) 1 (sym e ∙ z)) g
 
     pub lock-since : (l ≡ 1 → ⊥) → above + b ≡ lockFrom s perDay above t
-    unfolding lockFrom lockBlocks
-    lock-since m = rw (ne-eqb (lockType s t) 0 (λ y. n (e ∙ y)), ne-eqb (lockType s t) 1 (λ y. m (e ∙ y)), ← f, g)
+    unfolding lockFrom
+    lock-since m = rw (ne-eqb (lockType s t) 0 (λ y. n (e ∙ y)), ne-eqb (lockType s t) 1 (λ y. m (e ∙ y)), g)
 
 -- and of the block over it, where l is the lock
 module _ (s : List ℕ) (perDay t above l : ℕ) (e : l ≡ lockFrom s perDay above t) where

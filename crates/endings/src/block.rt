@@ -1,19 +1,11 @@
 // The earliest block of a transaction: recursion up the sheet, where a parent is always a lower number.
-use slots::lock_height::wide;
+use slots::lock_height::lock_blocks;
 ghost use Prim.Native.Nat.{_+_, _*_, _≤_, _<_};
 ghost use mathlib.Core.Path.{_≡_};
 ghost use Rattle.sheet.specs.Field.{count, Sized};
-ghost use Rattle.slots.specs.Forms.Height.{Product};
 ghost use Rattle.ledger.specs.Ledger.{lockFrom};
 ghost use Rattle.endings.specs.Earliest.{earliestFrom, earliest};
 ghost use Rattle.endings.specs.Forms.Bounds.{Locked, Early};
-
-// Days times blocks per day.
-fn product(days: u8, per_day: u16) -> u32
-    ensures { λ r. ⌜ Product days «per_day» r ⌝ }
-{
-    (days as u32) * wide(per_day)
-}
 
 // The lock of t over a block of its parent.
 fn lock_from(sheet: &[u8], per_day: u16, above: u32, t: usize) -> u32
@@ -26,7 +18,7 @@ fn lock_from(sheet: &[u8], per_day: u16, above: u32, t: usize) -> u32
     if lock == 0 {
         return 0;
     }
-    let blocks = product(sheet::field::days(sheet, t), per_day);
+    let blocks = lock_blocks(sheet, per_day, t);
     if lock == 1 {
         return blocks;
     }

@@ -1,6 +1,5 @@
 pub mod ConflictSets
 pub mod AncestrySets
-pub mod Products
 pub mod Since
 pub mod Parents
 pub mod Conflicts

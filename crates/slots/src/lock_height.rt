@@ -1,9 +1,9 @@
 // Lock heights, over the block of the parent's confirmation, 0 where it has none.
-ghost use Prim.Native.Nat.{_<_, _*_};
+ghost use Prim.Native.Nat.{_<_};
 ghost use mathlib.Core.Path.{_≡_};
 ghost use Rattle.sheet.specs.Field.{count, Sized};
-ghost use Rattle.sheet.specs.LockHeight.{sinceParent, lockHeight};
-ghost use Rattle.slots.specs.Forms.Height.{Product, Height};
+ghost use Rattle.sheet.specs.LockHeight.{lockBlocks, sinceParent, lockHeight};
+ghost use Rattle.slots.specs.Forms.Height.{Blocks, Height};
 
 // "Never": above every height that is reached.
 pub const NEVER: u32 = 2147483647;
@@ -15,10 +15,13 @@ pub fn wide(x: u16) -> u32
     x as u32
 }
 
-// Days times blocks per day.
-fn product(days: u8, per_day: u16) -> u32
-    ensures { λ r. ⌜ Product days «per_day» r ⌝ }
+// The blocks of a transaction's lock: days times blocks per day.
+pub fn lock_blocks(sheet: &[u8], per_day: u16, t: usize) -> u32
+    requires { ⌜ Sized (now sheet) ⌝ }
+    requires { ⌜ t < count (now sheet) ⌝ }
+    ensures { λ r. ⌜ Blocks (lockBlocks (now (sheet .entry)) «per_day» t) r ⌝ }
 {
+    let days = sheet::field::days(sheet, t);
     (days as u32) * wide(per_day)
 }
 
@@ -43,7 +46,7 @@ pub fn lock_height(sheet: &[u8], per_day: u16, since: u16, t: usize) -> u32
     if lock == 0 {
         return 0;
     }
-    let blocks = product(sheet::field::days(sheet, t), per_day);
+    let blocks = lock_blocks(sheet, per_day, t);
     if lock == 1 {
         return blocks;
     }

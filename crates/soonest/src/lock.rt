@@ -4,14 +4,7 @@ ghost use Prim.Native.Nat.{_<_};
 ghost use Rattle.sheet.specs.Field.{count, Sized};
 ghost use Rattle.sheet.specs.LockHeight.{sinceParent};
 ghost use Rattle.soonest.specs.Soonest.{lockAt};
-ghost use Rattle.soonest.specs.Forms.Bounds.{Product, Lock};
-
-// Days times blocks per day.
-fn product(days: u8, per_day: u16) -> u32
-    ensures { λ r. ⌜ Product days «per_day» r ⌝ }
-{
-    (days as u32) * (per_day as u32)
-}
+ghost use Rattle.soonest.specs.Forms.Bounds.{Lock};
 
 // The parent's block plus the product, or never where the parent has no block.
 fn since_parent(block: u32, blocks: u32) -> u32
@@ -36,7 +29,7 @@ pub fn lock_at(sheet: &[u8], per_day: u16, e: u32, t: usize) -> u32
     if lock == 0 {
         return 0;
     }
-    let blocks = product(sheet::field::days(sheet, t), per_day);
+    let blocks = lock_height::lock_blocks(sheet, per_day, t);
     if lock == 1 {
         return blocks;
     }

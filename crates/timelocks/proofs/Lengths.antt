@@ -1,18 +1,18 @@
 -- The lengths of the two numbers' bytes, and of all of them.
 -- Assumes nothing.
 use Prim.Native.Nat.{ℕ, _*_, _≤_}
-use mathlib.Core.Path.{_≡_, refl}
+use mathlib.Core.Path.{_≡_}
 use mathlib.Core.List.{List}
 use lib.ListN.{length}
 use Rattle.laws.specs.Gather.{gather, length-gather}
-use Rattle.laws.specs.Little.{bytesOf}
+use Rattle.laws.specs.Little.{length-pair}
 use Rattle.sheet.specs.Field.{count}
-use Rattle.timelocks.specs.Fields.{fieldBytes, timelockBytes}
+use Rattle.timelocks.specs.Fields.{nLockTime, nSequence, fieldBytes, timelockBytes}
 
 module _ (s : List ℕ) (d base : ℕ) where
   pub field-length : (t : ℕ) → length (fieldBytes s d base t) ≡ 8
-  unfolding fieldBytes bytesOf
-  field-length t = refl
+  unfolding fieldBytes
+  field-length t = length-pair 4 (nLockTime s d base) (nSequence s d) t
 
   pub bytes-length : length (timelockBytes s d base) ≡ 8 * count s
   unfolding timelockBytes

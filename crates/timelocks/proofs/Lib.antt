@@ -1,10 +1,8 @@
-pub mod Products
 pub mod Within
 pub mod Lengths
 pub mod Answers
 pub mod Admitted
 pub mod SameLocks
-pub mod Little
 pub mod Read
 pub mod Tight
 pub mod Opened

@@ -20,7 +20,7 @@ use Rattle.timelocks.proofs.Opened.{opened}
 use Rattle.timelocks.proofs.Examples.{pair}
 use Rattle.timelocks.proofs.Answers.{field-fit, all-relative, all-absolute, accepted-whole}
 use Rattle.timelocks.proofs.SameLocks.{locks-same, fields-small}
-use Rattle.timelocks.proofs.Read.{first-read, second-read}
+use Rattle.timelocks.proofs.Read.{lock-time-read, sequence-read}
 
 -- For every sheet, setup and base that get neither 26 nor 27, Bitcoin admits each transaction of version 2 with its two numbers to a
 -- block exactly if the model's lock height is reached there.
@@ -40,7 +40,7 @@ written-exact s u base out t h l =
     (field-fit s u base (w .0) .checked .entries t l .lock-pair)
     (all-at (count s) (relativeRight s (perDay u)) (all-relative s u base (w .0)) t l)
     (all-at (count s) (absoluteRight s (perDay u) base) (all-absolute s u base (w .0)) t l) in
-    rw (w .2, first-read s (perDay u) base out (w .1) t l (small .0), second-read s (perDay u) base out (w .1) t l (small .1))
+    rw (w .2, lock-time-read s (perDay u) base out (w .1) t l (small .0), sequence-read s (perDay u) base out (w .1) t l (small .1))
     (fields-exact s u base t (w .0) l)
 
 -- Both limits are needed, whatever gets them.

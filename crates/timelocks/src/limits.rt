@@ -2,6 +2,7 @@
 use crate::fields;
 use crate::refusal;
 use sheet::field;
+use slots::lock_height::lock_blocks;
 ghost use Prim.Native.Nat.{_<_, _+_};
 ghost use mathlib.Core.Path.{_≡_};
 ghost use Rattle.laws.specs.Below.{allBelow};
@@ -44,7 +45,7 @@ fn absolute_right(sheet: &[u8], per_day: u16, base: u32, t: usize) -> bool
     if field::lock_type(sheet, t) != 1 {
         return true;
     }
-    sum(base, fields::lock_blocks(sheet, per_day, t)) < THRESHOLD
+    sum(base, lock_blocks(sheet, per_day, t)) < THRESHOLD
 }
 
 // A rule by its number, at one transaction.

@@ -1,12 +1,12 @@
 -- What the functions on heights answer.
 -- Assumes nothing.
-use Prim.Native.Nat.{ℕ, _*_, _≤_, _<_}
+use Prim.Native.Nat.{ℕ, _≤_, _<_}
 use mathlib.Core.Path.{_≡_}
 use Rattle.sheet.specs.LockHeight.{never}
 
--- "days × blocks per day", of a byte and two bytes
-pub record Product (days perDay r : ℕ) : Type 0 where
-  pub is : r ≡ days * perDay
+-- r is the number v of blocks, a byte times two bytes
+pub record Blocks (v r : ℕ) : Type 0 where
+  pub is : r ≡ v
   pub small : r < 16777216
 
 -- r is the height h, which is at most never

@@ -4,11 +4,6 @@ use Prim.Native.Nat.{ℕ, _+_, _*_, _≤_, _<_}
 use mathlib.Core.Path.{_≡_}
 use Rattle.sheet.specs.LockHeight.{never}
 
--- "days × blocks per day", of a byte and two bytes
-pub record Product (days perDay r : ℕ) : Type 0 where
-  pub is : r ≡ days * perDay
-  pub small : r < 16777216
-
 -- r is the lock height h: never, a product, or a product above the parent's block e
 pub record Lock (h e r : ℕ) : Type 0 where
   pub is : r ≡ h

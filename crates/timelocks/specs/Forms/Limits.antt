@@ -1,7 +1,6 @@
 -- The rules 26 and 27, as the loop that both share takes them, and what the functions on their numbers answer.
 -- Assumes nothing.
-use Prim.Native.Nat.{ℕ, _<_}
-use mathlib.Core.Path.{_≡_}
+use Prim.Native.Nat.{ℕ}
 use mathlib.Core.Bool.{Bool}
 use mathlib.Core.List.{List}
 use lib.Dec.{eqb}
@@ -12,8 +11,3 @@ use Rattle.timelocks.specs.Limits.{relativeRight, absoluteRight}
 -- a rule by its number, at one transaction
 unfoldable pub limitRule : List ℕ → ℕ → ℕ → ℕ → ℕ → Bool
 limitRule s perDay base rule t = pick (eqb rule timelockRelative) (relativeRight s perDay t) (absoluteRight s perDay base t)
-
--- r is the number v of blocks, a byte times two bytes
-pub record Blocks (v r : ℕ) : Type 0 where
-  pub is : r ≡ v
-  pub small : r < 16777216

@@ -11,20 +11,17 @@ lock-type-requires c κs = search needs
 returns : tie.Need-returns
 returns c = record { is = lock-none _ _ _ _ _ (c .before .lock-type .ensures) (c .if1 .taken); small = search needs }
 
-days-requires : tie.Need-days-requires
-days-requires c κs = search needs
-
-product-requires : tie.Need-product-requires
-product-requires c κs = search needs
+lock-blocks-requires : tie.Need-lock-blocks-requires
+lock-blocks-requires c κs = search needs
 
 returns-2 : tie.Need-returns-2
-returns-2 c = record { is = lock-days _ _ _ _ _ (c .before .before .before .before .lock-type .ensures) _ _ (c .before .before .days .ensures) (c .before .product .ensures .is) (c .before .before .before .if1 .left) (c .if2 .taken); small = omega (arith, c .before .product .ensures .small) }
+returns-2 c = record { is = lock-days _ _ _ _ _ (c .before .before .before .lock-type .ensures) _ (c .before .lock-blocks .ensures .is) (c .before .before .if1 .left) (c .if2 .taken); small = omega (arith, c .before .lock-blocks .ensures .small) }
 
 add-result : tie.Need-add-result
-add-result c = let h = c .before .product .ensures .small in let g = c .before .before .before .before .before .before .pre .1 .1 in search needs
+add-result c = let h = c .before .lock-blocks .ensures .small in let g = c .before .before .before .before .before .pre .1 .1 in search needs
 
 returns-3 : tie.Need-returns-3
-returns-3 c = record { is = lock-since _ _ _ _ _ (c .before .before .before .before .lock-type .ensures) _ _ (c .before .before .days .ensures) (c .before .product .ensures .is) (c .before .before .before .if1 .left) (c .if2 .left); small = omega (arith, c .before .product .ensures .small) }
+returns-3 c = record { is = lock-since _ _ _ _ _ (c .before .before .before .lock-type .ensures) _ (c .before .lock-blocks .ensures .is) (c .before .before .if1 .left) (c .if2 .left); small = omega (arith, c .before .lock-blocks .ensures .small) }
 
 pub lock-from-spec : {M : Type 1} → statement M
 lock-from-spec =
@@ -32,8 +29,7 @@ lock-from-spec =
     (tie.spec
     lock-type-requires
     returns
-    days-requires
-    product-requires
+    lock-blocks-requires
     returns-2
     add-result
     returns-3)
