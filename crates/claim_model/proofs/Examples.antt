@@ -10,7 +10,7 @@ use Rattle.laws.specs.Gather.{gather}
 use Rattle.sheet.specs.Refusal.{accepted}
 use Rattle.sheet.specs.Saswap.{saswap}
 use Rattle.slots.specs.Destination.{alice, bob, contract}
-use Rattle.slots.specs.Slot.{entryFor, withPool, withBlock, withConfirmed, withShared}
+use Rattle.slots.specs.Slot.{entryFor, withPool, withBlock, withConfirmed, withShared, withMark}
 use Rattle.ledger.specs.Coin.{nobody}
 use Rattle.steps.specs.Names.{lockA, lockB, success, refund1, revoke, spendA, spendB, spendRefund1Bob, spendTimeout}
 use Rattle.position.specs.declared.Position.{Position}
@@ -21,7 +21,7 @@ use Rattle.position.specs.Holder.{holderIn}
 use Rattle.position.specs.Play.{run}
 use Rattle.position.proofs.Opened.{opened}
 use Rattle.careful.specs.Claim.{inShared}
-use Rattle.claim_model.specs.Words.{bothShared, phases, cardinality, remains, noneRemains, hasCustody, swapSuccessful, swapAborted, swapTimedOut, contractFinished}
+use Rattle.claim_model.specs.Words.{allShared, bothShared, phases, cardinality, remains, noneRemains, hasCustody, swapSuccessful, swapAborted, swapTimedOut, contractFinished}
 use Rattle.claim_model.specs.Claim.{Kept, Expected, Takes, Fair}
 
 abbrev s3 : List ℕ
@@ -140,12 +140,12 @@ in-phases : map phases (after careful3 [] ∷ after careful3 firstShares ∷ aft
     ∷ (false ∷ false ∷ true ∷ false ∷ [])
     ∷ (false ∷ false ∷ false ∷ true ∷ [])
     ∷ []
-unfolding opened phases bothShared
+unfolding opened phases bothShared allShared
 in-phases = refl
 
 -- one party's first shares are not both's
 one-shared : phases (after careful3 (1 ∷ 0 ∷ 255 ∷ 2 ∷ [])) ≡ true ∷ false ∷ false ∷ false ∷ []
-unfolding opened phases bothShared
+unfolding opened phases bothShared allShared
 one-shared = refl
 
 counted : map cardinality ([] ∷ (true ∷ false ∷ true ∷ []) ∷ (false ∷ true ∷ []) ∷ []) ≡ 0 ∷ 2 ∷ 1 ∷ []
@@ -188,6 +188,18 @@ rivals = (
 early : (Kept s3 open3 (pooled refund1 contract empty) → ⊥) × (Kept s3 open3 (filled refund1 contract empty) → ⊥)
 unfolding opened
 early = ((λ k. omega (arith, k .pool-locks refund1 refl)), (λ k. omega (arith, k .block-locks refund1 refl)))
+
+-- marks without shared signatures, and these without marks: another phase than document 01's
+abbrev signedAt : ℕ → ℕ → Position → Position
+signedAt t m p = changeSlot t (withShared contract m) p
+
+abbrev markedAt : ℕ → ℕ → Position → Position
+markedAt party t p = changeSlot t (withMark party contract) p
+
+other-phase : (Expected s3 (markedAt alice 4 (markedAt alice 6 (markedAt bob 3 (markedAt bob 4 (markedAt bob 5 (markedAt bob 6 empty)))))) → ⊥)
+    × (Expected s3 (signedAt 3 2 (signedAt 4 3 (signedAt 5 2 (signedAt 6 3 empty)))) → ⊥)
+unfolding opened phases bothShared allShared
+other-phase = ((λ k. clash (k .phase-is) refl), (λ k. clash (k .phase-is) refl))
 
 -- spend_refund_1_bob in pool and block
 unexpected-stands : (Expected s3 (pooled spendRefund1Bob bob empty) → ⊥) × (Expected s3 (filled spendRefund1Bob bob empty) → ⊥)

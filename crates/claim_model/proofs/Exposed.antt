@@ -5,7 +5,7 @@ use Prim.Native.Nat.{ℕ, _≤_, _<_}
 use native.Mathlib.Omega.{arith}
 use mathlib.Core.Path.{_≡_, refl, _∙_}
 use mathlib.Core.Bool.{true, not, _&&_, false≢true}
-use mathlib.Core.List.{List, [], _∷_}
+use mathlib.Core.List.{List}
 use lib.Dec.{eqb, leb}
 use lib.ListN.{length}
 use borrow.Author.Tests.{ltb-true}
@@ -13,10 +13,9 @@ use Rattle.laws.specs.Booleans.{split, either, clash, and-parts, or-right}
 use Rattle.laws.specs.Bits.{bit-or}
 use Rattle.laws.specs.Mask.{bit}
 use Rattle.sheet.specs.Field.{count}
-use Rattle.sheet.specs.Checked.{Checked, SetupChecked}
+use Rattle.sheet.specs.Checked.{Checked}
 use Rattle.sheet.specs.Saswap.{saswap}
-use Rattle.sheet.specs.Setup.{perDay, conduct, setupRefusal}
-use Rattle.sheet.proofs.Theorems.{saswap-passes, sheet-checked, setup-checked}
+use Rattle.sheet.specs.Setup.{perDay, conduct}
 use Rattle.slots.specs.declared.Slot.{Slot}
 use Rattle.slots.specs.declared.Step.{Step}
 use Rattle.slots.specs.Destination.{alice, bob, contract, isContract}
@@ -31,24 +30,20 @@ use Rattle.position.specs.FirstShares.{firstSharesMade}
 use Rattle.position.specs.Conduct.{phase, late, aliceShares, mayShare}
 use Rattle.position.specs.StepRefusal.{stepRefusal}
 use Rattle.position.specs.Effect.{leavesPool, mineSlot, withMined, afterMine, effect}
-use Rattle.position.specs.Play.{FourBytes, step, play}
 use Rattle.position.proofs.Changed.{all-slot}
 use Rattle.position.proofs.Opened.{opened}
 use Rattle.position.proofs.Starts.{start-slot}
-use Rattle.position.proofs.StepCases.{StepCase, taken, turned-down, step-case}
 use Rattle.moves.proofs.AfterBlocks.{mine-blocks}
 use Rattle.moves.proofs.Moved.{moved}
 use Rattle.moves.proofs.Provenance.{Shown, byFirstShares, byShare, bySend, byBlock, Moved}
 use Rattle.moves.proofs.Quiet.{lasting}
 use Rattle.agreement.proofs.Sound.{Sound}
-use Rattle.agreement.proofs.SoundSteps.{sound-start}
-use Rattle.careful.proofs.Along.{Guarded, guarded-effect}
 use Rattle.careful.proofs.Came.{first-range}
 use Rattle.careful.proofs.Fate.{Lasts, lasts, stays-confirmed}
 use Rattle.careful.proofs.Invariant.{Shows, SuccessShared, Invariant}
 use Rattle.careful.proofs.Places.{block-anywhere, contract-to}
 use Rattle.careful.proofs.Setting.{sheet, allowed}
-use Rattle.careful.proofs.Start.{none-shared, invariant-start}
+use Rattle.careful.proofs.Start.{none-shared}
 use Rattle.careful.proofs.Table.{fifteen}
 use Rattle.careful.proofs.Traced.{stays-shown, sent-success}
 
@@ -156,7 +151,7 @@ none-confirmed : (s : List ℕ) (t : ℕ) → blockOf (start s) t ≡ 0
 unfolding blockOf
 none-confirmed s t = rw (blockOf, start-slot s t)
 
-exposed-start : (u : List ℕ) → Exposed u (start (sheet u))
+pub exposed-start : (u : List ℕ) → Exposed u (start (sheet u))
 exposed-start u =
     record {
       exposed = λ t i l k h b. absurd (omega (arith, none-confirmed (sheet u) t, h));
@@ -164,38 +159,3 @@ exposed-start u =
       bob-own = own-keys (perDay u) .1;
       lockB-first = λ w. none-shared (sheet u) success contract (w .0) (w .1);
     }
-
--- both, along every row of four-byte groups
-pub record Watched (u : List ℕ) (p : Position) : Type 0 where
-  pub guarded : Guarded u p
-  pub beside : Exposed u p
-
-module _ (u : List ℕ) (r : setupRefusal (sheet u) u ≡ 0) (c : conduct u ≡ 2) where
-  ok : Checked (sheet u)
-  ok = sheet-checked (sheet u) (saswap-passes (perDay u))
-
-  su : SetupChecked (sheet u) u
-  su = setup-checked (sheet u) u r
-
-  watched-case : (p : Position) (b : FourBytes) → Watched u p → StepCase (sheet u) u p b → Watched u (step (sheet u) u p b .position)
-  watched-case p b w (taken x e f h is) =
-      let k = w .guarded in
-      rw is
-      (record {
-        guarded = guarded-effect u r c p x k f h;
-        beside = exposed-effect u c (su .blocks-some) (su .blocks-few) p (k .sound) (k .invariant) (w .beside) ok x f h;
-      })
-  watched-case p b w (turned-down n e is) = rw is w
-
-  watched-play : (bs : List FourBytes) (p : Position) → Watched u p → Watched u (play (sheet u) u bs p)
-  unfolding play
-  watched-play [] p w = w
-  watched-play (b ∷ bs) p w = watched-play bs (step (sheet u) u p b .position) (watched-case p b w (step-case (sheet u) u p b))
-
-  pub watched : (bs : List FourBytes) → Watched u (play (sheet u) u bs (start (sheet u)))
-  watched bs =
-      watched-play bs (start (sheet u))
-      (record {
-        guarded = record { sound = sound-start (sheet u) u; invariant = invariant-start u };
-        beside = exposed-start u;
-      })

@@ -1,5 +1,4 @@
 pub mod AnySheets
-pub mod Phases
 pub mod Unexpected
 pub mod States
 pub mod Remaining
@@ -7,6 +6,10 @@ pub mod Waiting
 pub mod Shared
 pub mod Endings
 pub mod Exposed
+pub mod Marks
+pub mod FirstPhases
+pub mod Phases
+pub mod Watched
 pub mod Taking
 pub mod Fair
 pub mod Theorems

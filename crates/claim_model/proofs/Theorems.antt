@@ -14,10 +14,11 @@ use Rattle.careful.proofs.Along.{guarded}
 use Rattle.claim_model.specs.Words.{noneRemains}
 use Rattle.claim_model.specs.Claim.{ModelKept, ModelExpected, FairEnding}
 use Rattle.claim_model.proofs.AnySheets.{kept}
-use Rattle.claim_model.proofs.Phases.{one-phase}
+use Rattle.claim_model.proofs.FirstPhases.{made-shared}
+use Rattle.claim_model.proofs.Phases.{one-phase, phase-is}
 use Rattle.claim_model.proofs.Unexpected.{nowhere}
 use Rattle.claim_model.proofs.Endings.{none-left, late-remains, spendB-left, pool-left, block-left, finished, pool-empty, block-empty}
-use Rattle.claim_model.proofs.Exposed.{watched}
+use Rattle.claim_model.proofs.Watched.{watched}
 use Rattle.claim_model.proofs.Fair.{fair}
 
 -- On every checked sheet: TypeOK, NoConflictingTransactions, TransactionTimelocksEnforced.
@@ -32,13 +33,13 @@ pub model-expected : ModelExpected
 model-expected u r c bs =
     let s = saswap (perDay u) in
     let p = positionOf s u bs in
-    let w = guarded u r c bs in
-    let g = w .sound in
-    let j = w .invariant in
+    let w = watched u r c bs in
+    let g = w .guarded .sound in
+    let j = w .guarded .invariant in
     let some = setup-checked s u r .blocks-some in
     record {
-      one-phase = one-phase p .0;
-      phase-is = one-phase p .1;
+      one-phase = one-phase p;
+      phase-is = phase-is p (made-shared p (w .firsts));
       unexpected = nowhere u p g j;
       on-timeout = late-remains u some p g j;
       none-remaining = finished u some p g j;

@@ -55,7 +55,7 @@ ModelKept = (s u : List ℕ) → sheetRefusal s ≡ accepted → setupRefusal s 
 
 -- ---- on the SASwap sheet under careful conduct
 pub record Expected (s : List ℕ) (p : Position) : Type 0 where
-  -- ConsistentPhase: exactly one, document 01's
+  -- ConsistentPhase: exactly one, and it is document 01's, which goes by the shares made
   pub one-phase : cardinality (phases p) ≡ 1
   pub phase-is : getD (phases p) (phase p) false ≡ true
   -- NoUnexpectedTransactions

@@ -6,19 +6,25 @@ use mathlib.Core.List.{List, [], _∷_}
 use lib.Dec.{eqb}
 use Rattle.laws.specs.Booleans.{pick}
 use Rattle.laws.specs.Below.{anyBelow}
+use Rattle.laws.specs.Gather.{every}
+use Rattle.laws.specs.Mask.{bit}
 use Rattle.sheet.specs.Field.{count}
-use Rattle.slots.specs.Destination.{alice, bob}
+use Rattle.slots.specs.Destination.{alice, bob, contract}
 use Rattle.slots.specs.Invalidated.{invalidated}
-use Rattle.steps.specs.Names.{secretBob, lockA, lockB, spendA, spendB, spendSuccess, spendRefund1Alice, spendRevoke, spendRefund2, spendTimeout}
+use Rattle.steps.specs.Names.{sigAlice, sigBob, secretBob, lockA, lockB, spendA, spendB, spendSuccess, spendRefund1Alice, spendRevoke, spendRefund2, spendTimeout}
 use Rattle.position.specs.declared.Position.{Position}
-use Rattle.position.specs.Position.{isConfirmed, confirmedTo, holds}
-use Rattle.position.specs.FirstShares.{firstSharesMade}
+use Rattle.position.specs.Position.{isConfirmed, confirmedTo, shared, holds}
+use Rattle.position.specs.FirstShares.{firstShares}
 use Rattle.careful.specs.Claim.{inShared}
 
 -- ---- phases
--- "Phase_1_cond": document 01's "both first shares made"
+-- signature i is in shared knowledge for each of these transactions, which go to the contract
+unfoldable pub allShared : Position → ℕ → List ℕ → Bool
+allShared p i ids = every (λ t. bit (shared p t contract) i) ids
+
+-- "Phase_1_cond": sigAlice on what Alice shares first, sigBob on what Bob does: "∃ tx ∈ shared_knowledge : tx.id = id ∧ sigAlice ∈ tx.ss"
 unfoldable pub bothShared : Position → Bool
-bothShared p = firstSharesMade p alice && firstSharesMade p bob
+bothShared p = allShared p sigAlice (firstShares alice) && allShared p sigBob (firstShares bob)
 
 -- "InPhase_0" to "InPhase_3", in this order: each with its own condition and without those of the later ones
 unfoldable pub phases : Position → List Bool
