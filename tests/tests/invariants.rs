@@ -17,35 +17,40 @@ fn broken(game: &Game, position: &Position) -> Vec<&'static str> {
     .concat()
 }
 
-/// The positions, and those that are successful, aborted and timed out: nothing is false in any.
-fn endings(stealth: u8) -> [usize; 4] {
+/// Whether a position is successful, aborted and timed out.
+fn endings(position: &Position) -> [bool; 3] {
+    [successful(position), aborted(position), timed_out(position)]
+}
+
+/// The positions, and those that are successful, aborted and timed out: nothing is false in any, and no step undoes an ending.
+fn counts(stealth: u8) -> [usize; 4] {
     let game = Game::saswap(1, 2, stealth);
     let graph = Graph::of(&game);
-    let mut counts = [0; 4];
+    let mut ends = vec![[false; 3]; graph.edges.len()];
     for position in graph.positions() {
         assert_eq!(broken(&game, position), [""; 0], "{position:?}");
-        let endings = [
-            true,
-            successful(position),
-            aborted(position),
-            timed_out(position),
-        ];
-        for (count, ends) in counts.iter_mut().zip(endings) {
-            *count += usize::from(ends);
+        ends[graph.number(position)] = endings(position);
+    }
+    for (from, edges) in graph.edges.iter().enumerate() {
+        for edge in edges {
+            let kept = |k: usize| !ends[from][k] || ends[edge.to][k];
+            assert!((0..3).all(kept), "{from} to {}", edge.to);
         }
     }
+    let ended = |k: usize| ends.iter().filter(|ends| ends[k]).count();
+    let counts = [ends.len(), ended(0), ended(1), ended(2)];
     println!("stealth {stealth}: {counts:?}");
     counts
 }
 
 #[test]
 fn without_stealth() {
-    assert_eq!(endings(0), [3_468, 301, 118, 42]);
+    assert_eq!(counts(0), [3_468, 301, 118, 42]);
 }
 
 #[test]
 fn with_stealth() {
-    assert_eq!(endings(1), [7_696, 489, 164, 48]);
+    assert_eq!(counts(1), [7_696, 489, 164, 48]);
 }
 
 /// What is false, and in how many positions, where a line of the rules is broken or the conduct is another.

@@ -62,7 +62,7 @@ module _ (u : List ℕ) (p : Position) (j : Invariant u p) where
 
 module _ (u : List ℕ) (one : 0 < perDay u) (p : Position) (g : Sound (sheet u) u p) (j : Invariant u p) where
   -- once revoke is confirmed, secretBob is not shared
-  revoked-unshown : 0 < blockOf p revoke → Shows p success secretBob → ⊥
+  pub revoked-unshown : 0 < blockOf p revoke → Shows p success secretBob → ⊥
   revoked-unshown r h =
       let d = perDay u in
       either (j .success-due h)

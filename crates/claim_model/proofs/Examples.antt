@@ -22,7 +22,7 @@ use Rattle.position.specs.Play.{run}
 use Rattle.position.proofs.Opened.{opened}
 use Rattle.careful.specs.Claim.{inShared}
 use Rattle.claim_model.specs.Words.{allShared, bothShared, phases, cardinality, remains, noneRemains, hasCustody, swapSuccessful, swapAborted, swapTimedOut, contractFinished}
-use Rattle.claim_model.specs.Claim.{Kept, Expected, Takes, Fair}
+use Rattle.claim_model.specs.Claim.{Kept, Expected, Takes, Fair, Final}
 
 abbrev s3 : List ℕ
 s3 = saswap 3
@@ -285,3 +285,8 @@ bob-takes = (
   (λ k. omega (arith, k .in-block refl)),
   (λ k. omega (arith, k .in-chain refl)),
 )
+
+-- an ending that is undone
+undone : (Final s3 (after careful3 successful) empty → ⊥) × (Final s3 (after careful3 aborted) empty → ⊥) × (Final s3 (after careful3 timedOut) empty → ⊥)
+unfolding opened inShared hasCustody swapSuccessful swapAborted swapTimedOut
+undone = ((λ k. clash (k .successful refl) refl), (λ k. clash (k .aborted refl) refl), (λ k. clash (k .timed-out refl) refl))

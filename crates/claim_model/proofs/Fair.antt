@@ -9,17 +9,15 @@ use mathlib.Core.List.{List}
 use lib.Dec.{eqb}
 use borrow.Author.Tests.{eqb-true, eq-eqb}
 use Rattle.laws.specs.Booleans.{either, clash, or-parts, or-right, fails-by}
-use Rattle.laws.specs.Below.{any-some}
 use Rattle.laws.specs.Mask.{bit}
-use Rattle.sheet.specs.Field.{count, secrets}
+use Rattle.sheet.specs.Field.{secrets}
 use Rattle.sheet.specs.Saswap.{saswap}
 use Rattle.sheet.specs.Setup.{perDay, conduct}
 use Rattle.slots.specs.Destination.{alice, bob, contract}
 use Rattle.slots.specs.Signatures.{exposedMask, signed}
-use Rattle.slots.specs.Slot.{sharedAny}
 use Rattle.steps.specs.Names.{secretAlice, secretBob, lockA, lockB, success, refund1, refund2, spendB, spendSuccess, spendRefund1Alice, spendRefund2, spendTimeout}
 use Rattle.position.specs.declared.Position.{Position}
-use Rattle.position.specs.Position.{slot, blockOf, isConfirmed, shared, holds, senderHas}
+use Rattle.position.specs.Position.{blockOf, isConfirmed, shared, holds, senderHas}
 use Rattle.position.specs.Conduct.{phase, successUnshared}
 use Rattle.readings.specs.Holder.{isPayout, isPayoutTo}
 use Rattle.position.specs.Holder.{holderIn}
@@ -28,14 +26,13 @@ use Rattle.moves.specs.Wellformed.{Wellformed}
 use Rattle.agreement.proofs.Sound.{Sound}
 use Rattle.careful.specs.Claim.{inShared}
 use Rattle.careful.proofs.Apart.{secretAlice-shown, secretBob-shown, bob-out, secrets-apart}
-use Rattle.careful.proofs.Has.{somewhere}
 use Rattle.careful.proofs.Invariant.{SecretBobOut, SecretAliceOut, Invariant}
 use Rattle.careful.proofs.Payouts.{Paid, paid, stands, pays, above, not-both-paid}
 use Rattle.careful.proofs.Setting.{sheet}
 use Rattle.careful.proofs.Table.{needs, pays-alice, pays-bob, contracts, below}
 use Rattle.claim_model.specs.Words.{swapTimedOut}
 use Rattle.claim_model.specs.Claim.{Takes, Fair}
-use Rattle.claim_model.proofs.Shared.{shown-in, held-has, shared-has, signs-spendB, some-bit}
+use Rattle.claim_model.proofs.Shared.{shown-in, held-has, shared-has, signs-spendB, some-bit, shared-shown}
 use Rattle.claim_model.proofs.AnySheets.{has-block}
 use Rattle.claim_model.proofs.Endings.{ended}
 use Rattle.claim_model.proofs.Taking.{confirmed-at, in-three, taken-by, alice-sends, bob-sends}
@@ -113,13 +110,10 @@ module _ (u : List ℕ) (c : conduct u ≡ 2) (one : 0 < perDay u) (p : Position
 
   -- secretBob is with Alice only where success is shared, and then coin B is locked
   secretBob-out : AliceKnows → SecretBobOut p
-  unfolding inShared
   secretBob-out h =
       either (or-parts (holds p alice secretBob) (inShared (sheet u) p secretBob) h)
       inl
-      (λ y.
-      let w = any-some (count (sheet u)) (λ t. bit (sharedAny (slot p t)) secretBob) y in
-      inr (secretBob-shown u p j (somewhere p (w .0) secretBob (w .2))))
+      (λ y. inr (secretBob-shown u p j (shared-shown (sheet u) p secretBob y)))
 
   alice-locked : AliceKnows → 0 < blockOf p lockB
   alice-locked h = x .lockB-first (bob-out u p j (secretBob-out h))
@@ -134,10 +128,7 @@ module _ (u : List ℕ) (c : conduct u ≡ 2) (one : 0 < perDay u) (p : Position
 
   -- ---- coin B
   secretAlice-out : inShared (sheet u) p secretAlice ≡ true → SecretAliceOut p
-  unfolding inShared
-  secretAlice-out h =
-      let w = any-some (count (sheet u)) (λ t. bit (sharedAny (slot p t)) secretAlice) h in
-      secretAlice-shown u p j (somewhere p (w .0) secretAlice (w .2))
+  secretAlice-out h = secretAlice-shown u p j (shared-shown (sheet u) p secretAlice h)
 
   bob-takes : inShared (sheet u) p secretAlice ≡ true → 0 < blockOf p lockB → Takes (sheet u) u p bob
   bob-takes h l =

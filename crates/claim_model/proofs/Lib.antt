@@ -12,5 +12,6 @@ pub mod Phases
 pub mod Watched
 pub mod Taking
 pub mod Fair
+pub mod Final
 pub mod Theorems
 pub mod Examples

@@ -22,6 +22,7 @@ use Rattle.position.specs.declared.Position.{Position}
 use Rattle.position.specs.Position.{slot, shared, keys, holds, senderHas}
 use Rattle.position.proofs.Opened.{opened}
 use Rattle.careful.specs.Claim.{inShared}
+use Rattle.careful.proofs.Has.{SharedSomewhere, somewhere}
 use Rattle.careful.proofs.Setting.{sheet}
 use Rattle.careful.proofs.Table.{fifteen}
 use Rattle.careful.proofs.Invariant.{Shows}
@@ -72,3 +73,8 @@ unfolding allBelow anyBelow bit
 some-bit m l h =
     let w = any-some 4 (bit m) (rw h at (all-at 16 (λ k. eqb k 0 || anyBelow 4 (bit k)) refl m l)) in
     (w .0, w .2)
+
+-- what is in shared knowledge is shared somewhere
+pub shared-shown : (s : List ℕ) (p : Position) (i : ℕ) → inShared s p i ≡ true → SharedSomewhere p i
+unfolding inShared
+shared-shown s p i h = let w = any-some (count s) (λ t. bit (sharedAny (slot p t)) i) h in somewhere p (w .0) i (w .2)

@@ -12,7 +12,7 @@ use Rattle.agreement.specs.Claim.{positionOf}
 use Rattle.agreement.proofs.SoundSteps.{sound-start, sound-play}
 use Rattle.careful.proofs.Along.{guarded}
 use Rattle.claim_model.specs.Words.{noneRemains}
-use Rattle.claim_model.specs.Claim.{ModelKept, ModelExpected, FairEnding}
+use Rattle.claim_model.specs.Claim.{ModelKept, ModelExpected, FairEnding, EndingsFinal}
 use Rattle.claim_model.proofs.AnySheets.{kept}
 use Rattle.claim_model.proofs.FirstPhases.{made-shared}
 use Rattle.claim_model.proofs.Phases.{one-phase, phase-is}
@@ -20,6 +20,7 @@ use Rattle.claim_model.proofs.Unexpected.{nowhere}
 use Rattle.claim_model.proofs.Endings.{none-left, late-remains, spendB-left, pool-left, block-left, finished, pool-empty, block-empty}
 use Rattle.claim_model.proofs.Watched.{watched}
 use Rattle.claim_model.proofs.Fair.{fair}
+use Rattle.claim_model.proofs.Final.{final-play}
 
 -- On every checked sheet: TypeOK, NoConflictingTransactions, TransactionTimelocksEnforced.
 pub model-kept : ModelKept
@@ -61,3 +62,7 @@ fair-ending u r c bs =
     let h = saswap-passes (perDay u) in
     fair u c (setup-checked s u r .blocks-some) (positionOf s u bs) (k .sound) (k .invariant) (w .beside)
     (wellformed-play s u bs (start s) h (wellformed-start s h))
+
+-- And an ending is final: no further list of steps undoes it.
+pub endings-final : EndingsFinal
+endings-final u r c bs more = final-play u r c more (positionOf (saswap (perDay u)) u bs) (watched u r c bs)

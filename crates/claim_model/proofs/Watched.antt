@@ -29,7 +29,7 @@ module _ (u : List ℕ) (r : setupRefusal (sheet u) u ≡ 0) (c : conduct u ≡ 
   su : SetupChecked (sheet u) u
   su = setup-checked (sheet u) u r
 
-  watched-case : (p : Position) (b : FourBytes) → Watched u p → StepCase (sheet u) u p b → Watched u (step (sheet u) u p b .position)
+  pub watched-case : (p : Position) (b : FourBytes) → Watched u p → StepCase (sheet u) u p b → Watched u (step (sheet u) u p b .position)
   watched-case p b w (taken x e f h is) =
       let k = w .guarded in
       rw is

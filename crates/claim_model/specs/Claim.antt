@@ -24,7 +24,7 @@ use Rattle.position.specs.Position.{inPool, poolTo, inBlock, blockTo, isConfirm
 use Rattle.position.specs.Conduct.{phase, successUnshared}
 use Rattle.readings.specs.Holder.{isPayout, isPayoutTo}
 use Rattle.position.specs.Holder.{holderIn}
-use Rattle.position.specs.Play.{FourBytes, step}
+use Rattle.position.specs.Play.{FourBytes, step, play}
 use Rattle.moves.specs.Wellformed.{Wellformed}
 use Rattle.agreement.specs.Claim.{positionOf}
 use Rattle.careful.specs.Claim.{inShared}
@@ -109,3 +109,17 @@ FairEnding =
     → conduct u ≡ 2
     → (bs : List FourBytes)
     → Fair (saswap (perDay u)) u (positionOf (saswap (perDay u)) u bs)
+
+-- ---- an ending is final: of a position and what further steps lead to
+pub record Final (s : List ℕ) (p q : Position) : Type 0 where
+  pub successful : swapSuccessful p ≡ true → swapSuccessful q ≡ true
+  pub aborted : swapAborted p ≡ true → swapAborted q ≡ true
+  pub timed-out : swapTimedOut s p ≡ true → swapTimedOut s q ≡ true
+
+abbrev pub EndingsFinal : Type 0
+EndingsFinal =
+    (u : List ℕ)
+    → setupRefusal (saswap (perDay u)) u ≡ accepted
+    → conduct u ≡ 2
+    → (bs more : List FourBytes)
+    → Final (saswap (perDay u)) (positionOf (saswap (perDay u)) u bs) (play (saswap (perDay u)) u more (positionOf (saswap (perDay u)) u bs))
