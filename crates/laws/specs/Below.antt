@@ -2,7 +2,7 @@
 -- Assumes nothing.
 use Prim.Native.Nat.{ℕ, zero, suc, _+_, _≤_, _<_}
 use mathlib.Core.Path.{_≡_, refl, ap, sym, subst, _∙_}
-use mathlib.Core.Bool.{Bool, true, false, _||_, _&&_, or-true, and-false, false≢true}
+use mathlib.Core.Bool.{Bool, true, false, _||_, _&&_, or-true, and-true, and-false, and-assoc, false≢true}
 use lib.Dec.{ltb}
 use borrow.Author.Tests.{ltb-true, ltb-false}
 use mathlib.Core.Logic.{⊎-elim}
@@ -78,6 +78,27 @@ pub all-from : (n : ℕ) (p : ℕ → Bool) → ((k : ℕ) → k < n → p k ≡
 unfolding allBelow
 all-from zero p f = refl
 all-from (suc n) p f = rw (all-from n p (λ k h. f k (omega arith)), f n (omega arith))
+
+-- the first number, and the others one lower
+pub all-first : (n : ℕ) (p : ℕ → Bool) → allBelow (suc n) p ≡ (p 0 && allBelow n (λ k. p (suc k)))
+unfolding allBelow
+all-first zero p = sym (and-true (p 0))
+all-first (suc n) p = rw (all-first n p) (and-assoc (p 0) (allBelow n (λ k. p (suc k))) (p (suc n)))
+
+-- every number from n up to m passes
+pub all-upto : (n m : ℕ) (p : ℕ → Bool) → n ≤ m → ((k : ℕ) → n ≤ k → k < m → p k ≡ true) → allBelow n p ≡ allBelow m p
+unfolding allBelow
+all-upto n zero p l f = rw (le-antisymm l (omega arith)) refl
+all-upto n (suc m) p l f =
+    either (eq-or-lt-of-le l)
+    (λ e. rw e refl)
+    (λ h. rw (all-upto n m p (le-of-suc-le-suc h) (λ k a b. f k a (omega arith)), f m (le-of-suc-le-suc h) (omega arith)) (sym (and-true (allBelow m p))))
+
+-- two tests that agree below n
+pub all-same : (n : ℕ) (p q : ℕ → Bool) → ((k : ℕ) → k < n → p k ≡ q k) → allBelow n p ≡ allBelow n q
+unfolding allBelow
+all-same zero p q f = refl
+all-same (suc n) p q f = rw (all-same n p q (λ k h. f k (omega arith)), f n (omega arith))
 
 -- some number below n passes: one that does; none passes: each that fails
 pub any-some : (n : ℕ) (p : ℕ → Bool) → anyBelow n p ≡ true → (k : ℕ) × (k < n) × (p k ≡ true)

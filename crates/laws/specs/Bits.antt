@@ -2,15 +2,15 @@
 -- Assumes nothing.
 use Prim.Native.Nat.{ℕ, zero, suc, _/_, _%_, _^_, _<_, _≤_}
 use native.Mathlib.Omega.{arith}
-use native.Mathlib.Nat.{zero-div, pow-le-pow-right, div-eq-of-lt}
-use mathlib.Core.Path.{_≡_, refl, sym, ap, _∙_}
+use native.Mathlib.Nat.{zero-div, pow-le-pow-right, pow-succ', div-eq-of-lt, div-div-eq-div-mul}
+use mathlib.Core.Path.{_≡_, refl, sym, _∙_}
 use mathlib.Core.Logic.{_⊎_, inl, inr}
-use mathlib.Core.Bool.{Bool, true, false, not, _&&_, _||_}
+use mathlib.Core.Bool.{true, false, not, _&&_, _||_}
 use lib.Dec.{eqb}
 use lib.Bits.{bitAnd, bitOr, or-shr, and-shr, or-mod, and-mod}
 use borrow.Author.Tests.{ne-eqb}
 use Rattle.laws.specs.Booleans.{either, clash, or-parts}
-use Rattle.laws.specs.Below.{all-at, all-from}
+use Rattle.laws.specs.Below.{all-at, all-from, all-first, all-upto, all-same}
 use Rattle.laws.specs.Mask.{bit, subset, unionBelow}
 
 pub digit : (n : ℕ) → n < 2 → (n ≡ 0) ⊎ (n ≡ 1)
@@ -62,15 +62,6 @@ pub subset-bit : (n a b : ℕ) → subset n a b ≡ true → (i : ℕ) → i < n
 unfolding subset
 subset-bit n a b h i l e = rw e at (all-at n (λ k. not (bit a k) || bit b k) h i l)
 
-implied : (x y : Bool) → x ≡ (x && y) → (not x || y) ≡ true
-implied true y h = sym h
-implied false y h = refl
-
--- a mask that the whole leaves as it is is a subset
-pub and-subset : (n a b : ℕ) → bitAnd a b ≡ a → subset n a b ≡ true
-unfolding subset
-and-subset n a b h = all-from n (λ i. not (bit a i) || bit b i) (λ i l. implied (bit a i) (bit b i) (ap (λ (m : ℕ). bit m i) (sym h) ∙ bit-and a b i))
-
 -- a number of n bits has none from place n on
 pub bit-above : (m n k : ℕ) → m < 2 ^ n → n ≤ k → bit m k ≡ false
 unfolding bit
@@ -78,3 +69,26 @@ bit-above m n k h l =
     let w : 2 ^ n ≤ 2 ^ k = pow-le-pow-right (omega arith) l in
     let z : m / 2 ^ k ≡ 0 = div-eq-of-lt (omega (arith, w, h)) in
     rw z
+
+-- the bit after k is the half's bit k
+pub bit-half : (m k : ℕ) → bit m (suc k) ≡ bit (m / 2) k
+unfolding bit
+bit-half m k = rw (pow-succ' 2 k, ← (div-div-eq-div-mul m 2 (2 ^ k)))
+
+-- the empty mask is a subset
+pub subset-none : (n b : ℕ) → subset n 0 b ≡ true
+unfolding subset
+subset-none n b = all-from n (λ i. not (bit 0 i) || bit b i) (λ i l. rw (no-bit i))
+
+-- a mask of n bits, tested at more places
+pub subset-within : (n m a b : ℕ) → a < 2 ^ n → n ≤ m → subset n a b ≡ subset m a b
+unfolding subset
+subset-within n m a b h l = all-upto n m (λ i. not (bit a i) || bit b i) l (λ i j k. rw (bit-above a n i h j))
+
+-- the lowest bit, then both masks shifted right by one
+pub subset-shift : (n a b : ℕ) → a < 2 ^ n → subset n a b ≡ ((not (bit a 0) || bit b 0) && subset n (a / 2) (b / 2))
+unfolding subset
+subset-shift n a b h =
+    subset-within n (suc n) a b h (omega arith)
+    ∙ all-first n (λ i. not (bit a i) || bit b i)
+    ∙ rw (all-same n (λ i. not (bit a (suc i)) || bit b (suc i)) (λ i. not (bit (a / 2) i) || bit (b / 2) i) (λ i l. rw (bit-half a i, bit-half b i)))

@@ -1,7 +1,7 @@
 -- Sets of the numbers below 32, as masks.
 -- Assumes nothing.
 use Prim.Native.Nat.{ℕ, zero, suc, _+_, _*_, _-_, _/_, _%_, _≤_, _<_, _^_}
-use native.Mathlib.Nat.{not-suc-le-zero, le-of-suc-le-suc, eq-or-lt-of-le, le-antisymm, div-one, pow-succ', div-div-eq-div-mul}
+use native.Mathlib.Nat.{not-suc-le-zero, le-of-suc-le-suc, eq-or-lt-of-le, le-antisymm, div-one, pow-succ'}
 use native.Mathlib.Numerals.{add-one}
 use native.Mathlib.Omega.{arith}
 use mathlib.Core.Path.{_≡_, refl, sym, ap, _∙_}
@@ -13,7 +13,7 @@ use borrow.Author.Tests.{eq-eqb, ne-eqb}
 use Rattle.laws.specs.Booleans.{pick, split, clash, either, and-parts, beq-same}
 use Rattle.laws.specs.Below.{allBelow, anyBelow, all-at, any-some, any-none}
 use Rattle.laws.specs.Mask.{bit}
-use Rattle.laws.specs.Bits.{digit, bit-or, bit-and, no-bit}
+use Rattle.laws.specs.Bits.{digit, bit-or, bit-and, no-bit, bit-half}
 
 -- the set with t too, where the test holds
 unfoldable pub joined : ℕ → Bool → ℕ → ℕ
@@ -56,10 +56,6 @@ ones (suc n) = 2 * ones n + 1
 bit-first : (m : ℕ) → bit m 0 ≡ eqb (m % 2) 1
 unfolding bit
 bit-first m = rw (div-one m)
-
-bit-half : (m k : ℕ) → bit m (suc k) ≡ bit (m / 2) k
-unfolding bit
-bit-half m k = rw (pow-succ' 2 k, ← (div-div-eq-div-mul m 2 (2 ^ k)))
 
 left-bit : (n m k : ℕ) → m ≤ ones n → k < n → bit (ones n - m) k ≡ not (bit m k)
 unfolding ones

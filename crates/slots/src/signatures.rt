@@ -1,9 +1,10 @@
 // Signatures as bit masks.
-ghost use Prim.Native.Nat.{_<_, _≤_};
+ghost use Prim.Native.Nat.{_<_};
 ghost use mathlib.Core.Path.{_≡_};
 ghost use mathlib.Core.Bool.{not, _||_};
 ghost use Rattle.laws.specs.Mask.{bit, subset};
-ghost use Rattle.sheet.specs.Field.{count, signatures, Sized};
+ghost use Rattle.sheet.specs.Field.{count, Sized};
+ghost use Rattle.sheet.specs.Checked.{Checked};
 ghost use Rattle.slots.specs.Signatures.{senderMask, signed, shareMask, exposedMask};
 
 // Whether a mask has signature i.
@@ -14,44 +15,39 @@ pub fn has(mask: u8, i: u8) -> bool
     (mask >> i) & 1 == 1
 }
 
-// Whether signature i is at hand where it is needed.
-fn at_hand(need: u8, have: u8, i: u8) -> bool
-    requires { ⌜ i < 8 ⌝ }
-    ensures { λ r. ⌜ r ≡ (not (bit need i) || bit have i) ⌝ }
+// Whether the lowest signature is at hand where it is needed.
+fn at_hand(need: u8, have: u8) -> bool
+    ensures { λ r. ⌜ r ≡ (not (bit need 0) || bit have 0) ⌝ }
 {
-    if has(need, i) {
-        return has(have, i);
+    if has(need, 0) {
+        return has(have, 0);
     }
     true
 }
 
-// Whether each of the first n signatures that is needed is at hand.
-fn all_at_hand(n: u8, need: u8, have: u8) -> bool
-    requires { ⌜ n ≤ 8 ⌝ }
-    ensures { λ r. ⌜ r ≡ subset n need have ⌝ }
+// Whether each needed signature is at hand: both masks are shifted right, signature by signature, until nothing is needed any more.
+fn all_at_hand(need: u8, have: u8) -> bool
+    ensures { λ r. ⌜ r ≡ subset 8 need have ⌝ }
 {
-    let mut i: u8 = 0;
-    while i < n {
-        if !at_hand(need, have, i) {
+    let mut needed = need;
+    let mut there = have;
+    while needed != 0 {
+        if !at_hand(needed, there) {
             return false;
         }
-        i += 1;
+        needed = needed >> 1;
+        there = there >> 1;
     }
     true
 }
 
-// Whether what a sender has is enough for t: the whole mask at once, and where that fails each signature.
+// Whether what a sender has is enough for t.
 pub fn signed(sheet: &[u8], have: u8, t: usize) -> bool
-    requires { ⌜ Sized (now sheet) ⌝ }
-    requires { ⌜ signatures (now sheet) ≤ 8 ⌝ }
+    requires { ⌜ Checked (now sheet) ⌝ }
     requires { ⌜ t < count (now sheet) ⌝ }
     ensures { λ r. ⌜ r ≡ signed (now (sheet .entry)) have t ⌝ }
 {
-    let need = sheet::field::required(sheet, t);
-    if need & have == need {
-        return true;
-    }
-    all_at_hand(sheet::field::signatures(sheet), need, have)
+    all_at_hand(sheet::field::required(sheet, t), have)
 }
 
 // Keys held, shared secrets, and what is shared for the same transaction and destination.

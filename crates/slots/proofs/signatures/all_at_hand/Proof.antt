@@ -1,53 +1,43 @@
--- Each signature that is needed is at hand. Each below i is.
-use Rattle.laws.specs.Mask.{bit, subset}
-use Rattle.laws.specs.Below.{allBelow, all-start, all-more, all-broken, all-done}
+-- Each signature that is needed is at hand: the subset test of both masks, shifted, is what is left of it.
+use Rattle.laws.specs.Mask.{subset}
+use Rattle.laws.specs.Bits.{subset-none, subset-shift}
 use borrow.Author.Tests.{not-true, not-false}
-use mathlib.Core.Bool.{true, not, _||_}
-use mathlib.Core.Path.{_≡_, sym, _∙_}
-use Prim.Native.Nat.{_≤_, _-_}
+use mathlib.Core.Path.{_≡_, refl, sym, _∙_}
+use Prim.Native.Nat.{_<_}
+use native.Mathlib.Omega.{arith}
 use borrow.Author.Needs.{needs}
 use Rattle.slots.proofs.signatures.all_at_hand.Statement.{statement}
 use Rattle.slots.proofs.signatures.all_at_hand.Tie as tie
 
 abbrev Inv-loop : tie.InvT-loop
-Inv-loop n need have i₀ i = (i ≤ n) × (allBelow i (λ k. not (bit need k) || bit have k) ≡ true)
+Inv-loop need have needed₀ there₀ needed there = (needed < 256) × (subset 8 need have ≡ subset 8 needed there)
 
 abbrev μ-loop : tie.MeasureT-loop
-μ-loop n need have i₀ i = n - i
+μ-loop need have needed₀ there₀ needed there = needed
 
 loop-holds : tie.Need-loop-holds Inv-loop μ-loop
-loop-holds c = (search needs, all-start _)
+loop-holds c = (search needs, refl)
 
 at-hand-requires : tie.Need-at-hand-requires Inv-loop μ-loop
 at-hand-requires c κs = search needs
 
 returns : tie.Need-returns Inv-loop μ-loop
-unfolding subset
-returns c = sym (all-broken _ _ _ (c .before .before .loop-test .taken) (sym (c .before .at-hand .ensures) ∙ not-true _ (c .if1 .taken)))
-
-add-i : tie.Need-add-i Inv-loop μ-loop
-add-i c = search needs
+returns c =
+    sym (c .before .before .before .loop .inv .1 ∙ subset-shift 8 _ _ (c .before .before .before .loop .inv .0) ∙ rw (sym (c .before .at-hand .ensures) ∙ not-true _ (c .if1 .taken)))
 
 loop-less : tie.Need-loop-less Inv-loop μ-loop
-loop-less c = search needs
+loop-less c = omega (arith, c .before .before .loop-test .taken)
 
 loop-again : tie.Need-loop-again Inv-loop μ-loop
-loop-again c = (search needs, all-more _ _ (c .before .before .before .loop .inv .1) (sym (c .before .at-hand .ensures) ∙ not-false _ (c .if1 .left)))
+loop-again c = (
+  omega (arith, c .before .before .before .loop .inv .0),
+  c .before .before .before .loop .inv .1 ∙ subset-shift 8 _ _ (c .before .before .before .loop .inv .0) ∙ rw (sym (c .before .at-hand .ensures) ∙ not-false _ (c .if1 .left)),
+)
 
 returns-2 : tie.Need-returns-2 Inv-loop μ-loop
-unfolding subset
-returns-2 c = all-done _ _ _ _ (c .before .loop .inv .0) (c .loop-test .left) (c .before .loop .inv .1)
+returns-2 c = sym (c .before .loop .inv .1 ∙ rw (c .loop-test .left) (subset-none 8 _))
 
 pub all-at-hand-spec : {M : Type 1} → statement M
 all-at-hand-spec =
     tie.close
-    (tie.spec
-    Inv-loop
-    μ-loop
-    loop-holds
-    at-hand-requires
-    returns
-    add-i
-    loop-less
-    loop-again
-    returns-2)
+    (tie.spec Inv-loop μ-loop loop-holds at-hand-requires returns loop-less loop-again returns-2)

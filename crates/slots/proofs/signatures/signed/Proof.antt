@@ -1,7 +1,7 @@
--- The subset test of what t needs against what the sender has; the whole mask passes it.
-use Rattle.laws.specs.Bits.{and-subset}
+-- What t needs stands at the sheet's signatures, so that none is needed beyond them.
+use Rattle.laws.specs.Bits.{subset-within}
 use Rattle.slots.specs.Signatures.{signed}
-use mathlib.Core.Path.{sym}
+use mathlib.Core.Path.{sym, _∙_}
 use borrow.Author.Needs.{needs}
 use Rattle.slots.proofs.signatures.signed.Statement.{statement}
 use Rattle.slots.proofs.signatures.signed.Tie as tie
@@ -9,20 +9,15 @@ use Rattle.slots.proofs.signatures.signed.Tie as tie
 required-requires : tie.Need-required-requires
 required-requires c κs = search needs
 
-returns : tie.Need-returns
-unfolding signed
-returns c = rw (← (c .before .required .ensures)) (sym (and-subset _ _ _ (c .if1 .taken)))
-
-signatures-requires : tie.Need-signatures-requires
-signatures-requires c κs = search needs
-
 all-at-hand-requires : tie.Need-all-at-hand-requires
 all-at-hand-requires c κs = search needs
 
-returns-2 : tie.Need-returns-2
+returns : tie.Need-returns
 unfolding signed
-returns-2 c = rw (← (c .before .before .before .required .ensures), ← (c .before .signatures .ensures)) (c .all-at-hand .ensures)
+returns c =
+    let asked = c .before .before .before .pre in
+    let k = asked .0 in
+    c .all-at-hand .ensures ∙ rw (c .before .required .ensures) (sym (subset-within _ 8 _ _ (k .entries _ (asked .1) .required-within) (k .signatures-few)))
 
 pub signed-spec : {M : Type 1} → statement M
-signed-spec =
-    tie.close (tie.spec required-requires returns signatures-requires all-at-hand-requires returns-2)
+signed-spec = tie.close (tie.spec required-requires all-at-hand-requires returns)
