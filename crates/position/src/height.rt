@@ -1,13 +1,12 @@
 // Heights in a position.
 use crate::Position;
 use slots::deadline;
-use slots::lock_height;
 ghost use Prim.Native.Nat.{_<_};
 ghost use mathlib.Core.Path.{_≡_};
 ghost use Rattle.sheet.specs.Field.{count};
 ghost use Rattle.sheet.specs.Checked.{Fit};
 ghost use Rattle.slots.specs.Forms.Height.{Height};
-ghost use Rattle.position.specs.Position.{blockOf, lockHeightIn, deadlineIn};
+ghost use Rattle.position.specs.Position.{blockOf, deadlineIn};
 
 impl Position {
     // The block of a transaction's confirmation, 0 while there is none.
@@ -18,16 +17,6 @@ impl Position {
             return self.slots[t].height;
         }
         0
-    }
-
-    // The lock height of a transaction.
-    pub fn lock_height_in(self, sheet: &[u8], setup: &[u8], t: usize) -> u32
-        requires { ⌜ Fit (now sheet) (now setup) ⌝ }
-        requires { ⌜ t < count (now sheet) ⌝ }
-        ensures { λ r. ⌜ Height (lockHeightIn (now (sheet .entry)) (now (setup .entry)) self t) r ⌝ }
-    {
-        let since = self.block_of(sheet::field::parent(sheet, t));
-        lock_height::lock_height(sheet, sheet::setup::per_day(setup), since, t)
     }
 
     // The deadline of a transaction.

@@ -1,4 +1,4 @@
-// Who holds a coin, and payouts, over the set of the confirmed.
+// Who holds a coin, over the set of the confirmed.
 use sheet::set;
 ghost use Prim.Native.Nat.{_<_};
 ghost use mathlib.Core.Path.{_≡_};
@@ -8,7 +8,7 @@ ghost use Rattle.laws.specs.Booleans.{pick};
 ghost use Rattle.laws.specs.Mask.{bit};
 ghost use Rattle.sheet.specs.Field.{count, parent, Sized};
 ghost use Rattle.ledger.specs.Coin.{coinOf};
-ghost use Rattle.readings.specs.Holder.{confirmedChild, endsCoin, isPayout, isPayoutTo};
+ghost use Rattle.readings.specs.Holder.{confirmedChild, endsCoin};
 ghost use Rattle.readings.specs.Forms.Holder.{coinFrom, coinEnd};
 
 // The first opening from t up the sheet, `first` where there is none.
@@ -106,28 +106,4 @@ pub fn coin_end(sheet: &[u8], confirmed: u32, coin: usize) -> usize
         t += 1;
     }
     found
-}
-
-// Whether a coin that `held` holds is a payout.
-pub fn payout(sheet: &[u8], held: u8, coin: usize) -> bool
-    requires { ⌜ Sized (now sheet) ⌝ }
-    requires { ⌜ coin < count (now sheet) ⌝ }
-    ensures { λ r. ⌜ r ≡ isPayout (now (sheet .entry)) (λ k. held) coin ⌝ }
-{
-    if sheet::field::opening(sheet, coin) {
-        return sheet::field::is_party(sheet, held);
-    }
-    false
-}
-
-// Whether it is a payout to this party.
-pub fn payout_to(sheet: &[u8], held: u8, party: u8, coin: usize) -> bool
-    requires { ⌜ Sized (now sheet) ⌝ }
-    requires { ⌜ coin < count (now sheet) ⌝ }
-    ensures { λ r. ⌜ r ≡ isPayoutTo (now (sheet .entry)) (λ k. held) party coin ⌝ }
-{
-    if payout(sheet, held, coin) {
-        return held == party;
-    }
-    false
 }

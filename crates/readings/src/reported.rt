@@ -7,7 +7,6 @@ ghost use mathlib.Core.Path.{_≡_};
 ghost use lib.ListN.{length};
 ghost use Rattle.laws.specs.Sets.{setBelow};
 ghost use Rattle.sheet.specs.Field.{count, Sized};
-ghost use Rattle.readings.specs.Holder.{isPayout, isPayoutTo};
 ghost use Rattle.readings.specs.Reported.{rowWidth, reportedConfirmed, reportedHolder};
 
 // The bytes of a report for each transaction.
@@ -51,24 +50,4 @@ pub fn reported_holder(sheet: &[u8], report: &[u8], coin: usize) -> u8
         return report[ROW_WIDTH * t + 1];
     }
     255
-}
-
-// Whether a coin is a payout.
-pub fn reported_payout(sheet: &[u8], report: &[u8], coin: usize) -> bool
-    requires { ⌜ Sized (now sheet) ⌝ }
-    requires { ⌜ rowWidth * count (now sheet) ≤ length (now report) ⌝ }
-    requires { ⌜ coin < count (now sheet) ⌝ }
-    ensures { λ r. ⌜ r ≡ isPayout (now (sheet .entry)) (reportedHolder (now (sheet .entry)) (now (report .entry))) coin ⌝ }
-{
-    holder::payout(sheet, reported_holder(sheet, report, coin), coin)
-}
-
-// Whether a coin is a payout to this party.
-pub fn reported_payout_to(sheet: &[u8], report: &[u8], party: u8, coin: usize) -> bool
-    requires { ⌜ Sized (now sheet) ⌝ }
-    requires { ⌜ rowWidth * count (now sheet) ≤ length (now report) ⌝ }
-    requires { ⌜ coin < count (now sheet) ⌝ }
-    ensures { λ r. ⌜ r ≡ isPayoutTo (now (sheet .entry)) (reportedHolder (now (sheet .entry)) (now (report .entry))) party coin ⌝ }
-{
-    holder::payout_to(sheet, reported_holder(sheet, report, coin), party, coin)
 }
