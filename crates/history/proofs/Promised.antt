@@ -28,7 +28,7 @@ use Rattle.agreement.proofs.Theorems.{agreement, played-as-journal}
 use Rattle.careful.specs.Claim.{Safe}
 use Rattle.careful.proofs.Theorems.{careful}
 use Rattle.history.specs.declared.Outcome.{Outcome}
-use Rattle.history.specs.Promise.{acceptedBytes, historyNumber, rows, Unplayed, Exact, Agreed, Guarded, Demand3}
+use Rattle.history.specs.Promise.{acceptedBytes, historyNumber, nobodies, holders, reportedHolders, rows, Unplayed, Exact, Agreed, Guarded, Demand3}
 use Rattle.history.proofs.Entries.{written-entries}
 use Rattle.history.proofs.Numbers.{by-sheet, by-setup, by-accepted, by-report, by-none}
 
@@ -40,12 +40,12 @@ kept-safe s u k c bs =
 
 -- nothing played: n is the number
 unplayed-promise : (s u j a o : List ℕ) (n : ℕ) (r : Outcome) → n ≡ historyNumber s u (journalSteps j) a o → (n ≡ 0 → ⊥)
-    → r ≡ record { number = n; report = 0; position = start s } → Demand3 s u j a o r a o
+    → r ≡ record { number = n; report = 0; position = start s; held = nobodies; reported = nobodies } → Demand3 s u j a o r a o
 unplayed-promise s u j a o n r e z f =
     rw f
     (record {
       number = e;
-      unplayed = λ y. record { position = refl; report = refl; accepted-kept = refl; report-kept = refl };
+      unplayed = λ y. record { position = refl; report = refl; held = refl; reported = refl; accepted-kept = refl; report-kept = refl };
       exact = λ y. absurd (z y);
       agreed = λ y. absurd (z y);
       guarded = λ y. absurd (z y);
@@ -79,21 +79,21 @@ module _ (s u j a o : List ℕ) where
   bs = journalSteps j
 
   -- x and y are what it found of the sheet and of the setup
-  pub sheet-refused : (x : ℕ) (r : Outcome) → x ≡ sheetRefusal s → (x ≡ 0 → ⊥) → r ≡ record { number = x; report = 0; position = start s }
+  pub sheet-refused : (x : ℕ) (r : Outcome) → x ≡ sheetRefusal s → (x ≡ 0 → ⊥) → r ≡ record { number = x; report = 0; position = start s; held = nobodies; reported = nobodies }
       → Demand3 s u j a o r a o
   sheet-refused x r e z f = unplayed-promise s u j a o x r (e ∙ by-sheet s u bs a o (λ y. z (e ∙ y))) z f
 
   module _ (h : sheetRefusal s ≡ 0) where
-    pub setup-refused : (y : ℕ) (r : Outcome) → y ≡ setupRefusal s u → (y ≡ 0 → ⊥) → r ≡ record { number = y; report = 0; position = start s }
+    pub setup-refused : (y : ℕ) (r : Outcome) → y ≡ setupRefusal s u → (y ≡ 0 → ⊥) → r ≡ record { number = y; report = 0; position = start s; held = nobodies; reported = nobodies }
         → Demand3 s u j a o r a o
     setup-refused y r e z f = unplayed-promise s u j a o y r (e ∙ by-setup s u bs a o h (λ w. z (e ∙ w))) z f
 
     module _ (k : setupRefusal s u ≡ 0) (c : ℕ) (q : c ≡ length (acceptedOf s u bs (start s))) where
-      pub accepted-short : (r : Outcome) → length a < 4 * c → r ≡ record { number = bufferShort; report = 0; position = start s } → Demand3 s u j a o r a o
+      pub accepted-short : (r : Outcome) → length a < 4 * c → r ≡ record { number = bufferShort; report = 0; position = start s; held = nobodies; reported = nobodies } → Demand3 s u j a o r a o
       accepted-short r l f = unplayed-promise s u j a o bufferShort r (by-accepted s u bs a o h k (bytes-short s u j a c q l)) (λ z. omega (arith, z)) f
 
       module _ (m : 4 * c ≤ length a) where
-        pub report-short : (r : Outcome) → length o < rowWidth * count s → r ≡ record { number = bufferShort; report = 0; position = start s } → Demand3 s u j a o r a o
+        pub report-short : (r : Outcome) → length o < rowWidth * count s → r ≡ record { number = bufferShort; report = 0; position = start s; held = nobodies; reported = nobodies } → Demand3 s u j a o r a o
         report-short r l f = unplayed-promise s u j a o bufferShort r (by-report s u bs a o h k (bytes-room s u j a c q m) l) (λ z. omega (arith, z)) f
 
         module _ (l : rowWidth * count s ≤ length o) where
@@ -105,11 +105,12 @@ module _ (s u j a o : List ℕ) where
               rw
               (report-as s u (acceptedBytes s u bs) o, passed-on w rows o 0 (rw (played-as-journal s u h k bs b)), written rows o 0 (le-leb (length rows) (length o) (rw (rows-length s u (acceptedBytes s u bs)) l)))
 
-          -- p is the position, a′ and o′ are the buffers that were written, g is the report's answer
-          pub played-promise : (p : Position) (g : ℕ) (a′ o′ : List ℕ) → p ≡ positionOf s u bs → a′ ≡ over (acceptedBytes s u bs) a
+          -- p is the position, a′ and o′ are the buffers that were written, g is the report's answer, hs and rs are the holders that were read
+          pub played-promise : (p : Position) (g : ℕ) (a′ o′ hs rs : List ℕ) → p ≡ positionOf s u bs → a′ ≡ over (acceptedBytes s u bs) a
               → g ≡ reportAnswer s u (take (4 * c) a′) o .refusal → o′ ≡ reportAnswer s u (take (4 * c) a′) o .buffer
-              → Demand3 s u j a o (record { number = 0; report = g; position = p }) a′ o′
-          played-promise p g a′ o′ x y v w =
+              → hs ≡ holders s (holderIn s p) → rs ≡ reportedHolders g s (rows s o′)
+              → Demand3 s u j a o (record { number = 0; report = g; position = p; held = hs; reported = rs }) a′ o′
+          played-promise p g a′ o′ hs rs x y v w i k′ =
               let e = part-written s u j a c q m a′ y in
               let v′ : g ≡ reportOf s u bs o .refusal = v ∙ rw e in
               let w′ : o′ ≡ reportOf s u bs o .buffer = w ∙ rw e in
@@ -117,7 +118,7 @@ module _ (s u j a o : List ℕ) where
               record {
                 number = by-none s u bs a o h k (bytes-room s u j a c q m) l;
                 unplayed = λ z. absurd (z refl);
-                exact = λ _. record { position = x; accepted-written = y; report = v′; report-written = w′; report-answers = λ b. v′ ∙ answers b };
+                exact = λ _. record { position = x; accepted-written = y; report = v′; report-written = w′; report-answers = λ b. v′ ∙ answers b; held = i; reported = k′ };
                 agreed = λ _.
                     record {
                       accepts = d .accepts;

@@ -4,14 +4,17 @@ use Prim.Native.Nat.{ℕ, _*_, _≤_}
 use mathlib.Core.Path.{_≡_}
 use mathlib.Core.Bool.{Bool, true, false, _&&_}
 use mathlib.Core.List.{List, [], _∷_, _++_}
-use lib.Dec.{leb}
-use lib.ListN.{length, take}
+use lib.Dec.{eqb, leb}
+use lib.ListN.{length, take, replicate}
+use Rattle.laws.specs.Booleans.{pick}
+use Rattle.laws.specs.Each.{rewriteFirst}
 use Rattle.laws.specs.Failing.{firstFailing}
 use Rattle.laws.specs.Over.{over}
 use Rattle.sheet.specs.Refusal.{accepted, bufferShort}
 use Rattle.sheet.specs.Field.{count}
 use Rattle.sheet.specs.Check.{sheetTests}
 use Rattle.sheet.specs.Setup.{conduct, setupTests}
+use Rattle.ledger.specs.Coin.{nobody}
 use Rattle.ledger.specs.Entry.{inOrder}
 use Rattle.ledger.specs.Ledger.{ledgerHolder}
 use Rattle.steps.specs.Names.{secretAlice, secretBob}
@@ -35,17 +38,36 @@ roomRight s u bs a o = leb (length (acceptedBytes s u bs)) (length a) && leb (ro
 unfoldable pub historyNumber : List ℕ → List ℕ → List FourBytes → List ℕ → List ℕ → ℕ
 historyNumber s u bs a o = firstFailing (sheetTests s ++ (setupTests s u ++ ((bufferShort, roomRight s u bs a o) ∷ [])))
 
+-- where no coin is held
+abbrev pub nobodies : List ℕ
+nobodies = replicate 32 nobody
+
+-- the holders that are read: at each number of the sheet who holds that coin, nobody after the last
+unfoldable pub holders : List ℕ → (ℕ → ℕ) → List ℕ
+holders s held = rewriteFirst (count s) (λ coin x. held coin) nobodies
+
+-- "from the report of the accepted steps where that report answers 0", of its bytes
+unfoldable pub reportedHolders : ℕ → List ℕ → List ℕ → List ℕ
+reportedHolders answer s report = pick (eqb answer accepted) (holders s (reportedHolder s report)) nobodies
+
 -- In all that follows: s is the sheet, u the setup, bs the list of steps, a and o the buffers for the accepted steps and for the report
 -- as they were; r is what came back, a′ and o′ are the buffers afterwards.
 
--- with a number other than 0: nothing is played, nothing is written
+-- with a number other than 0: nothing is played, nothing is written or read
 pub record Unplayed (s a o : List ℕ) (r : Outcome) (a′ o′ : List ℕ) : Type 0 where
   pub position : r .position ≡ start s
   pub report : r .report ≡ accepted
+  pub held : r .held ≡ nobodies
+  pub reported : r .reported ≡ nobodies
   pub accepted-kept : a′ ≡ a
   pub report-kept : o′ ≡ o
 
--- with number 0: the position after the last step, the accepted steps in their buffer, and the answer of the report on them
+-- the report's bytes, of the buffer afterwards
+abbrev pub rows : List ℕ → List ℕ → List ℕ
+rows s o′ = take (rowWidth * count s) o′
+
+-- with number 0: the position after the last step, the accepted steps in their buffer, the answer of the report on them, and the holders,
+-- "read after the last step, both from the position and from the report"
 pub record Exact (s u : List ℕ) (bs : List FourBytes) (a o : List ℕ) (r : Outcome) (a′ o′ : List ℕ) : Type 0 where
   pub position : r .position ≡ positionOf s u bs
   pub accepted-written : a′ ≡ over (acceptedBytes s u bs) a
@@ -53,10 +75,8 @@ pub record Exact (s u : List ℕ) (bs : List FourBytes) (a o : List ℕ) (r : Ou
   pub report-written : o′ ≡ reportOf s u bs o .buffer
   -- it is 0 unless the accepted steps are more than a journal may have
   pub report-answers : length (acceptedBytes s u bs) ≤ 65536 → r .report ≡ accepted
-
--- the report's bytes, of the buffer afterwards
-abbrev pub rows : List ℕ → List ℕ → List ℕ
-rows s o′ = take (rowWidth * count s) o′
+  pub held : r .held ≡ holders s (holderIn s (r .position))
+  pub reported : r .reported ≡ reportedHolders (r .report) s (rows s o′)
 
 -- the plain ledger accepts what the accepted kind 6 steps confirm, and its holders and payouts are those of the position that came back
 -- and, "where that report answers 0", of the report that was written

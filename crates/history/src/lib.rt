@@ -5,30 +5,36 @@ use readings::reported::ROW_WIDTH;
 use sheet::refusal;
 ghost use mathlib.Core.Path.{_≡_};
 ghost use Rattle.position.specs.Position.{start};
-ghost use Rattle.history.specs.Promise.{Demand3};
+ghost use Rattle.history.specs.Promise.{nobodies, Demand3};
 
+mod held;
 mod play;
 mod write;
 
-// The number, the report's number, and the position after the last step.
+// The number, the report's number, the position after the last step, and each coin's holder as read from it and from the report.
 pub struct Outcome {
     pub number: u32,
     pub report: u32,
     pub position: Position,
+    pub held: [u8; 32],
+    pub reported: [u8; 32],
 }
 
-// What comes back with a number: the empty journal's position.
+// What comes back with a number: the empty journal's position, and nobody as holder.
 fn unplayed(sheet: &[u8], number: u32) -> Outcome
-    ensures { λ r. ⌜ r ≡ record { number = number; report = 0; position = start (now (sheet .entry)) } ⌝ }
+    ensures { λ r. ⌜ r ≡ record { number = number; report = 0; position = start (now (sheet .entry)); held = nobodies; reported = nobodies } ⌝ }
 {
     Outcome {
         number,
         report: 0,
         position: journal::start(sheet),
+        held: [255u8; 32],
+        reported: [255u8; 32],
     }
 }
 
-// Plays every whole group of four bytes as a step, refused ones passed over; writes the accepted ones, and the report on them.
+// Plays every whole group of four bytes as a step, refused ones passed over; writes the accepted ones, and the report on them; reads the
+// holders from both.
 pub fn history(
     sheet: &[u8],
     setup: &[u8],
@@ -57,9 +63,13 @@ pub fn history(
     }
     write::write_accepted(sheet, setup, steps, accepted);
     let answer = reports::report(sheet, setup, &accepted[..used], report);
+    let held = held::holders_in(position, sheet);
+    let reported = held::reported_holders(answer, sheet, report);
     Outcome {
         number: refusal::ACCEPTED,
         report: answer,
         position,
+        held,
+        reported,
     }
 }

@@ -82,6 +82,18 @@ slice-aggregate-report c =
 report-requires : tie.Need-report-requires
 report-requires c κs = search needs
 
+holders-in-requires : tie.Need-holders-in-requires
+holders-in-requires c κs =
+    let h = sym (c .before .before .before .before .before .before .before .before .before .before .before .before .before .before .before .before .before .before .sheet-refusal .ensures) ∙ c .before .before .before .before .before .before .before .before .before .before .before .before .before .before .before .before .before .if1 .left in
+    let k = sym (c .before .before .before .before .before .before .before .before .before .before .before .before .before .before .before .before .setup-refusal .ensures) ∙ c .before .before .before .before .before .before .before .before .before .before .before .before .before .before .before .if2 .left in
+    fit _ _ h k .checked
+
+reported-holders-requires : tie.Need-reported-holders-requires
+reported-holders-requires c κs =
+    let h = sym (c .before .before .before .before .before .before .before .before .before .before .before .before .before .before .before .before .before .before .before .before .sheet-refusal .ensures) ∙ c .before .before .before .before .before .before .before .before .before .before .before .before .before .before .before .before .before .before .before .if1 .left in
+    let k = sym (c .before .before .before .before .before .before .before .before .before .before .before .before .before .before .before .before .before .before .setup-refusal .ensures) ∙ c .before .before .before .before .before .before .before .before .before .before .before .before .before .before .before .before .before .if2 .left in
+    (fit _ _ h k .checked .sized, search needs)
+
 same-length : tie.Need-same-length
 same-length c = search needs
 
@@ -90,11 +102,12 @@ same-length-2 c = search needs
 
 returns-5 : tie.Need-returns-5
 returns-5 c =
-    let h = sym (c .before .before .before .before .before .before .before .before .before .before .before .before .before .before .before .before .before .before .sheet-refusal .ensures) ∙ c .before .before .before .before .before .before .before .before .before .before .before .before .before .before .before .before .before .if1 .left in
-    let k = sym (c .before .before .before .before .before .before .before .before .before .before .before .before .before .before .before .before .setup-refusal .ensures) ∙ c .before .before .before .before .before .before .before .before .before .before .before .before .before .before .before .if2 .left in
-    let p = c .before .before .before .before .before .before .before .before .before .before .before .before .before .before .play-steps .ensures in
-    let w = c .before .before .report .ensures in
-    played-promise _ _ _ _ _ h k _ (p .1) (c .before .before .before .before .before .before .before .before .before .before .before .if3 .left) (omega (arith, c .before .before .before .before .before .before .before .before .before .before .count .ensures .is, c .before .before .before .before .before .before .before .before .before .if4 .left)) _ _ _ _ (p .0) (c .before .before .before .before .before .before .before .write-accepted .ensures) (w .0) (w .1)
+    let h = sym (c .before .before .before .before .before .before .before .before .before .before .before .before .before .before .before .before .before .before .before .before .before .sheet-refusal .ensures) ∙ c .before .before .before .before .before .before .before .before .before .before .before .before .before .before .before .before .before .before .before .before .if1 .left in
+    let k = sym (c .before .before .before .before .before .before .before .before .before .before .before .before .before .before .before .before .before .before .before .setup-refusal .ensures) ∙ c .before .before .before .before .before .before .before .before .before .before .before .before .before .before .before .before .before .before .if2 .left in
+    let p = c .before .before .before .before .before .before .before .before .before .before .before .before .before .before .before .before .before .play-steps .ensures in
+    let n = c .before .before .before .before .before .before .before .before .before .before .before .before .before .count .ensures .is in
+    let w = c .before .before .before .before .before .report .ensures in
+    played-promise _ _ _ _ _ h k _ (p .1) (c .before .before .before .before .before .before .before .before .before .before .before .before .before .before .if3 .left) (omega (arith, n, c .before .before .before .before .before .before .before .before .before .before .before .before .if4 .left)) _ _ _ _ _ _ (p .0) (c .before .before .before .before .before .before .before .before .before .before .write-accepted .ensures) (w .0) (w .1) (c .before .before .holders-in .ensures) (c .reported-holders .ensures)
 
 pub history-spec : {M : Type 1} → statement M
 history-spec =
@@ -118,6 +131,8 @@ history-spec =
     slice-reshare-prefix-report
     slice-aggregate-report
     report-requires
+    holders-in-requires
+    reported-holders-requires
     same-length
     same-length-2
     returns-5)
