@@ -1,0 +1,70 @@
+-- Readable by the two answers of the system; of a file that was not opened nothing was read.
+use Rattle.swapreport.specs.Files.{succeeded, isReadable}
+use native.Mathlib.Omega.{arith}
+use mathlib.Core.Path.{_≡_, refl, sym, _∙_}
+use mathlib.Core.Bool.{true, false, true≢false}
+use lib.IntN.{ℤ, pos, negsuc}
+use lib.Signed.{ltZ}
+use borrow.Author.Tests.{le-ltb, le-leb}
+use borrow.Author.Needs.{needs}
+use Rattle.swapreport.proofs.files.read_file.Statement.{statement}
+use Rattle.swapreport.proofs.files.read_file.Tie as tie
+
+below-zero : (z : ℤ) → ltZ z (pos 0) ≡ true → succeeded z ≡ false
+unfolding succeeded
+below-zero (pos a) h = absurd (true≢false (sym h ∙ le-ltb a 0 (omega arith)))
+below-zero (negsuc a) h = refl
+
+from-zero : (z : ℤ) → ltZ z (pos 0) ≡ false → succeeded z ≡ true
+unfolding succeeded
+from-zero (pos a) h = le-leb 0 a (omega arith)
+from-zero (negsuc a) h = sym h
+
+open-read-requires : tie.Need-open-read-requires
+open-read-requires c κs = search needs
+
+fail-requires : tie.Need-fail-requires
+fail-requires c κs = search needs
+
+returns : tie.Need-returns
+unfolding isReadable succeeded
+returns c = (search needs, (sym (rw (below-zero _ (c .before .if1 .taken)) refl), λ _. record { none = refl; kept = refl }))
+
+read-full-requires : tie.Need-read-full-requires
+read-full-requires c κs = search needs
+
+slice-aggregate-read : tie.Need-slice-aggregate-read
+slice-aggregate-read c = search needs
+
+read-requires : tie.Need-read-requires
+read-requires c κs = search needs
+
+fail-requires-2 : tie.Need-fail-requires-2
+fail-requires-2 c κs = search needs
+
+close-requires : tie.Need-close-requires
+close-requires c κs = search needs
+
+same-length : tie.Need-same-length
+same-length c = search needs
+
+returns-2 : tie.Need-returns-2
+unfolding isReadable succeeded
+returns-2 c =
+    let l = c .before .before .before .before .before .before .before .before .before .if1 .left in
+    (search needs, (sym (rw (from-zero _ l) refl), λ e. absurd (true≢false (rw (from-zero _ l) at e))))
+
+pub read-file-spec : {M : Type 1} → statement M
+read-file-spec =
+    tie.close
+    (tie.spec
+    open-read-requires
+    fail-requires
+    returns
+    read-full-requires
+    slice-aggregate-read
+    read-requires
+    fail-requires-2
+    close-requires
+    same-length
+    returns-2)
