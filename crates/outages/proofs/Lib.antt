@@ -1,3 +1,4 @@
 pub mod Unions
 pub mod RowLengths
+pub mod RowViews
 pub mod OutageAnswers

@@ -1,15 +1,15 @@
 // The verdict on a transaction.
-use position::Position;
-use soonest::dead;
+use sheet::set;
+use steps::View;
+use steps::parent;
 ghost use Prim.Native.Nat.{_<_, _≤_, _+_};
 ghost use mathlib.Core.Path.{_≡_};
 ghost use lib.Dec.{leb};
 ghost use Rattle.laws.specs.Booleans.{pick};
 ghost use Rattle.sheet.specs.Field.{count, Sized};
 ghost use Rattle.sheet.specs.Checked.{Fit};
-ghost use Rattle.slots.specs.Ancestry.{hasParent};
-ghost use Rattle.position.specs.Position.{isConfirmed};
-ghost use Rattle.outages.specs.Verdict.{isSettled, isSafe, isCovered, isPassed, exposed, soonestDeadlineIn, verdict};
+ghost use Rattle.outages.specs.Verdict.{isCovered, isPassed, exposed};
+ghost use Rattle.outages.specs.Forms.Row.{safeIn, verdictIn};
 
 // A part of the verdict, where its test holds.
 fn part(on: bool, value: u8) -> u8
@@ -58,62 +58,41 @@ fn exposed(mined: u16, blocks: u32, stealth: u8, deadline: u32) -> u8
     a + b
 }
 
-// Whether t is confirmed or dead.
-fn settled(position: Position, sheet: &[u8], t: usize) -> bool
-    requires { ⌜ Sized (now sheet) ⌝ }
-    requires { ⌜ t < count (now sheet) ⌝ }
-    ensures { λ r. ⌜ r ≡ isSettled (now (sheet .entry)) position t ⌝ }
-{
-    if dead::confirmed(position, t) {
-        return true;
-    }
-    dead::dead(position, sheet, t)
-}
-
-// Whether the parent of t is confirmed; an opening has none to ask for.
-fn parent_confirmed(position: Position, sheet: &[u8], t: usize) -> bool
-    requires { ⌜ Sized (now sheet) ⌝ }
-    requires { ⌜ t < count (now sheet) ⌝ }
-    ensures { λ r. ⌜ r ≡ hasParent (now (sheet .entry)) (isConfirmed position) t ⌝ }
-{
-    if sheet::field::opening(sheet, t) {
-        return true;
-    }
-    dead::confirmed(position, sheet::field::parent(sheet, t))
-}
-
 // Whether t is safe in the pool.
-fn safe(position: Position, sheet: &[u8], t: usize) -> bool
+fn safe(sheet: &[u8], view: View, t: usize) -> bool
     requires { ⌜ Sized (now sheet) ⌝ }
     requires { ⌜ t < count (now sheet) ⌝ }
-    ensures { λ r. ⌜ r ≡ isSafe (now (sheet .entry)) position t ⌝ }
+    ensures { λ r. ⌜ r ≡ safeIn (now (sheet .entry)) view t ⌝ }
 {
-    if 0 < position.slots[t].pool {
-        return parent_confirmed(position, sheet, t);
+    if set::has(view.pool, t) {
+        return parent::parent_there(sheet, view.confirmed, t);
     }
     false
 }
 
 // The verdict on t, where `deadline` is its soonest one.
 pub fn verdict(
-    position: Position,
     sheet: &[u8],
     setup: &[u8],
+    view: View,
+    dead: bool,
     blocks: u32,
     t: usize,
     deadline: u32,
 ) -> u8
     requires { ⌜ Fit (now sheet) (now setup) ⌝ }
     requires { ⌜ t < count (now sheet) ⌝ }
-    requires { ⌜ deadline ≡ soonestDeadlineIn (now sheet) (now setup) position t ⌝ }
-    ensures { λ r. ⌜ r ≡ verdict (now (sheet .entry)) (now (setup .entry)) position blocks t ⌝ }
+    ensures { λ r. ⌜ r ≡ verdictIn (now (sheet .entry)) (now (setup .entry)) view dead blocks t deadline ⌝ }
 {
-    if settled(position, sheet, t) {
+    if set::has(view.confirmed, t) {
         return 1;
     }
-    if safe(position, sheet, t) {
+    if dead {
+        return 1;
+    }
+    if safe(sheet, view, t) {
         return 2;
     }
     let stealth = sheet::setup::stealth(setup);
-    exposed(position.mined, blocks, stealth, deadline)
+    exposed(view.mined, blocks, stealth, deadline)
 }

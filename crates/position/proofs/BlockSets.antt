@@ -18,10 +18,12 @@ use Rattle.sheet.specs.Field.{count}
 use Rattle.slots.specs.Conflict.{conflictIn, otherConflictIn}
 use Rattle.slots.specs.Forms.Conflict.{foundIn}
 use Rattle.slots.specs.Ancestry.{inAncestry, isSelfOrAncestor, meetsConflict, meetsOther}
+use Rattle.slots.specs.Invalidated.{invalidated}
 use Rattle.slots.specs.Forms.Line.{lineSet}
 use Rattle.slots.proofs.ConflictSets.{conflictIn-same}
 use Rattle.slots.proofs.AncestrySets.{inAncestry-same}
 use Rattle.slots.proofs.LineSets.{line-bit}
+use Rattle.readings.specs.Forms.Report.{deadIn}
 use Rattle.position.specs.declared.Position.{Position}
 use Rattle.slots.specs.Slot.{emptySlot, standing}
 use Rattle.steps.specs.declared.View.{View}
@@ -61,6 +63,12 @@ set-meets-other s e member t few l h =
     inAncestry-same s (bit (setBelow (count s) (foundIn s (bit e) true))) (otherConflictIn s member) t
     (λ k m. set-bit (count s) (foundIn s (bit e) true) few k (omega arith)
     ∙ conflictIn-same s (λ j. not (eqb j k) && bit e j) (λ j. not (eqb j k) && member j) k (λ j i. ap (λ b. not (eqb j k) && b) (h j i)))
+
+-- dead over the set e of the confirmed and the set of those whose other rival is confirmed
+pub set-dead : (s : List ℕ) (e : ℕ) (member : ℕ → Bool) (t : ℕ) → count s ≤ 32 → t < count s → ((k : ℕ) → k < count s → bit e k ≡ member k)
+    → deadIn s e (setBelow (count s) (foundIn s (bit e) true)) t ≡ invalidated s member t
+unfolding deadIn invalidated
+set-dead s e member t few l h = rw (h t l, set-meets-other s e member t few l h)
 
 -- where something waits outside the block
 mined-among : (s : List ℕ) (p : Position) (b m : ℕ) → count s ≤ 32 → b ≡ viewBelow s (count s) p .block

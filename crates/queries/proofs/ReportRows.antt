@@ -4,7 +4,7 @@ use Prim.Native.Nat.{ℕ, zero, suc, _≤_, _<_}
 use native.Mathlib.Omega.{arith}
 use native.Mathlib.Nat.{not-suc-le-zero, le-of-suc-le-suc}
 use mathlib.Core.Path.{_≡_, refl, sym, _∙_}
-use mathlib.Core.Bool.{Bool, true, _&&_}
+use mathlib.Core.Bool.{true}
 use mathlib.Core.List.{List, [], _∷_}
 use lib.ListN.{length, getD}
 use Rattle.laws.specs.Little.{bytesOf}
@@ -16,23 +16,16 @@ use Rattle.sheet.specs.LockHeight.{never}
 use Rattle.sheet.specs.Setup.{perDay}
 use Rattle.slots.specs.declared.Slot.{Slot}
 use Rattle.slots.specs.Forms.Conflict.{foundIn}
-use Rattle.slots.specs.Invalidated.{invalidated}
 use Rattle.slots.proofs.Since.{lockHeight-since, deadline-since}
 use Rattle.readings.specs.declared.Row.{Row}
 use Rattle.steps.specs.declared.View.{View}
-use Rattle.readings.specs.Forms.Report.{deadIn, statusIn, payeeIn, rowIn}
+use Rattle.readings.specs.Forms.Report.{statusIn, payeeIn, rowIn}
 use Rattle.position.specs.declared.Position.{Position}
 use Rattle.position.specs.Position.{slot, inPool, inBlock, blockOf, isConfirmed, confirmedTo, lockHeightIn, deadlineIn}
 use Rattle.position.specs.Forms.View.{viewBelow, sinceIn}
 use Rattle.position.specs.Report.{status, payee, row, fullRow}
-use Rattle.position.proofs.BlockSets.{set-meets-other}
+use Rattle.position.proofs.BlockSets.{set-dead}
 use Rattle.position.proofs.SendTests.{since-parent}
-
--- dead over the set e of the confirmed and the set of those whose other rival is confirmed
-dead-right : (s : List ℕ) (e : ℕ) (member : ℕ → Bool) (t : ℕ) → count s ≤ 32 → t < count s → ((k : ℕ) → k < count s → bit e k ≡ member k)
-    → deadIn s e (setBelow (count s) (foundIn s (bit e) true)) t ≡ invalidated s member t
-unfolding deadIn invalidated
-dead-right s e member t few l h = rw (h t l, set-meets-other s e member t few l h)
 
 pub payee-right : (p : Position) (t : ℕ) → payeeIn (slot p t) ≡ payee p t
 unfolding payeeIn payee isConfirmed blockOf confirmedTo
@@ -47,7 +40,7 @@ module _ (s u : List ℕ) (p : Position) (t struck since : ℕ) (few : count s �
   status-right =
       rw (
         is-struck,
-        dead-right s (setBelow (count s) (isConfirmed p)) (isConfirmed p) t few l (set-bit (count s) (isConfirmed p) few),
+        set-dead s (setBelow (count s) (isConfirmed p)) (isConfirmed p) t few l (set-bit (count s) (isConfirmed p) few),
         set-bit (count s) (inPool p) few t l,
         set-bit (count s) (inBlock p) few t l,
         set-bit (count s) (isConfirmed p) few t l,

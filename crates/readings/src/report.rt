@@ -21,7 +21,7 @@ fn part(on: bool, value: u8) -> u8
 }
 
 // Whether t is dead, where `struck` has those whose other rival is confirmed.
-fn dead_in(sheet: &[u8], confirmed: u32, struck: u32, t: usize) -> bool
+pub fn dead_in(sheet: &[u8], confirmed: u32, struck: u32, t: usize) -> bool
     requires { ⌜ Sized (now sheet) ⌝ }
     requires { ⌜ t < count (now sheet) ⌝ }
     ensures { λ r. ⌜ r ≡ deadIn (now (sheet .entry)) confirmed struck t ⌝ }

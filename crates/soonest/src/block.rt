@@ -1,12 +1,14 @@
-// The soonest block: recursion up the sheet, where a parent is always a lower number.
+// The soonest block: over the parent's, which has a lower number.
 use crate::lock;
+use crate::table;
 use position::Position;
 ghost use Prim.Native.Nat.{_<_};
 ghost use mathlib.Core.Path.{_≡_};
 ghost use Rattle.sheet.specs.Field.{count, Sized};
 ghost use Rattle.position.specs.Position.{blockOf};
-ghost use Rattle.soonest.specs.Soonest.{greater, soonestOver, soonestBlock, soonestParent};
-ghost use Rattle.soonest.specs.Forms.Bounds.{Below, Soon, SoonAbove};
+ghost use Rattle.soonest.specs.Soonest.{greater, soonestOver, soonestBlock};
+ghost use Rattle.soonest.specs.Forms.Bounds.{Below, Soon};
+ghost use Rattle.soonest.specs.Forms.Table.{Filled};
 
 // The greater of two numbers.
 fn greater(a: u32, b: u32) -> u32
@@ -33,30 +35,19 @@ fn soonest_over(sheet: &[u8], per_day: u16, block: u16, mined: u16, t: usize, e:
     greater(next, greater(e, lock + 1))
 }
 
-// The soonest block of t.
-pub fn soonest_block(position: Position, sheet: &[u8], per_day: u16, t: usize) -> u32
+// The soonest blocks of all transactions, in a table.
+pub fn soonest_blocks(position: Position, sheet: &[u8], per_day: u16) -> [u32; 32]
     requires { ⌜ Sized (now sheet) ⌝ }
-    requires { ⌜ t < count (now sheet) ⌝ }
-    ensures { λ r. ⌜ Soon (soonestBlock (now (sheet .entry)) «per_day» (blockOf position) (position .mined) t) t r ⌝ }
+    ensures { λ r. ⌜ Filled (λ k x. Soon (soonestBlock (now (sheet .entry)) «per_day» (blockOf position) (position .mined) k) k x) (count (now (sheet .entry))) r ⌝ }
 {
-    let block = position.block_of(t);
-    let up = sheet::field::parent(sheet, t);
-    if up < t {
-        let e = soonest_block(position, sheet, per_day, up);
-        return soonest_over(sheet, per_day, block, position.mined, t, e);
+    let n = sheet::field::count(sheet);
+    let mut soonest = [0u32; 32];
+    let mut t: usize = 0;
+    while t < n {
+        let x = position.slots[t];
+        let e = table::above(soonest, sheet, t);
+        soonest[t] = soonest_over(sheet, per_day, x.height, position.mined, t, e);
+        t += 1;
     }
-    soonest_over(sheet, per_day, block, position.mined, t, 0)
-}
-
-// The soonest block of the parent of t, 0 for an opening.
-pub fn soonest_parent(position: Position, sheet: &[u8], per_day: u16, t: usize) -> u32
-    requires { ⌜ Sized (now sheet) ⌝ }
-    requires { ⌜ t < count (now sheet) ⌝ }
-    ensures { λ r. ⌜ SoonAbove (soonestParent (now (sheet .entry)) «per_day» (blockOf position) (position .mined) t) t r ⌝ }
-{
-    let up = sheet::field::parent(sheet, t);
-    if up < t {
-        return soonest_block(position, sheet, per_day, up);
-    }
-    0
+    soonest
 }

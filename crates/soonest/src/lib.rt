@@ -1,6 +1,6 @@
 // How soon a transaction can be confirmed, if it is not dead, and how soon a rival that is locked later.
 pub mod block;
-pub mod dead;
 pub mod deadline;
 pub mod lock;
 pub mod rival;
+pub mod table;

@@ -1,52 +1,85 @@
 -- The rows of the transactions before t.
 use Rattle.outages.proofs.RowLengths.{row-length, rows-room}
+use Rattle.outages.proofs.RowViews.{above-small, row-right}
 use Rattle.outages.specs.Verdict.{outageRow, outageBytes}
+use Rattle.position.specs.Position.{slot}
+use Rattle.position.specs.Forms.View.{sinceIn}
+use Rattle.laws.specs.Each.{length-of-map}
 use Rattle.laws.specs.Wrote.{Turns, turns-start, turn-room, turn-end, turn-more, turns-done}
-use mathlib.Core.Path.{sym}
-use Prim.Native.Nat.{_-_}
+use mathlib.Core.Path.{_≡_, sym}
+use lib.ListN.{length}
+use Rattle.sheet.specs.Field.{count}
+use Prim.Native.Nat.{_-_, _<_}
 use native.Mathlib.Omega.{arith}
 use borrow.Author.Needs.{needs}
 use Rattle.outages.proofs.rows.write_rows.Statement.{statement}
 use Rattle.outages.proofs.rows.write_rows.Tie as tie
 
 abbrev Inv-loop : tie.InvT-loop
-Inv-loop position sheet setup blocks out₀ n at₀ t₀ out at t = Turns (outageRow sheet setup position blocks) n out₀ out at t
+Inv-loop sheet setup blocks out₀ position n per-day view struck soonest lines at₀ t₀ out at t = Turns (outageRow sheet setup position blocks) n out₀ out at t
 
 abbrev μ-loop : tie.MeasureT-loop
-μ-loop position sheet setup blocks out₀ n at₀ t₀ out at t = n - t
+μ-loop sheet setup blocks out₀ position n per-day view struck soonest lines at₀ t₀ out at t = n - t
 
 count-requires : tie.Need-count-requires Inv-loop μ-loop
 count-requires c κs = search needs
 
+per-day-requires : tie.Need-per-day-requires Inv-loop μ-loop
+per-day-requires c κs = search needs
+
+view-requires : tie.Need-view-requires Inv-loop μ-loop
+view-requires c κs = search needs
+
+conflicts-of-requires : tie.Need-conflicts-of-requires Inv-loop μ-loop
+conflicts-of-requires c κs = search needs
+
+soonest-blocks-requires : tie.Need-soonest-blocks-requires Inv-loop μ-loop
+soonest-blocks-requires c κs = search needs
+
+lines-requires : tie.Need-lines-requires Inv-loop μ-loop
+lines-requires c κs = search needs
+
 loop-holds : tie.Need-loop-holds Inv-loop μ-loop
 loop-holds c =
-    let k = c .before .before .before .before in
-    turns-start _ _ _ (rows-room (k .args .sheet .now) (k .args .setup .now) (k .args .position) (k .args .blocks) (c .count .result) _ (c .count .ensures .is) (k .pre .1))
+    let k = c .before .before .before .before .before .before .before .before .before in
+    let n = c .before .before .before .before .before .count in
+    turns-start _ _ _ (rows-room (k .args .sheet .now) (k .args .setup .now) (k .args .t1) (k .args .blocks) (n .result) _ (n .ensures .is) (k .pre .1))
+
+slot-above-requires : tie.Need-slot-above-requires Inv-loop μ-loop
+slot-above-requires c κs = search needs
+
+mul-above : tie.Need-mul-above Inv-loop μ-loop
+mul-above c = search needs
+
+element-copy-out-above : tie.Need-element-copy-out-above Inv-loop μ-loop
+element-copy-out-above c = search needs
+
+block-above-requires : tie.Need-block-above-requires Inv-loop μ-loop
+block-above-requires c κs = search needs
 
 sub-write-at : tie.Need-sub-write-at Inv-loop μ-loop
-sub-write-at c = omega (arith, c .before .loop .inv .wrote)
+sub-write-at c = omega (arith, c .before .before .before .before .loop .inv .wrote)
 
 part-write-at-start : tie.Need-part-write-at-start Inv-loop μ-loop
-part-write-at-start c = omega (arith, c .before .loop .inv .wrote)
+part-write-at-start c = omega (arith, c .before .before .before .before .loop .inv .wrote)
 
 part-write-at-end : tie.Need-part-write-at-end Inv-loop μ-loop
 part-write-at-end c = search needs
 
 write-at-requires : tie.Need-write-at-requires Inv-loop μ-loop
 write-at-requires c κs =
-    let k = c .before .before .before .before .before .before .before in
-    let i = c .before .before .loop in
-    let m = c .before .loop-test .taken in
-    let n = c .before .before .before .count .ensures .is in
-    let l = row-length (k .args .sheet .now) (k .args .setup .now) (k .args .position) (k .args .blocks) (i .t) in
-    let r = turn-room _ _ _ _ _ _ (i .inv) m in
-    (k .pre .0, (omega (arith, m, n), omega (arith, l, r)))
+    let k = c .before .before .before .before .before .before .before .before .before .before .before .before .before .before .before in
+    let i = c .before .before .before .before .before .loop in
+    let m = c .before .before .before .before .loop-test .taken in
+    let t : i .t < count (k .args .sheet .now) = omega (arith, m, c .before .before .before .before .before .before .before .before .before .before .before .count .ensures .is) in
+    let l = row-length (k .args .sheet .now) (k .args .setup .now) (k .args .t1) (k .args .blocks) (i .t) in
+    (k .pre .0, (t, (above-small _ _ _ (k .pre .0 .checked) _ t _ _ (c .before .before .before .before .before .before .before .before .before .before .per-day .ensures) (c .before .before .before .before .before .before .before .soonest-blocks .ensures), omega (arith, l, turn-room _ _ _ _ _ _ (i .inv) m))))
 
 add-at : tie.Need-add-at Inv-loop μ-loop
 add-at c =
-    let k = c .before .before .before .before .before .before .before .before .before .before in
-    let i = c .before .before .before .before .before .loop in
-    omega (arith, turn-end _ _ _ _ _ _ 10 (i .inv) (c .before .before .before .before .loop-test .taken) (sym (row-length (k .args .sheet .now) (k .args .setup .now) (k .args .position) (k .args .blocks) (i .t))))
+    let k = c .before .before .before .before .before .before .before .before .before .before .before .before .before .before .before .before .before .before in
+    let i = c .before .before .before .before .before .before .before .before .loop in
+    omega (arith, turn-end _ _ _ _ _ _ 10 (i .inv) (c .before .before .before .before .before .before .before .loop-test .taken) (sym (row-length (k .args .sheet .now) (k .args .setup .now) (k .args .t1) (k .args .blocks) (i .t))))
 
 add-t : tie.Need-add-t Inv-loop μ-loop
 add-t c = search needs
@@ -55,17 +88,24 @@ loop-less : tie.Need-loop-less Inv-loop μ-loop
 loop-less c = search needs
 
 loop-again : tie.Need-loop-again Inv-loop μ-loop
+unfolding sinceIn slot
 loop-again c =
-    let k = c .before .before .before .before .before .before .before .before .before .before in
-    let i = c .before .before .before .before .before .loop in
-    turn-more _ _ _ _ _ _ _ 10 (i .inv) (c .before .before .before .before .loop-test .taken) (sym (row-length (k .args .sheet .now) (k .args .setup .now) (k .args .position) (k .args .blocks) (i .t))) (c .before .before .write-at .ensures)
+    let k = c .before .before .before .before .before .before .before .before .before .before .before .before .before .before .before .before .before .before in
+    let i = c .before .before .before .before .before .before .before .before .loop in
+    let m = c .before .before .before .before .before .before .before .loop-test .taken in
+    let t : i .t < count (k .args .sheet .now) = omega (arith, m, c .before .before .before .before .before .before .before .before .before .before .before .before .before .before .count .ensures .is) in
+    let n : length (k .args .t1 .slots) ≡ 32 = search (length-of-map, k .good) in
+    let written =
+    row-right (k .args .sheet .now) (k .args .setup .now) (k .args .t1) (k .pre .0 .checked) (i .t) t _ _ (c .before .before .before .before .before .before .before .before .before .before .before .before .before .per-day .ensures) (c .before .before .before .before .before .before .before .before .before .before .soonest-blocks .ensures) _ _ _ (c .before .before .before .before .block-above .result) (k .args .blocks) n
+    (c .before .before .before .before .before .before .before .before .before .before .before .before .view .ensures) (c .before .before .before .before .before .before .before .before .before .before .before .conflicts-of .ensures) (c .before .before .before .before .before .before .before .before .before .lines .ensures) (rw (← (c .before .before .before .before .before .before .slot-above .ensures .0)) (c .before .before .before .before .block-above .ensures)) in
+    turn-more _ _ _ _ _ _ _ 10 (i .inv) m (sym (row-length (k .args .sheet .now) (k .args .setup .now) (k .args .t1) (k .args .blocks) (i .t))) (rw written at (c .before .before .write-at .ensures))
 
 same-length : tie.Need-same-length Inv-loop μ-loop
 same-length c = c .before .loop .inv .wrote .long
 
 returns : tie.Need-returns Inv-loop μ-loop
 unfolding outageBytes
-returns c = rw (← (c .before .before .count .ensures .is)) (turns-done _ _ _ _ _ _ (c .before .loop .inv) (c .loop-test .left) .is)
+returns c = rw (← (c .before .before .before .before .before .before .before .count .ensures .is)) (turns-done _ _ _ _ _ _ (c .before .loop .inv) (c .loop-test .left) .is)
 
 pub write-rows-spec : {M : Type 1} → statement M
 write-rows-spec =
@@ -74,7 +114,16 @@ write-rows-spec =
     Inv-loop
     μ-loop
     count-requires
+    per-day-requires
+    view-requires
+    conflicts-of-requires
+    soonest-blocks-requires
+    lines-requires
     loop-holds
+    slot-above-requires
+    mul-above
+    element-copy-out-above
+    block-above-requires
     sub-write-at
     part-write-at-start
     part-write-at-end

@@ -9,35 +9,28 @@ use Rattle.soonest.proofs.deadline.counts_at.Tie as tie
 lock-at-requires : tie.Need-lock-at-requires
 lock-at-requires c κs = search needs
 
-lock-at-requires-2 : tie.Need-lock-at-requires-2
-lock-at-requires-2 c κs = search needs
-
 returns : tie.Need-returns
 unfolding countsAt
-returns c = simp (tests, ← (c .before .before .lock-at .ensures .is), ← (c .before .lock-at2 .ensures .is), c .if1 .taken)
+returns c = simp (tests, ← (c .before .before .before .pre .1 .1 .1 .1 .is), ← (c .before .lock-at .ensures .is), c .if1 .taken)
 
 may-rise-requires : tie.Need-may-rise-requires
 may-rise-requires c κs = search needs
 
 add-result : tie.Need-add-result
-add-result c = let h = c .before .before .before .before .lock-at .ensures .small 4294967295 (omega arith) (omega (arith, c .before .before .before .before .before .before .pre)) in search needs
+add-result c =
+    let d = c .before .before .before .before .before .pre in
+    let h = d .1 .1 .1 .1 .small 4294967295 (omega arith) (omega (arith, d .1 .1 .1 .0)) in
+    search needs
 
 returns-2 : tie.Need-returns-2
 unfolding countsAt
-returns-2 c = simp (tests, ← (c .before .before .before .before .lock-at .ensures .is), ← (c .before .before .before .lock-at2 .ensures .is), c .before .before .if1 .left, ← (c .before .may-rise .ensures), c .if2 .taken)
+returns-2 c = simp (tests, ← (c .before .before .before .before .before .pre .1 .1 .1 .1 .is), ← (c .before .before .before .lock-at .ensures .is), c .before .before .if1 .left, ← (c .before .may-rise .ensures), c .if2 .taken)
 
 returns-3 : tie.Need-returns-3
 unfolding countsAt
-returns-3 c = simp (tests, ← (c .before .before .before .before .lock-at .ensures .is), ← (c .before .before .before .lock-at2 .ensures .is), c .before .before .if1 .left, ← (c .before .may-rise .ensures), c .if2 .left)
+returns-3 c = simp (tests, ← (c .before .before .before .before .before .pre .1 .1 .1 .1 .is), ← (c .before .before .before .lock-at .ensures .is), c .before .before .if1 .left, ← (c .before .may-rise .ensures), c .if2 .left)
 
 pub counts-at-spec : {M : Type 1} → statement M
 counts-at-spec =
     tie.close
-    (tie.spec
-    lock-at-requires
-    lock-at-requires-2
-    returns
-    may-rise-requires
-    add-result
-    returns-2
-    returns-3)
+    (tie.spec lock-at-requires returns may-rise-requires add-result returns-2 returns-3)

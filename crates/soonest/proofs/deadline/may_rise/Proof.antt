@@ -5,38 +5,24 @@ use borrow.Author.Needs.{needs}
 use Rattle.soonest.proofs.deadline.may_rise.Statement.{statement}
 use Rattle.soonest.proofs.deadline.may_rise.Tie as tie
 
-parent-requires : tie.Need-parent-requires
-parent-requires c κs = search needs
-
-block-of-requires : tie.Need-block-of-requires
-block-of-requires c κs = search needs
-
 returns : tie.Need-returns
 unfolding mayRise
-returns c = simp (tests, ← (c .before .before .parent .ensures .is), ← (c .before .block-of .ensures), c .if1 .taken)
+returns c = simp (tests, c .if1 .taken)
 
 since-locked-requires : tie.Need-since-locked-requires
 since-locked-requires c κs = search needs
 
 returns-2 : tie.Need-returns-2
 unfolding mayRise
-returns-2 c = simp (tests, ← (c .before .before .before .before .parent .ensures .is), ← (c .before .before .before .block-of .ensures), c .before .before .if1 .left, ← (c .before .since-locked .ensures), c .if2 .taken)
+returns-2 c = simp (tests, c .before .before .if1 .left, ← (c .before .since-locked .ensures), c .if2 .taken)
 
 since-locked-requires-2 : tie.Need-since-locked-requires-2
 since-locked-requires-2 c κs = search needs
 
 returns-3 : tie.Need-returns-3
 unfolding mayRise
-returns-3 c = simp (tests, ← (c .before .before .before .before .before .parent .ensures .is), ← (c .before .before .before .before .block-of .ensures), c .before .before .before .if1 .left, ← (c .before .before .since-locked .ensures), c .before .if2 .left, c .since-locked2 .ensures)
+returns-3 c = simp (tests, c .before .before .before .if1 .left, ← (c .before .before .since-locked .ensures), c .before .if2 .left, c .since-locked2 .ensures)
 
 pub may-rise-spec : {M : Type 1} → statement M
 may-rise-spec =
-    tie.close
-    (tie.spec
-    parent-requires
-    block-of-requires
-    returns
-    since-locked-requires
-    returns-2
-    since-locked-requires-2
-    returns-3)
+    tie.close (tie.spec returns since-locked-requires returns-2 since-locked-requires-2 returns-3)

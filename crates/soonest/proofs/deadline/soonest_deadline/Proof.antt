@@ -1,6 +1,6 @@
 -- The least of what counts at the rivals. The best of those below k.
-use Rattle.soonest.specs.Soonest.{countsAt, soonestDeadline}
-use Rattle.position.specs.Position.{blockOf}
+use Rattle.soonest.specs.Soonest.{countsAt}
+use Rattle.soonest.specs.Forms.Deadline.{deadlineOver}
 use Rattle.slots.specs.Conflict.{conflict}
 use Rattle.sheet.specs.LockHeight.{never}
 use Rattle.laws.specs.Least.{leastBelow, least-start, least-more, least-done}
@@ -11,13 +11,13 @@ use Rattle.soonest.proofs.deadline.soonest_deadline.Statement.{statemen
 use Rattle.soonest.proofs.deadline.soonest_deadline.Tie as tie
 
 abbrev Inv-loop : tie.InvT-loop
-Inv-loop position sheet per-day t e n best₀ k₀ best k = (k ≤ n) × (best ≡ leastBelow k (λ j. conflict sheet j t) (countsAt sheet per-day (blockOf position) e t) never)
+Inv-loop sheet per-day since e t own n best₀ k₀ best k = (k ≤ n) × (best ≡ leastBelow k (λ j. conflict sheet j t) (countsAt sheet per-day (λ i. since) e t) never)
 
 abbrev μ-loop : tie.MeasureT-loop
-μ-loop position sheet per-day t e n best₀ k₀ best k = n - k
+μ-loop sheet per-day since e t own n best₀ k₀ best k = n - k
 
-soonest-parent-requires : tie.Need-soonest-parent-requires Inv-loop μ-loop
-soonest-parent-requires c κs = search needs
+lock-at-requires : tie.Need-lock-at-requires Inv-loop μ-loop
+lock-at-requires c κs = search needs
 
 count-requires : tie.Need-count-requires Inv-loop μ-loop
 count-requires c κs = search needs
@@ -27,10 +27,8 @@ loop-holds c = (search needs, least-start _ _ _)
 
 rival-at-requires : tie.Need-rival-at-requires Inv-loop μ-loop
 rival-at-requires c κs =
-    let d = c .before .before .before in
-    let h = d .soonest-parent .ensures .small in
-    let w = d .before .before .pre .0 .few in
-    search needs
+    let k = c .before .before .before .before .before .pre in
+    (k .0, (k .1 .0, (search needs, (k .1 .1, c .before .before .before .lock-at .ensures))))
 
 lower-requires : tie.Need-lower-requires Inv-loop μ-loop
 lower-requires c κs = search needs
@@ -45,8 +43,8 @@ loop-again : tie.Need-loop-again Inv-loop μ-loop
 loop-again c = (search needs, least-more _ _ _ _ _ _ _ (c .before .before .before .loop .inv .1) (c .before .rival-at .ensures) (c .lower .ensures))
 
 returns : tie.Need-returns Inv-loop μ-loop
-unfolding soonestDeadline
-returns c = rw (← (c .before .before .count .ensures .is), ← (c .before .before .before .soonest-parent .ensures .is)) (least-done _ _ _ _ _ _ (c .before .loop .inv .0) (c .loop-test .left) (c .before .loop .inv .1))
+unfolding deadlineOver
+returns c = rw (← (c .before .before .count .ensures .is)) (least-done _ _ _ _ _ _ (c .before .loop .inv .0) (c .loop-test .left) (c .before .loop .inv .1))
 
 pub soonest-deadline-spec : {M : Type 1} → statement M
 soonest-deadline-spec =
@@ -54,7 +52,7 @@ soonest-deadline-spec =
     (tie.spec
     Inv-loop
     μ-loop
-    soonest-parent-requires
+    lock-at-requires
     count-requires
     loop-holds
     rival-at-requires
