@@ -183,9 +183,6 @@ unfolding allShared
 more-shared u p q m party h =
     every-more (λ t. bit (shared p t contract) party) (λ t. bit (shared q t contract) party) (firstShares party) (λ t. stays-shown u p q m t party) h
 
-both-from : (p : Position) → ((party : ℕ) → party < 2 → firstSharesMade p party ≡ true) → bothMade p ≡ true
-both-from p h = rw (h alice (omega arith), h bob (omega arith))
-
 module _ (u : List ℕ) (c : conduct u ≡ 2) (p : Position) (g : Sound (sheet u) u p) (j : Invariant u p) (e : Exposed u p) (w : Marked p) where
   -- where both are made before and after
   module _ (q : Position) (m : Moved (sheet u) u p q) where
