@@ -94,10 +94,7 @@ static bool add_embedded(struct desk *desk)
 {
     struct entry *entry = add_entry(desk, "embedded");
 
-    if (entry != NULL) {
-        embedded_swap(&entry->swap);
-    }
-    return entry != NULL;
+    return entry != NULL && embedded_swap(&entry->swap);
 }
 
 /* The last part of a path; the whole where that is empty. */
@@ -149,6 +146,7 @@ void ask_desk(const struct question *question, struct desk *desk)
 void free_desk(struct desk *desk)
 {
     for (size_t i = 0; i < desk->count; i++) {
+        free_swap(&desk->entries[i]->swap);
         free(desk->entries[i]->name);
         free(desk->entries[i]);
     }

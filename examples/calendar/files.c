@@ -5,6 +5,7 @@
 #include <errno.h>
 #include <fcntl.h>
 #include <stdio.h>
+#include <stdlib.h>
 #include <string.h>
 #include <sys/stat.h>
 #include <unistd.h>
@@ -35,17 +36,36 @@ static bool has(int folder, const char *name)
     return fstatat(folder, name, &status, AT_SYMLINK_NOFOLLOW) == 0 || errno != ENOENT;
 }
 
+/* Memory of the journal's size; the reason where there is none. */
+static const char *keep_journal(struct swap *swap, const uint8_t *bytes)
+{
+    swap->journal = malloc(swap->journal_length + SWAP_STEP_SIZE);
+    if (swap->journal == NULL) {
+        return strerror(errno);
+    }
+    memcpy(swap->journal, bytes, swap->journal_length);
+    return NULL;
+}
+
 struct fault read_files(int folder, struct swap *swap)
 {
-    uint8_t *const bytes[] = {swap->sheet, swap->setup, swap->journal};
-    const size_t sizes[] = {sizeof swap->sheet, sizeof swap->setup, sizeof swap->journal};
+    static uint8_t journal[SWAP_JOURNAL_SIZE + 1];
+    uint8_t *const bytes[] = {swap->sheet, swap->setup, journal};
+    const size_t sizes[] = {sizeof swap->sheet, sizeof swap->setup, sizeof journal};
     size_t *const lengths[] = {&swap->sheet_length, &swap->setup_length, &swap->journal_length};
     struct fault found = fault(NULL, NULL);
 
+    swap->journal = NULL;
     for (size_t i = 0; i < 3 && found.file == NULL; i++) {
         found = fault(file_names[i], read_plain(folder, file_names[i], bytes[i], sizes[i], lengths[i]));
     }
-    return found;
+    return found.file != NULL ? found : fault(file_names[2], keep_journal(swap, journal));
+}
+
+void free_swap(struct swap *swap)
+{
+    free(swap->journal);
+    swap->journal = NULL;
 }
 
 bool is_swap(const char *folder)

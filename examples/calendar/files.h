@@ -8,7 +8,7 @@
 
 #include "swap.h"
 
-/* The bytes of a swap. Each array has room for one byte more than the largest valid length, so that a longer file stays
+/* The bytes of a swap. Of each file one byte more is read than the largest valid length has, so that a longer file stays
  * too long and the engine refuses it. */
 struct swap {
     size_t sheet_length;
@@ -16,7 +16,7 @@ struct swap {
     size_t journal_length;
     uint8_t sheet[SWAP_SHEET_SIZE + 1];
     uint8_t setup[SWAP_SETUP_SIZE + 1];
-    uint8_t journal[SWAP_JOURNAL_SIZE + 1];
+    uint8_t *journal; /* NULL where none is read */
 };
 
 /* A file that cannot be read, and why; NULL: there is none. */
@@ -28,8 +28,10 @@ struct fault {
 /* Whether the folder holds sheet.bin, setup.bin or journal.bin. */
 bool is_swap(const char *folder);
 
-/* Reads the swap of an open folder. Only plain files are read: none is waited for. */
+/* Reads the swap of an open folder. Only plain files are read: none is waited for. The journal takes up as much memory
+ * as its bytes and one step more; free_swap gives it back. */
 struct fault read_files(int folder, struct swap *swap);
+void free_swap(struct swap *swap);
 
 /* The same of a folder's path, and of its file `side`: the mask of the party that it names, 0 where there is no such
  * file. */

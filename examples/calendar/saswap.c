@@ -1,5 +1,6 @@
 #include "saswap.h"
 
+#include <stdlib.h>
 #include <string.h>
 
 #include "fields.h"
@@ -99,20 +100,34 @@ static const struct repeated embedded_course[] = {
     {{SWAP_MINE, SWAP_MINER, SWAP_NONE, SWAP_CONTRACT}, 145}, /* blocks 300 to 444 */
 };
 
-void embedded_swap(struct swap *swap)
+#define EMBEDDED_ROWS (sizeof embedded_course / sizeof embedded_course[0])
+
+/* The bytes of its journal. */
+static size_t embedded_length(void)
+{
+    size_t length = 0;
+
+    for (size_t row = 0; row < EMBEDDED_ROWS; row++) {
+        length += 4 * embedded_course[row].times;
+    }
+    return length;
+}
+
+bool embedded_swap(struct swap *swap)
 {
     const uint8_t setup[SWAP_SETUP_SIZE] = {144, 0, SWAP_CAREFUL, 0};
-    const size_t rows = sizeof embedded_course / sizeof embedded_course[0];
 
     saswap_sheet(144, swap->sheet);
     swap->sheet_length = SASWAP_SIZE;
     memcpy(swap->setup, setup, sizeof setup);
     swap->setup_length = sizeof setup;
+    swap->journal = malloc(embedded_length());
     swap->journal_length = 0;
-    for (size_t row = 0; row < rows; row++) {
+    for (size_t row = 0; row < EMBEDDED_ROWS && swap->journal != NULL; row++) {
         for (size_t i = 0; i < embedded_course[row].times; i++) {
             memcpy(swap->journal + swap->journal_length, embedded_course[row].step, 4);
             swap->journal_length += 4;
         }
     }
+    return swap->journal != NULL;
 }

@@ -22,7 +22,7 @@ bool is_saswap(const struct swap *swap);
 
 /* The swap that is shown where no folder is named: 144 blocks per day, careful conduct, 444 blocks mined. Both coins
  * were locked, then neither party went on, and Bob sent revoke. What is left to Alice is refund_2, in blocks 445 to
- * 588: one day. */
-void embedded_swap(struct swap *swap);
+ * 588: one day. False where there is no memory. */
+bool embedded_swap(struct swap *swap);
 
 #endif

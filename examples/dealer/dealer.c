@@ -186,7 +186,7 @@ static bool commit_locked(const struct deal *deal, uint32_t count)
         return false;
     }
     answer = swap_commit(now.sheet, now.sheet_length, now.setup, now.setup_length, deal->step, sizeof deal->step, count,
-                         now.journal, sizeof now.journal, (uint32_t)now.journal_length);
+                         now.journal, now.journal_length + SWAP_STEP_SIZE, (uint32_t)now.journal_length);
     if (answer != SWAP_ACCEPTED) {
         show_refusal(&now, SWAP_REFUSAL(answer));
         return false;

@@ -106,15 +106,18 @@ static bool goes_on(const struct store *store, const struct swap *old)
 /* Whether no step of the folder's journal gets lost. */
 static bool keeps_steps(struct store *store)
 {
-    static struct swap old;
+    struct swap old;
     struct fault fault;
+    bool sound;
 
     store->first = size_of(store, "journal.bin") > 0 ? JOURNAL : SHEET;
     if (store->first == SHEET) {
         return true;
     }
     fault = read_files(store->descriptor, &old);
-    return fault.file == NULL ? goes_on(store, &old) : fail(store, fault.file, fault.reason);
+    sound = fault.file == NULL ? goes_on(store, &old) : fail(store, fault.file, fault.reason);
+    free_swap(&old);
+    return sound;
 }
 
 static bool may_store(struct store *store)

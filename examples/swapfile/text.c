@@ -194,6 +194,7 @@ static bool read_line(struct line *line, struct reading *reading)
 bool encode_text(const char *file, struct swap *swap, uint8_t *sides)
 {
     static char text[TEXT_MOST + 2];
+    static uint8_t journal[SWAP_JOURNAL_SIZE];
     static struct reading reading;
     struct line line = {.file = file};
     size_t length;
@@ -201,6 +202,7 @@ bool encode_text(const char *file, struct swap *swap, uint8_t *sides)
 
     memset(&reading, 0, sizeof reading);
     reading.swap = swap;
+    swap->journal = journal;
     if (!read_text(file, text, &length)) {
         return false;
     }

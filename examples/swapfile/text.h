@@ -8,7 +8,7 @@
 const char *side_name(uint8_t sides);
 
 /* Reads a swap, and its side or 0, from a text file. False, with a message that names file and line, where the text is
- * wrong or the engine refuses what it says. */
+ * wrong or the engine refuses what it says. The journal's memory is good until the next text is read. */
 bool encode_text(const char *file, struct swap *swap, uint8_t *sides);
 
 /* Prints a swap that the engine accepts, and its side or 0. */
