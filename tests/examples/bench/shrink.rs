@@ -1,19 +1,21 @@
 //! How long the library's shrink takes, by steps of the journal.
 
-use crate::clock::thread_time;
+use crate::clock::least;
+use crate::table::{head, row, three, whole};
 use crate::works;
 use std::hint::black_box;
+use swap_tests::calls::FAST;
 use swap_tests::engine;
 use swap_tests::random::Case;
-use swap_tests::slow::slow;
+use swap_tests::slow::{since_parent, slow, waiting};
 
 /// How often a call is timed. The least processor time counts.
-const TURNS: usize = 3;
+const TURNS: usize = 2;
 
-/// The part that the rounds leave, how many there are, and the steps that their tries take, each from the position before the step
-/// that is tried up to the first one that is refused.
+/// The part that the rounds leave, by runs of the fast version, how many there are, and the steps that their tries take, each
+/// from the position before the step that is tried up to the first one that is refused.
 fn tries((sheet, setup, journal): &Case) -> (Vec<u8>, usize, usize) {
-    let whole = engine::run(sheet, setup, journal);
+    let whole = (FAST.run)(sheet, setup, journal);
     let number = whole >> 16 << 16;
     let mut part = journal[..4 * (whole & 0xffff) as usize + 4].to_vec();
     let (mut rounds, mut tried) = (0, 0);
@@ -23,7 +25,7 @@ fn tries((sheet, setup, journal): &Case) -> (Vec<u8>, usize, usize) {
         let mut at = 0;
         while at + 4 < part.len() {
             let without = [&part[..at], &part[at + 4..]].concat();
-            let answer = engine::run(sheet, setup, &without);
+            let answer = (FAST.run)(sheet, setup, &without);
             let accepted = 4 * (answer & 0xffff) as usize;
             tried += (accepted.min(without.len() - 4) - at) / 4 + 1;
             match answer == number + (without.len() / 4 - 1) as u32 {
@@ -38,20 +40,23 @@ fn tries((sheet, setup, journal): &Case) -> (Vec<u8>, usize, usize) {
 }
 
 /// A row of the table. The part is the one that single runs give.
-fn row(name: &str, case: &Case) {
+fn shrink_row(name: &str, case: &Case) {
     let (sheet, setup, journal) = case;
     let (part, rounds, tried) = tries(case);
     let mut output = [0; 4_096];
-    let mut least = f64::INFINITY;
-    for _ in 0..TURNS {
-        let start = thread_time();
-        let answer = engine::shrink(sheet, setup, black_box(journal), &mut output);
-        least = least.min((thread_time() - start).as_secs_f64() * 1e3);
-        assert_eq!(answer as usize, part.len() / 4);
-    }
+    let [time] = least(
+        TURNS,
+        [&mut || {
+            let answer = engine::shrink(sheet, setup, black_box(journal), &mut output);
+            assert_eq!(answer as usize, part.len() / 4);
+        }],
+    );
     assert_eq!(output[..part.len()], part);
-    let (steps, left) = (journal.len() / 4, part.len() / 4);
-    println!("{name:<30} {steps:>8} {left:>8} {rounds:>8} {tried:>12} {least:>12.2}");
+    let mut cells = [journal.len() / 4, part.len() / 4, rounds, tried]
+        .map(whole)
+        .to_vec();
+    cells.push(three(time / 1e6));
+    row(name, &cells);
 }
 
 /// A swap, empty blocks up to so many steps, and a step of no kind: every other step can go.
@@ -62,15 +67,21 @@ fn all_go(steps: usize) -> Case {
 }
 
 pub fn rates() {
-    println!("\nshrink");
-    println!(
-        "{:<30} {:>8} {:>8} {:>8} {:>12} {:>12}",
-        "", "steps", "left", "rounds", "steps tried", "milliseconds"
-    );
+    let columns = ["steps", "left", "rounds", "steps tried", "milliseconds"];
+    let unit = "Steps tried: by tries of every step, each up to the first refused one.";
+    head("Shrink", unit, &columns);
     for steps in [100, 400, 1_024] {
-        row("SASwap careful, all can go", &all_go(steps));
+        shrink_row("SASwap careful, all can go", &all_go(steps));
     }
-    for steps in [100, 400, 961, 1_024] {
-        row("a chain of 30, one a round", &slow(30, steps - 34));
+    for steps in [100, 400, 1_024] {
+        shrink_row("a chain of 30, one a round", &slow(30, steps - 34));
+    }
+    for blocks in [6, 8] {
+        let name = format!("a chain of 30 locked since the parent, {blocks} blocks apart");
+        shrink_row(&name, &since_parent(blocks));
+    }
+    for levels in [2, 4, 8] {
+        let name = format!("{levels} waiting below far-locked rivals, and such a chain");
+        shrink_row(&name, &waiting(levels, 8));
     }
 }

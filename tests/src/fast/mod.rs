@@ -15,6 +15,9 @@ mod step;
 pub use calls::{check, list, report, run};
 pub use form::{ByValue, Lent};
 
+/// The bytes of its position.
+pub const POSITION: usize = size_of::<position::Position>();
+
 /// The most transactions of a sheet.
 const MOST: usize = 32;
 /// "2147483647 (never)".
