@@ -16,7 +16,7 @@ mod works;
 
 fn main() -> std::io::Result<()> {
     println!(
-        "The position of (b) and (c) has {} bytes, the library's 392.",
+        "The position has {} bytes, in the library as in (b) and (c).",
         swap_tests::fast::POSITION
     );
     calendar::rates()?;

@@ -3,6 +3,7 @@
 use super::contract::{Contract, Lock, Transaction};
 use super::{bits, MOST, NEVER, NUMBERS};
 
+/// As many bytes as the library's, so that a copy of it is as large.
 pub struct Position {
     /// The transactions in the pool, in the block being filled, and confirmed.
     pub pool: u32,
@@ -13,7 +14,7 @@ pub struct Position {
     pub block_to: [u8; MOST],
     pub confirmed_to: [u8; MOST],
     /// The block of a confirmation, 0 while there is none.
-    pub height: [u32; MOST],
+    pub height: [u16; MOST],
     /// The signatures shared for each destination.
     pub shared: [[u8; NUMBERS]; MOST],
     /// The signatures shared of any transaction.
@@ -24,6 +25,8 @@ pub struct Position {
     pub held: [u8; NUMBERS],
     /// The blocks mined.
     pub mined: u32,
+    /// What the fields above leave of the library's size.
+    _room: [u8; 16],
 }
 
 impl Position {
@@ -42,6 +45,7 @@ impl Position {
             made: [[0; NUMBERS]; NUMBERS],
             held: contract.held,
             mined: 0,
+            _room: [0; 16],
         }
     }
 
@@ -66,7 +70,7 @@ impl Position {
             Lock::Absolute(blocks) => blocks,
             Lock::SinceParent(blocks) => match self.height[x.parent] {
                 0 => NEVER,
-                block => block + blocks,
+                block => u32::from(block) + blocks,
             },
         }
     }

@@ -35,7 +35,7 @@ fn write_row(contract: &Contract, position: &Position, struck: u32, t: usize, ro
     } else {
         255
     };
-    row[2..6].copy_from_slice(&position.height[t].to_le_bytes());
+    row[2..6].copy_from_slice(&u32::from(position.height[t]).to_le_bytes());
     row[6..10].copy_from_slice(&position.lock_height(x).to_le_bytes());
     row[10..14].copy_from_slice(&position.deadline(contract, x).to_le_bytes());
 }

@@ -227,7 +227,7 @@ fn mine(contract: &Contract, position: &mut Position) {
     for t in bits(position.block) {
         let to = position.block_to[t];
         position.confirmed_to[t] = to;
-        position.height[t] = position.mined;
+        position.height[t] = position.mined as u16;
         position.share(t, to, contract.transactions[t].exposes);
     }
     position.confirmed |= position.block;
