@@ -120,7 +120,7 @@ pub fn growth() {
     for count in [2, 8, 32] {
         run_row(&format!("chain of {count}"), &works::chain(count, 1_024));
         run_row(
-            &format!("{} rivals", count - 1),
+            &format!("an opening and its children, {count} in all"),
             &works::rivals(count, 1_024),
         );
     }
