@@ -8,14 +8,16 @@ use lists::list;
 use outages::outage;
 use pages::page;
 use reports::report;
-use runs::journal::ran;
+use runs::run;
 use sheet::check::sheet_refusal;
 use shrink::shrink;
 use timelocks::timelocks;
+ghost use Prim.Native.Nat.{_*_, _%_};
 ghost use mathlib.Core.Path.{_≡_};
+ghost use lib.ListN.{drop};
 ghost use Rattle.sheet.specs.Check.{sheetRefusal};
 ghost use Rattle.position.specs.Play.{run};
-ghost use Rattle.position.specs.Answers.{packed, listAnswer};
+ghost use Rattle.position.specs.Answers.{packed, runPart, listAnswer};
 ghost use Rattle.dated.specs.Report.{reportAnswer};
 ghost use Rattle.outages.specs.Answer.{outageAnswer};
 ghost use Rattle.pages.specs.Page.{pageAnswer};
@@ -35,13 +37,17 @@ pub extern "C" fn swap_check(sheet: &[u8]) -> u32
     sheet_refusal(sheet) * 65536
 }
 
-// Runs a journal: refusal × 65,536 + the steps accepted.
+// Runs a journal: refusal × 65,536 + the steps accepted. "the count telling where the part starts": the rest of the journal is what follows
+// so many steps of four bytes.
 #[no_mangle]
 pub extern "C" fn swap_run(sheet: &[u8], setup: &[u8], journal: &[u8]) -> u32
     ensures { λ r. ⌜ r ≡ packed (run (now (sheet .entry)) (now (setup .entry)) (now (journal .entry)) .refusal) (run (now (sheet .entry)) (now (setup .entry)) (now (journal .entry)) .accepted) ⌝ }
+    ensures { λ r. ⌜ runPart (now (sheet .entry)) (now (setup .entry)) (now (journal .entry)) ≡ drop (4 * (r % 65536)) (now (journal .entry)) ⌝ }
 {
-    let ran = ran(sheet, setup, journal);
-    ran.refusal * 65536 + ran.accepted
+    let mut refusal: u32 = 0;
+    let mut accepted: u32 = 0;
+    let rest = run(sheet, setup, journal, &mut refusal, &mut accepted);
+    refusal * 65536 + accepted
 }
 
 // Lists the open steps after a journal: refusal × 65,536 + the steps written.
