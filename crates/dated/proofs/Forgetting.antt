@@ -15,8 +15,7 @@ use Rattle.position.specs.Position.{start}
 use Rattle.position.specs.Play.{FourBytes, journalSteps, step, runFrom, callTests, run}
 use Rattle.position.proofs.StepCases.{refused-same}
 use Rattle.dated.specs.declared.Dated.{Dated}
-use Rattle.dated.specs.declared.DatedRun.{DatedRun}
-use Rattle.dated.specs.Dated.{AfterStep, unseen, datedStart, datedStep, datedRunFrom, datedRun, forgotten}
+use Rattle.dated.specs.Dated.{AfterStep, unseen, datedStart, datedStep, datedRunFrom, datedRun, forgotten, DatedRun}
 use Rattle.dated.proofs.Stepping.{step-taken, step-refused, run-next, run-stops}
 
 -- the number and the position of a step

@@ -16,7 +16,6 @@ use Rattle.position.specs.declared.Ran.{Ran}
 use Rattle.position.specs.Position.{slotCount, start}
 use Rattle.position.specs.Play.{FourBytes, journalSteps, step, callTests}
 use Rattle.dated.specs.declared.Dated.{Dated}
-use Rattle.dated.specs.declared.DatedRun.{DatedRun}
 use Rattle.dated.specs.Opens.{opens}
 
 -- "The position keeps, for each transaction, the count of blocks mined when it was first open": that of t, "2147483647 where never open"
@@ -52,6 +51,12 @@ datedStep s u d b =
       | true ↦ record { refusal = accepted; dated = record { position = r .position; opened = noted s u (r .position) (d .opened) } }
       | false ↦ record { refusal = r .refusal; dated = d }
     ]
+
+-- "run a journal": its number, the steps accepted before it, and position and counts after these
+pub record DatedRun : Type 0 where
+  pub refusal : ℕ
+  pub accepted : ℕ
+  pub dated : Dated
 
 -- the steps of a row up to the first refused one, after c accepted ones
 unfoldable pub datedRunFrom : List ℕ → List ℕ → List FourBytes → ℕ → Dated → DatedRun

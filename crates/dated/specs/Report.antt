@@ -4,8 +4,7 @@ use Prim.Native.Nat.{ℕ}
 use mathlib.Core.List.{List}
 use Rattle.position.specs.Report.{reportBytes}
 use Rattle.position.specs.Answers.{Written, passOn}
-use Rattle.dated.specs.declared.DatedRun.{DatedRun}
-use Rattle.dated.specs.Dated.{datedRun, forgotten}
+use Rattle.dated.specs.Dated.{datedRun, forgotten, DatedRun}
 
 -- the rows of a run's position and counts
 unfoldable pub rowsOf : List ℕ → List ℕ → DatedRun → List ℕ

@@ -26,9 +26,8 @@ use Rattle.moves.proofs.AfterShares.{share-confirmed, give-confirmed}
 use Rattle.moves.proofs.AfterSends.{send-confirmed, hand-confirmed, include-confirmed}
 use Rattle.moves.proofs.Wellformeds.{wellformed-step}
 use Rattle.dated.specs.declared.Dated.{Dated}
-use Rattle.dated.specs.declared.DatedRun.{DatedRun}
 use Rattle.dated.specs.Opens.{opens}
-use Rattle.dated.specs.Dated.{countOf, firstOpen, noted, AfterStep, datedStep, datedRunFrom}
+use Rattle.dated.specs.Dated.{countOf, firstOpen, noted, AfterStep, datedStep, datedRunFrom, DatedRun}
 use Rattle.dated.proofs.Notes.{noted-length, noted-at}
 use Rattle.dated.proofs.Stepping.{step-taken, step-refused, run-next, run-stops}
 use Rattle.datedclaims.specs.Claim.{along, Cause, never-open, open-in, Least}

@@ -16,8 +16,7 @@ use Rattle.sheet.specs.LockHeight.{never}
 use Rattle.position.specs.declared.Position.{Position}
 use Rattle.position.specs.Play.{FourBytes, step}
 use Rattle.dated.specs.declared.Dated.{Dated}
-use Rattle.dated.specs.declared.DatedRun.{DatedRun}
-use Rattle.dated.specs.Dated.{countOf, firstOpen, noted, AfterStep, datedStep, datedRunFrom}
+use Rattle.dated.specs.Dated.{countOf, firstOpen, noted, AfterStep, datedStep, datedRunFrom, DatedRun}
 use Rattle.dated.proofs.Notes.{noted-length, noted-at}
 use Rattle.dated.proofs.Stepping.{step-taken, step-refused, run-next, run-stops}
 

@@ -13,8 +13,7 @@ use Rattle.position.specs.Play.{FourBytes, journalSteps, step}
 use Rattle.position.specs.Open.{openSteps}
 use Rattle.moves.proofs.Wellformeds.{wellformed-start}
 use Rattle.runs.proofs.Calls.{call-fit}
-use Rattle.dated.specs.declared.DatedRun.{DatedRun}
-use Rattle.dated.specs.Dated.{countOf, unseen, datedStart}
+use Rattle.dated.specs.Dated.{countOf, unseen, datedStart, DatedRun}
 use Rattle.dated.proofs.Forgetting.{step-number, step-position, forgotten-from, forgotten-run, dated-allowed}
 use Rattle.datedclaims.specs.Claim.{CountsDecideNothing, ModelBesideCounts, FirstOpen, CountsStay, along, Least}
 use Rattle.datedclaims.proofs.Staying.{step-stays, row-stays}

@@ -1,6 +1,7 @@
 // A list of steps played from the empty journal's position, refused ones passed over.
 use position::Position;
 use position::journal;
+use runs::journal::step_at;
 ghost use Prim.Native.Nat.{_+_, _≤_};
 ghost use mathlib.Core.Path.{_≡_};
 ghost use lib.Dec.{eqb};
@@ -36,7 +37,7 @@ fn play_one(played: Played, sheet: &[u8], setup: &[u8], steps: &[u8], i: usize) 
     ensures { λ r. ⌜ r ≡ playedOne (now (sheet .entry)) (now (setup .entry)) played (stepAt (now (steps .entry)) i) ⌝ }
 {
     let position = played.position;
-    let stepped = journal::step_at(position, sheet, setup, steps, i);
+    let stepped = step_at(position, sheet, setup, steps, i);
     let next = stepped.position;
     let accepted = played.accepted + one_if_taken(stepped.refusal);
     Played {

@@ -1,6 +1,7 @@
 // The accepted steps of a list, written.
 use output::open;
 use position::journal;
+use runs::journal::step_at;
 ghost use Prim.Native.Nat.{_+_, _≤_};
 ghost use mathlib.Core.Path.{_≡_};
 ghost use lib.ListN.{length};
@@ -39,7 +40,7 @@ pub fn write_accepted(sheet: &[u8], setup: &[u8], steps: &[u8], out: &mut [u8])
     let mut at: usize = 0;
     let mut k: usize = 0;
     while k < n {
-        let stepped = journal::step_at(here, sheet, setup, steps, 4 * k);
+        let stepped = step_at(here, sheet, setup, steps, 4 * k);
         here = stepped.position;
         let wrote = write_taken(stepped.refusal, steps, 4 * k, &mut out[at..]);
         at += wrote;

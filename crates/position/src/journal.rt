@@ -1,17 +1,12 @@
-// The position that a journal starts from, and a step of its bytes.
+// The position that a journal starts from, and its view.
 use crate::Position;
-use crate::Stepped;
 use slots::Slot;
 use slots::limited;
 use steps::View;
-ghost use Prim.Native.Nat.{_+_, _≤_};
 ghost use mathlib.Core.Path.{_≡_};
-ghost use lib.ListN.{length};
 ghost use Rattle.sheet.specs.Field.{count};
-ghost use Rattle.sheet.specs.Checked.{Checked, Fit};
+ghost use Rattle.sheet.specs.Checked.{Checked};
 ghost use Rattle.position.specs.Forms.View.{viewBelow};
-ghost use Rattle.position.specs.Forms.Journal.{stepAt};
-ghost use Rattle.position.specs.Play.{step};
 ghost use Rattle.position.specs.Position.{start};
 
 // The empty journal's position: the masks held at the start, and nothing else.
@@ -57,40 +52,4 @@ pub fn start_view(sheet: &[u8]) -> View
         shared: 0,
         keys,
     }
-}
-
-// The step that starts at byte i of any bytes, where the view is the position's: the refusal, and the position after it, whole,
-// accepted or not.
-pub fn step_seen(
-    position: Position,
-    sheet: &[u8],
-    setup: &[u8],
-    view: View,
-    journal: &[u8],
-    i: usize,
-) -> Stepped
-    requires { ⌜ Fit (now sheet) (now setup) ⌝ }
-    requires { ⌜ view ≡ viewBelow (now sheet) (count (now sheet)) position ⌝ }
-    requires { ⌜ i + 4 ≤ length (now journal) ⌝ }
-    ensures { λ r. ⌜ r ≡ step (now (sheet .entry)) (now (setup .entry)) position (stepAt (now (journal .entry)) i) ⌝ }
-{
-    position.step(
-        sheet,
-        setup,
-        view,
-        journal[i],
-        journal[i + 1],
-        journal[i + 2],
-        journal[i + 3],
-    )
-}
-
-// The same, with the view made here.
-pub fn step_at(position: Position, sheet: &[u8], setup: &[u8], journal: &[u8], i: usize) -> Stepped
-    requires { ⌜ Fit (now sheet) (now setup) ⌝ }
-    requires { ⌜ i + 4 ≤ length (now journal) ⌝ }
-    ensures { λ r. ⌜ r ≡ step (now (sheet .entry)) (now (setup .entry)) position (stepAt (now (journal .entry)) i) ⌝ }
-{
-    let view = position.view(sheet);
-    step_seen(position, sheet, setup, view, journal, i)
 }

@@ -1,4 +1,4 @@
-// The steps: one method for each kind, one for any step, and one for any four bytes.
+// The steps: one method for each kind.
 use crate::Position;
 use crate::Stepped;
 use crate::conduct::is_early;
@@ -8,12 +8,9 @@ use crate::effect;
 use crate::outcome;
 use sheet::refusal;
 use slots::Destination;
-use slots::Step;
 use slots::party;
-use steps::Decoded;
 use steps::View;
 use steps::conduct;
-use steps::decode;
 use steps::mining;
 use steps::parent;
 use steps::sending;
@@ -24,11 +21,10 @@ ghost use mathlib.Core.Bool.{true};
 ghost use Rattle.sheet.specs.Field.{count};
 ghost use Rattle.sheet.specs.Checked.{Fit};
 ghost use Rattle.slots.specs.declared.Step.the-variants.{Share, Give, SendToPool, HandToMiner, Include, Mine, Bump};
-ghost use Rattle.steps.specs.Decode.{fieldsRight};
 ghost use Rattle.steps.specs.Names.{lockA, lockB};
 ghost use Rattle.position.specs.Position.{slot};
 ghost use Rattle.position.specs.Forms.FirstShares.{isEarly, shareable};
-ghost use Rattle.position.specs.Play.{takeStep, step};
+ghost use Rattle.position.specs.Play.{takeStep};
 ghost use Rattle.position.specs.Forms.View.{viewBelow};
 
 impl Position {
@@ -302,48 +298,6 @@ impl Position {
         Stepped {
             refusal: refusal::ACCEPTED,
             position,
-        }
-    }
-
-    // Any step whose fields are right.
-    pub fn take(self, sheet: &[u8], setup: &[u8], view: View, x: Step) -> Stepped
-        requires { ⌜ Fit (now sheet) (now setup) ⌝ }
-        requires { ⌜ view ≡ viewBelow (now sheet) (count (now sheet)) self ⌝ }
-        requires { ⌜ fieldsRight (now sheet) (now setup) x ≡ true ⌝ }
-        ensures { λ r. ⌜ r ≡ takeStep (now (sheet .entry)) (now (setup .entry)) self x ⌝ }
-    {
-        match x {
-            Step::Share(party, t, to) => self.share(sheet, setup, view, party, t, to),
-            Step::Give(party, i, to) => self.give(sheet, setup, view, party, i, to),
-            Step::SendToPool(party, t, to) => self.send_to_pool(sheet, setup, view, party, t, to),
-            Step::HandToMiner(party, t, to) => self.hand_to_miner(sheet, setup, view, party, t, to),
-            Step::Include(party, t, to) => self.include(sheet, setup, view, party, t, to),
-            Step::Mine(party, t, to) => self.mine(sheet, setup, view, party, t, to),
-            Step::Bump(party, t, to) => self.bump(sheet, setup, view, party, t, to),
-        }
-    }
-
-    // Any four bytes as a step: the refusal, and the position after it, whole, accepted or not.
-    pub fn step(
-        self,
-        sheet: &[u8],
-        setup: &[u8],
-        view: View,
-        kind: u8,
-        party: u8,
-        t: u8,
-        destination: u8,
-    ) -> Stepped
-        requires { ⌜ Fit (now sheet) (now setup) ⌝ }
-        requires { ⌜ view ≡ viewBelow (now sheet) (count (now sheet)) self ⌝ }
-        ensures { λ r. ⌜ r ≡ step (now (sheet .entry)) (now (setup .entry)) self (record { kind = kind; party = party; transaction = t; destination = destination }) ⌝ }
-    {
-        match decode::decode(sheet, setup, kind, party, t, destination) {
-            Decoded::Read(x) => self.take(sheet, setup, view, x),
-            Decoded::Refused => Stepped {
-                refusal: refusal::STEP_FIELD,
-                position: self,
-            },
         }
     }
 }

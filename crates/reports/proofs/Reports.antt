@@ -15,8 +15,7 @@ use Rattle.position.specs.Play.{callTests, run}
 use Rattle.position.specs.Report.{reportBytes}
 use Rattle.position.specs.Answers.{Written, fitted}
 use Rattle.position.proofs.Passing.{passed-on, not-passed-on, written, not-written}
-use Rattle.dated.specs.declared.DatedRun.{DatedRun}
-use Rattle.dated.specs.Dated.{unseen, datedRun, forgotten}
+use Rattle.dated.specs.Dated.{unseen, datedRun, forgotten, DatedRun}
 use Rattle.dated.specs.Report.{reportAnswer}
 use Rattle.dated.proofs.Forgetting.{forgotten-run}
 use Rattle.dated.proofs.ReportAnswers.{countsAfter, rowsAfter, rows-length, report-as}

@@ -1,10 +1,9 @@
 // The report of the position that a journal leads to.
 use readings::reported::ROW_WIDTH;
+use runs::row::run_row;
 use sheet::refusal;
 ghost use mathlib.Core.Path.{_≡_};
 ghost use Rattle.dated.specs.Report.{reportAnswer};
-
-mod journal;
 
 // Reports: the refusal; where there is none, the rows stand at the front of the buffer.
 pub fn report(sheet: &[u8], setup: &[u8], journal: &[u8], out: &mut [u8]) -> u32
@@ -19,8 +18,11 @@ pub fn report(sheet: &[u8], setup: &[u8], journal: &[u8], out: &mut [u8]) -> u32
     if number != 0 {
         return number;
     }
-    let ran = journal::run_from(dated::start(sheet, setup), sheet, setup, journal);
-    let run = ran.run;
+    let from = dated::start(sheet, setup);
+    let dated = from.dated;
+    let start = dated.position;
+    let counts = dated.opened;
+    let run = run_row(start, counts, true, sheet, setup, from.view, journal);
     if run.refusal != 0 {
         return run.refusal;
     }
@@ -28,9 +30,8 @@ pub fn report(sheet: &[u8], setup: &[u8], journal: &[u8], out: &mut [u8]) -> u32
     if out.len() < ROW_WIDTH * n {
         return refusal::BUFFER_SHORT;
     }
-    let dated = run.dated;
-    let position = dated.position;
-    let opened = dated.opened;
-    queries::report::write_report(position, ran.view, opened, sheet, setup, out);
+    let position = run.position;
+    let opened = run.opened;
+    queries::report::write_report(position, run.view, opened, sheet, setup, out);
     refusal::ACCEPTED
 }

@@ -1,10 +1,10 @@
 -- The steps of any bytes, group by group of four: the next one, and none where fewer than four bytes are left.
 -- Assumes nothing.
-use Prim.Native.Nat.{ℕ, suc, _+_, _*_, _≤_, _<_}
+use Prim.Native.Nat.{ℕ, suc, _+_, _-_, _*_, _≤_, _<_}
 use native.Mathlib.Omega.{arith}
 use mathlib.Core.Path.{_≡_, refl, ap, _∙_}
 use mathlib.Core.List.{List, [], _∷_, _++_}
-use lib.ListN.{length, drop, length-drop}
+use lib.ListN.{length, take, drop, length-drop}
 use lib.Seq.{drop-cons}
 use Rattle.sheet.specs.Field.{byte}
 use Rattle.position.specs.Play.{FourBytes, journalSteps, journalBytes}
@@ -57,3 +57,11 @@ groups-next j k h = rw (four-bytes j (4 * k) h, further k)
 pub groups-none : (j : List ℕ) (k : ℕ) → length j < 4 * k + 4 → groupsFrom j k ≡ []
 unfolding groupsFrom
 groups-none j k h = few-bytes (drop (4 * k) j) (omega (arith, length-drop (4 * k) j))
+
+-- the part of one step
+four : (i k : ℕ) → k ≡ i + 4 → k - i ≡ 4
+four i k e = omega (arith, e)
+
+pub part-step : (j : List ℕ) (i k : ℕ) → i + 4 ≤ length j → k ≡ i + 4 → journalSteps (take (k - i) (drop i j)) ≡ stepAt j i ∷ []
+unfolding journalSteps stepAt
+part-step j i k h e = rw (four i k e, four-bytes j i h)

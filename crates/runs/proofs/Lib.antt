@@ -1,4 +1,5 @@
 pub mod Groups
 pub mod Calls
 pub mod Runs
+pub mod Rows
 pub mod Bounds

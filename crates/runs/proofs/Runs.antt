@@ -1,23 +1,24 @@
--- A journal run step by step: what is left to do from each step on.
+-- A journal run: a row of steps by its first, behind another row, of one step or none; the checks before any step.
 -- Assumes nothing.
-use Prim.Native.Nat.{ℕ, _+_, _*_, _≤_, _<_}
-use mathlib.Core.Path.{_≡_, refl, sym, _∙_}
+use Prim.Native.Nat.{ℕ, _+_, _-_, _≤_}
+use native.Mathlib.Omega.{arith}
+use mathlib.Core.Path.{_≡_, refl, sym, ap, _∙_}
 use mathlib.Core.Bool.{true, false}
 use mathlib.Core.List.{List, [], _∷_, _++_}
 use lib.Dec.{eqb}
-use lib.ListN.{length}
+use lib.ListN.{length, take, drop}
 use borrow.Author.Tests.{eq-eqb, ne-eqb, eqb-true, eqb-false}
 use Rattle.laws.specs.Booleans.{split}
 use Rattle.laws.specs.Failing.{firstFailing}
 use Rattle.sheet.specs.Refusal.{accepted}
 use Rattle.sheet.specs.Checked.{Fit}
 use Rattle.position.specs.declared.Position.{Position}
-use Rattle.position.specs.declared.Stepped.{Stepped}
 use Rattle.position.specs.declared.Ran.{Ran}
 use Rattle.position.specs.Position.{start}
 use Rattle.position.specs.Play.{FourBytes, journalSteps, step, runFrom, callTests, run}
 use Rattle.position.specs.Forms.Journal.{stepAt}
-use Rattle.runs.proofs.Groups.{groupsFrom, groups-all, groups-next, groups-none}
+use Rattle.position.proofs.StepCases.{refused-same}
+use Rattle.runs.proofs.Groups.{groups-all, groups-none, part-step}
 use Rattle.runs.proofs.Calls.{call-fit}
 
 -- a row of steps, by its first
@@ -45,36 +46,22 @@ module _ (s u : List ℕ) where
       run-next b (bs ++ cs) c p e ∙ rw n (row-append bs cs (c + 1) (step s u p b .position) (rw n at h)))
       (λ e. absurd (eqb-false (step s u p b .refusal) accepted e (rw (run-stops b bs c p e) at h)))
 
+  -- a row of one step
+  pub one-step : (b : FourBytes) (p : Position) → record { refusal = runFrom s u (b ∷ []) 0 p .refusal; position = runFrom s u (b ∷ []) 0 p .position } ≡ step s u p b
+  one-step b p =
+      split (eqb (step s u p b .refusal) accepted)
+      (λ e. let z = eqb-true (step s u p b .refusal) accepted e in rw (run-next b [] 0 p e, run-ends 1 (step s u p b .position), ← z) refl)
+      (λ e. let z = refused-same s u p b e in rw (run-stops b [] 0 p e) (ap (λ (q : Position). record { refusal = step s u p b .refusal; position = q }) (sym z)))
+
 module _ (s u j : List ℕ) where
-  -- what is left to do of the journal: its steps from step k on, after k accepted ones
-  unfoldable pub leftFrom : ℕ → Position → Ran
-  leftFrom k p = runFrom s u (groupsFrom j k) k p
+  -- the step that starts at place i, run as a journal of one step, where r is what the code found
+  pub ran-step : (i k : ℕ) (p : Position) (r : Ran) → i + 4 ≤ length j → k ≡ i + 4 → r ≡ runFrom s u (journalSteps (take (k - i) (drop i j))) 0 p
+      → record { refusal = r .refusal; position = r .position } ≡ step s u p (stepAt j i)
+  ran-step i k p r h e f = rw (f, part-step j i k h e) (one-step s u (stepAt j i) p)
 
-  pub left-all : (p : Position) → leftFrom 0 p ≡ runFrom s u (journalSteps j) 0 p
-  unfolding leftFrom
-  left-all p = rw (groups-all j)
-
-  -- a turn, where r is what the code got from step k and w the whole: it goes on, or it stops
-  pub left-on : (k : ℕ) (p : Position) (r : Stepped) (w : Ran) → leftFrom k p ≡ w → 4 * k + 4 ≤ length j → r ≡ step s u p (stepAt j (4 * k)) → r .refusal ≡ 0
-      → leftFrom (k + 1) (r .position) ≡ w
-  unfolding leftFrom
-  left-on k p r w a h e z =
-      let b = stepAt j (4 * k) in
-      let o = rw (groups-next j k h) at a in
-      rw e (sym (run-next s u b (groupsFrom j (k + 1)) k p (eq-eqb (step s u p b .refusal) 0 (rw (← e) z))) ∙ o)
-
-  pub left-stopped : (k : ℕ) (p : Position) (r : Stepped) (w : Ran) → leftFrom k p ≡ w → 4 * k + 4 ≤ length j → r ≡ step s u p (stepAt j (4 * k)) → (r .refusal ≡ 0 → ⊥)
-      → record { refusal = r .refusal; accepted = k; position = p } ≡ w
-  unfolding leftFrom
-  left-stopped k p r w a h e z =
-      let b = stepAt j (4 * k) in
-      let o = rw (groups-next j k h) at a in
-      rw e (sym (run-stops s u b (groupsFrom j (k + 1)) k p (ne-eqb (step s u p b .refusal) 0 (rw (← e) z))) ∙ o)
-
-  -- no step is left
-  pub left-ended : (k : ℕ) (p : Position) (w : Ran) → leftFrom k p ≡ w → length j < 4 * k + 4 → record { refusal = 0; accepted = k; position = p } ≡ w
-  unfolding leftFrom
-  left-ended k p w a h = let o = rw (groups-none j k h) at a in sym (run-ends s u k p) ∙ o
+  -- a journal without a step
+  pub run-none : (p : Position) → length j ≡ 0 → record { refusal = 0; accepted = 0; position = p } ≡ runFrom s u (journalSteps j) 0 p
+  run-none p h = rw (← (groups-all j), groups-none j 0 (omega (arith, h))) (sym (run-ends s u 0 p))
 
   -- a call whose number is 0 runs the journal; else its number is the answer
   pub run-allowed : firstFailing (callTests s u j) ≡ 0 → run s u j ≡ runFrom s u (journalSteps j) 0 (start s)

@@ -4,6 +4,7 @@ ghost use Rattle.position.specs.Play.{run};
 ghost use Rattle.position.specs.Answers.{runPart};
 
 pub mod journal;
+pub mod row;
 
 // Runs a journal: the rest of it from the refused step on, empty where none is refused; the refusal; the steps accepted.
 pub fn run<'a>(

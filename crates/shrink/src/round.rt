@@ -2,8 +2,8 @@
 use output::open::write_step;
 use position::Position;
 use position::journal::start;
-use position::journal::step_at;
 use runs::journal::run_from;
+use runs::journal::step_at;
 ghost use Prim.Native.Nat.{_+_, _≤_};
 ghost use mathlib.Core.Path.{_≡_};
 ghost use mathlib.Core.Bool.{true};

@@ -12,11 +12,8 @@ sheet-refusal-requires c κs = search needs
 start-requires : tie.Need-start-requires
 start-requires c κs = search needs
 
-ran-to-requires : tie.Need-ran-to-requires
-ran-to-requires c κs = search needs
-
 returns : tie.Need-returns
-returns c = c .ran-to .ensures ∙ ran-refused _ _ _ _ _ (by-sheet _ _ _ _ (c .before .before .before .sheet-refusal .ensures) (c .before .before .if1 .taken)) (c .before .before .if1 .taken) (c .before .start .ensures)
+returns c = c .without-step .ensures ∙ ran-refused _ _ _ _ _ (by-sheet _ _ _ _ (c .before .before .before .sheet-refusal .ensures) (c .before .before .if1 .taken)) (c .before .before .if1 .taken) (c .before .start .ensures)
 
 ran-checked-requires : tie.Need-ran-checked-requires
 ran-checked-requires c κs = sym (c .before .sheet-refusal .ensures) ∙ c .if1 .left
@@ -25,4 +22,4 @@ returns-2 : tie.Need-returns-2
 returns-2 c = c .ran-checked .ensures
 
 pub ran-spec : {M : Type 1} → statement M
-ran-spec = tie.close (tie.spec sheet-refusal-requires start-requires ran-to-requires returns ran-checked-requires returns-2)
+ran-spec = tie.close (tie.spec sheet-refusal-requires start-requires (λ c κs. search needs) returns ran-checked-requires returns-2)

@@ -1,8 +1,7 @@
 -- Refused before any step, or run.
-use native.Mathlib.Omega.{arith}
 use mathlib.Core.Path.{sym, _∙_}
 use Rattle.runs.proofs.Calls.{call-fit, journal-whole}
-use Rattle.runs.proofs.Runs.{left-all, left-ended, ran-refused, ran-allowed}
+use Rattle.runs.proofs.Runs.{run-none, ran-refused, ran-allowed}
 use borrow.Author.Needs.{needs}
 use Rattle.runs.proofs.journal.ran_checked.Statement.{statement}
 use Rattle.runs.proofs.journal.ran_checked.Tie as tie
@@ -13,17 +12,11 @@ call-refusal-requires c κs = search needs
 start-requires : tie.Need-start-requires
 start-requires c κs = search needs
 
-ran-to-requires : tie.Need-ran-to-requires
-ran-to-requires c κs = search needs
-
 returns : tie.Need-returns
-returns c = c .ran-to .ensures ∙ ran-refused _ _ _ _ _ (c .before .before .before .call-refusal .ensures) (c .before .if1 .taken) (c .before .before .start .ensures)
-
-ran-to-requires-2 : tie.Need-ran-to-requires-2
-ran-to-requires-2 c κs = search needs
+returns c = c .without-step .ensures ∙ ran-refused _ _ _ _ _ (c .before .before .before .call-refusal .ensures) (c .before .if1 .taken) (c .before .before .start .ensures)
 
 returns-2 : tie.Need-returns-2
-returns-2 c = ran-allowed _ _ _ _ _ _ (c .before .before .before .before .call-refusal .ensures) (c .before .before .if1 .left) (c .before .before .before .start .ensures) (c .ran-to2 .ensures ∙ left-ended _ _ _ 0 _ _ (left-all _ _ _ _) (omega (arith, c .before .if2 .taken)))
+returns-2 c = ran-allowed _ _ _ _ _ _ (c .before .before .before .before .call-refusal .ensures) (c .before .before .if1 .left) (c .before .before .before .start .ensures) (c .without-step2 .ensures ∙ run-none _ _ _ _ (c .before .if2 .taken))
 
 start-view-requires : tie.Need-start-view-requires
 start-view-requires c κs = let h = sym (c .before .before .before .call-refusal .ensures) ∙ c .before .if1 .left in call-fit _ _ _ h .checked
@@ -37,4 +30,4 @@ returns-3 : tie.Need-returns-3
 returns-3 c = ran-allowed _ _ _ _ _ _ (c .before .before .before .before .before .call-refusal .ensures) (c .before .before .before .if1 .left) (c .before .before .before .before .start .ensures) (c .run-seen .ensures)
 
 pub ran-checked-spec : {M : Type 1} → statement M
-ran-checked-spec = tie.close (tie.spec call-refusal-requires start-requires ran-to-requires returns ran-to-requires-2 returns-2 start-view-requires run-seen-requires returns-3)
+ran-checked-spec = tie.close (tie.spec call-refusal-requires start-requires (λ c κs. search needs) returns (λ c κs. search needs) returns-2 start-view-requires run-seen-requires returns-3)
