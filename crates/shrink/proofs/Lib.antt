@@ -3,6 +3,7 @@ pub mod Rounding
 pub mod Positions
 pub mod Trying
 pub mod Writing
+pub mod Twins
 pub mod Testing
 pub mod Refused
 pub mod Repeating

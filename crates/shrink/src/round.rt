@@ -4,9 +4,9 @@ use position::Position;
 use position::journal::start;
 use runs::journal::run_from;
 use runs::journal::step_at;
-ghost use Prim.Native.Nat.{_+_, _≤_};
+ghost use Prim.Native.Nat.{_+_, _-_, _≤_};
 ghost use mathlib.Core.Path.{_≡_};
-ghost use mathlib.Core.Bool.{true};
+ghost use mathlib.Core.Bool.{true, false, not, _&&_};
 ghost use lib.ListN.{length};
 ghost use Rattle.laws.specs.Over.{over};
 ghost use Rattle.sheet.specs.Checked.{Fit};
@@ -14,15 +14,47 @@ ghost use Rattle.position.specs.Position.{start};
 ghost use Rattle.position.specs.Play.{journalSteps, journalBytes};
 ghost use Rattle.position.specs.Forms.Journal.{stepAt};
 ghost use Rattle.shrink.specs.Shrink.{stillRefused, round};
-ghost use Rattle.shrink.specs.Forms.Round.{goesAt, keptStep, positionPast};
+ghost use Rattle.shrink.specs.Forms.Round.{sameStep, triedAt, keptStep, positionPast};
+
+// Whether the step at byte i has the bytes of the one before it, which could not go: then dropping either gives the same row.
+fn again(went: bool, steps: &[u8], i: usize) -> bool
+    requires { ⌜ i + 4 ≤ length (now steps) ⌝ }
+    requires { ⌜ (went ≡ false → 4 ≤ i) ⌝ }
+    ensures { λ r. ⌜ r ≡ (not went && sameStep (stepAt (now (steps .entry)) (i - 4)) (stepAt (now (steps .entry)) i)) ⌝ }
+{
+    if went {
+        return false;
+    }
+    let before = i - 4;
+    if steps[before] != steps[i] {
+        return false;
+    }
+    if steps[before + 1] != steps[i + 1] {
+        return false;
+    }
+    if steps[before + 2] != steps[i + 2] {
+        return false;
+    }
+    steps[before + 3] == steps[i + 3]
+}
 
 // Whether the step before these can go: they run up to the last one, which gets the number. The run ends at the first step that is
-// refused.
-fn goes(position: Position, sheet: &[u8], setup: &[u8], number: u32, after: &[u8]) -> bool
+// refused. A step that is the one before it again is not tried.
+fn goes(
+    twin: bool,
+    position: Position,
+    sheet: &[u8],
+    setup: &[u8],
+    number: u32,
+    after: &[u8],
+) -> bool
     requires { ⌜ Fit (now sheet) (now setup) ⌝ }
     requires { ⌜ length (now after) ≤ 65536 ⌝ }
-    ensures { λ r. ⌜ r ≡ goesAt (now (sheet .entry)) (now (setup .entry)) number position (journalSteps (now (after .entry))) ⌝ }
+    ensures { λ r. ⌜ r ≡ triedAt (now (sheet .entry)) (now (setup .entry)) number twin position (journalSteps (now (after .entry))) ⌝ }
 {
+    if twin {
+        return false;
+    }
     let n = after.len() / 4;
     if n == 0 {
         return false;
@@ -83,12 +115,15 @@ pub fn write_round(sheet: &[u8], setup: &[u8], number: u32, steps: &[u8], out: &
     let n = steps.len() / 4;
     let mut here = start(sheet);
     let mut at: usize = 0;
+    let mut went = true;
     let mut k: usize = 0;
     while k < n {
-        let going = goes(here, sheet, setup, number, &steps[4 * k + 4..]);
+        let twin = again(went, steps, 4 * k);
+        let going = goes(twin, here, sheet, setup, number, &steps[4 * k + 4..]);
         let wrote = write_kept(going, steps, 4 * k, &mut out[at..]);
         here = past(going, here, sheet, setup, steps, 4 * k);
         at += wrote;
+        went = going;
         k += 1;
     }
     at / 4

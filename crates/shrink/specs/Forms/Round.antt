@@ -2,9 +2,9 @@
 -- Assumes nothing.
 use Prim.Native.Nat.{ℕ, _*_}
 use mathlib.Core.Path.{_≡_}
-use mathlib.Core.Bool.{Bool, _&&_}
+use mathlib.Core.Bool.{Bool, false, _&&_}
 use mathlib.Core.List.{List, [], _∷_, _++_}
-use lib.Dec.{ltb}
+use lib.Dec.{eqb, ltb}
 use lib.ListN.{length, take}
 use Rattle.laws.specs.Booleans.{pick}
 use Rattle.position.specs.declared.Position.{Position}
@@ -14,6 +14,14 @@ use Rattle.shrink.specs.Shrink.{stillRefused}
 -- the step before these can go, tried from the position before it
 unfoldable pub goesAt : List ℕ → List ℕ → ℕ → Position → List FourBytes → Bool
 goesAt s u number p after = ltb 0 (length after) && stillRefused s u number p after
+
+-- the same four bytes
+unfoldable pub sameStep : FourBytes → FourBytes → Bool
+sameStep a b = eqb (a .kind) (b .kind) && (eqb (a .party) (b .party) && (eqb (a .transaction) (b .transaction) && eqb (a .destination) (b .destination)))
+
+-- the same, but that a twin of a step that could not go is not tried: it cannot go either
+unfoldable pub triedAt : List ℕ → List ℕ → ℕ → Bool → Position → List FourBytes → Bool
+triedAt s u number twin p after = pick twin false (goesAt s u number p after)
 
 -- a step that goes is not kept, and is not played
 unfoldable pub keptStep : Bool → FourBytes → List FourBytes

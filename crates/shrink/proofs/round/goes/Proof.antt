@@ -1,17 +1,24 @@
--- No step follows; another number; or the place of the refusal.
+-- Not tried; no step follows; another number; or the place of the refusal.
+use Rattle.shrink.specs.Forms.Round.{triedAt}
 use Rattle.shrink.proofs.Trying.{goes-none, goes-other, goes-count}
 use borrow.Author.Needs.{needs}
 use Rattle.shrink.proofs.round.goes.Statement.{statement}
 use Rattle.shrink.proofs.round.goes.Tie as tie
 
 returns : tie.Need-returns
-returns c = goes-none _ _ _ _ _ (c .if1 .taken)
+unfolding triedAt
+returns c = rw (c .if1 .taken)
+
+returns-2 : tie.Need-returns-2
+unfolding triedAt
+returns-2 c = rw (c .before .if1 .left) (goes-none _ _ _ _ _ (c .if2 .taken))
 
 run-from-requires : tie.Need-run-from-requires
 run-from-requires c κs = search needs
 
-returns-2 : tie.Need-returns-2
-returns-2 c = goes-other _ _ _ _ _ _ (c .before .before .run-from .ensures) (c .if2 .taken)
+returns-3 : tie.Need-returns-3
+unfolding triedAt
+returns-3 c = rw (c .before .before .before .before .if1 .left) (goes-other _ _ _ _ _ _ (c .before .before .run-from .ensures) (c .if3 .taken))
 
 cast-result : tie.Need-cast-result
 cast-result c = search needs
@@ -19,9 +26,10 @@ cast-result c = search needs
 add-result : tie.Need-add-result
 add-result c = search needs
 
-returns-3 : tie.Need-returns-3
-returns-3 c = goes-count _ _ _ _ _ _ (c .before .before .before .run-from .ensures) (c .before .before .before .before .if1 .left) (c .before .if2 .left)
+returns-4 : tie.Need-returns-4
+unfolding triedAt
+returns-4 c = rw (c .before .before .before .before .before .if1 .left) (goes-count _ _ _ _ _ _ (c .before .before .before .run-from .ensures) (c .before .before .before .before .if2 .left) (c .before .if3 .left))
 
 pub goes-spec : {M : Type 1} → statement M
 goes-spec =
-    tie.close (tie.spec returns run-from-requires returns-2 cast-result add-result returns-3)
+    tie.close (tie.spec returns returns-2 run-from-requires returns-3 cast-result add-result returns-4)

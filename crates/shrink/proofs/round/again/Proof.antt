@@ -1,0 +1,54 @@
+-- The bytes one by one.
+use borrow.Author.Tests.{eq-eqb, ne-eqb}
+use Rattle.position.specs.Forms.Journal.{stepAt}
+use Rattle.shrink.specs.Forms.Round.{sameStep}
+use borrow.Author.Needs.{needs}
+use Rattle.shrink.proofs.round.again.Statement.{statement}
+use Rattle.shrink.proofs.round.again.Tie as tie
+
+returns : tie.Need-returns
+returns c = search needs
+
+sub-before : tie.Need-sub-before
+sub-before c = c .before .pre .1 (c .if1 .left)
+
+returns-2 : tie.Need-returns-2
+unfolding sameStep stepAt
+returns-2 c = rw (c .before .before .before .if1 .left, ne-eqb _ _ (c .if2 .taken))
+
+returns-3 : tie.Need-returns-3
+unfolding sameStep stepAt
+returns-3 c = rw (c .before .before .before .before .before .before .if1 .left, eq-eqb _ _ (c .before .before .before .if2 .left), ne-eqb _ _ (c .if3 .taken))
+
+returns-4 : tie.Need-returns-4
+unfolding sameStep stepAt
+returns-4 c = rw (c .before .before .before .before .before .before .before .before .before .if1 .left, eq-eqb _ _ (c .before .before .before .before .before .before .if2 .left), eq-eqb _ _ (c .before .before .before .if3 .left), ne-eqb _ _ (c .if4 .taken))
+
+returns-5 : tie.Need-returns-5
+unfolding sameStep stepAt
+returns-5 c = rw (c .before .before .before .before .before .before .before .before .before .before .before .if1 .left, eq-eqb _ _ (c .before .before .before .before .before .before .before .before .if2 .left), eq-eqb _ _ (c .before .before .before .before .before .if3 .left), eq-eqb _ _ (c .before .before .if4 .left))
+
+pub again-spec : {M : Type 1} → statement M
+again-spec =
+    tie.close
+    (tie.spec
+    returns
+    sub-before
+    (λ c. search needs)
+    (λ c. search needs)
+    returns-2
+    (λ c. search needs)
+    (λ c. search needs)
+    (λ c. search needs)
+    (λ c. search needs)
+    returns-3
+    (λ c. search needs)
+    (λ c. search needs)
+    (λ c. search needs)
+    (λ c. search needs)
+    returns-4
+    (λ c. search needs)
+    (λ c. search needs)
+    (λ c. search needs)
+    (λ c. search needs)
+    returns-5)
