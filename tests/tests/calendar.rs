@@ -151,7 +151,7 @@ fn stored_outputs() {
 #[test]
 fn examples_of_the_documents() {
     let examples = [
-        ("README.md", "default"),
+        ("README.md", "embedded_alice"),
         ("docs/CALENDAR.md", "default"),
         ("docs/CALENDAR.md", "standing"),
         ("docs/CALENDAR.md", "ring"),
