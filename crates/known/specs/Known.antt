@@ -4,7 +4,7 @@
 use Prim.Native.Nat.{ℕ, _<_}
 use mathlib.Core.Path.{_≡_, refl}
 use mathlib.Core.Bool.{true}
-use mathlib.Core.List.{List, [], _∷_, _++_}
+use mathlib.Core.List.{List, [], _∷_, _++_, map}
 use lib.ListN.{length, getD}
 use Rattle.laws.specs.Gather.{every, every-at}
 use Rattle.sheet.specs.LockHeight.{never}
@@ -133,103 +133,121 @@ heirSheet =
 abbrev heirWaits : List ℕ
 heirWaits = 3 ∷ 0 ∷ 0 ∷ 2 ∷ 3 ∷ 0 ∷ 1 ∷ 0 ∷ 5 ∷ 2 ∷ 0 ∷ 2 ∷ mine
 
--- the table
-unfoldable pub known : List Case
-known =
+-- a row, and that it holds
+pub record Row : Type 0 where
+  pub case : Case
+  pub right : holds case ≡ true
+
+abbrev row : (c : Case) → holds c ≡ true → Row
+row c h = record { case = c; right = h }
+
+-- the table; an error of the check stands at the row that fails
+unfoldable pub rows : List Row
+unfolding opened revokedIn swapSheet passes sendPlace getsThere sameLines holds
+rows =
     -- P1 to P3, refund_1 and revoke lock heights: "3 a day, 3 and 6; 1 a day, 3 and 4; 2 a day, 4 and 6"
-    lockIs 3 0 refund1 3
-    ∷ lockIs 3 0 revoke 6
-    ∷ lockIs 1 0 refund1 3
-    ∷ lockIs 1 0 revoke 4
-    ∷ lockIs 2 0 refund1 4
-    ∷ lockIs 2 0 revoke 6
+    row (lockIs 3 0 refund1 3) refl
+    ∷ row (lockIs 3 0 revoke 6) refl
+    ∷ row (lockIs 1 0 refund1 3) refl
+    ∷ row (lockIs 1 0 revoke 4) refl
+    ∷ row (lockIs 2 0 refund1 4) refl
+    ∷ row (lockIs 2 0 revoke 6) refl
     -- P4: "3 a day, revoke in block 7: refund_2 lock 10, timeout 13, refund_2 deadline 13, spend_revoke deadline 10"
-    ∷ lockIs 3 7 refund2 10
-    ∷ lockIs 3 7 timeout 13
-    ∷ deadlineIs 3 7 refund2 13
-    ∷ deadlineIs 3 7 spendRevoke 10
+    ∷ row (lockIs 3 7 refund2 10) refl
+    ∷ row (lockIs 3 7 timeout 13) refl
+    ∷ row (deadlineIs 3 7 refund2 13) refl
+    ∷ row (deadlineIs 3 7 spendRevoke 10) refl
     -- P5: "revoke unconfirmed: spend_revoke deadline never"
-    ∷ deadlineIs 3 0 spendRevoke never
+    ∷ row (deadlineIs 3 0 spendRevoke never) refl
     -- P6: "success to pool passes at 2 blocks, 18 at 3, to the miner passes at 3"
-    ∷ sendGets setup3 successAt2 2 (3 ∷ 1 ∷ 2 ∷ 2 ∷ []) 0
-    ∷ sendGets setup3 (successAt2 ++ mine) 3 (3 ∷ 1 ∷ 2 ∷ 2 ∷ []) 18
-    ∷ sendGets setup3 (successAt2 ++ mine) 3 (4 ∷ 1 ∷ 2 ∷ 2 ∷ []) 0
+    ∷ row (sendGets setup3 successAt2 2 (3 ∷ 1 ∷ 2 ∷ 2 ∷ []) 0) refl
+    ∷ row (sendGets setup3 (successAt2 ++ mine) 3 (3 ∷ 1 ∷ 2 ∷ 2 ∷ []) 18) refl
+    ∷ row (sendGets setup3 (successAt2 ++ mine) 3 (4 ∷ 1 ∷ 2 ∷ 2 ∷ []) 0) refl
     -- P7: "revoke gets 17 at 5 blocks, passes at 6"
-    ∷ sendGets setup3 revokeAt5 5 (3 ∷ 1 ∷ 4 ∷ 2 ∷ []) 17
-    ∷ sendGets setup3 (revokeAt5 ++ mine) 6 (3 ∷ 1 ∷ 4 ∷ 2 ∷ []) 0
+    ∷ row (sendGets setup3 revokeAt5 5 (3 ∷ 1 ∷ 4 ∷ 2 ∷ []) 17) refl
+    ∷ row (sendGets setup3 (revokeAt5 ++ mine) 6 (3 ∷ 1 ∷ 4 ∷ 2 ∷ []) 0) refl
     -- P8: "an empty journal leaves all statuses 0"
-    ∷ statusesZero setup3 []
+    ∷ row (statusesZero setup3 []) refl
     -- P9: "the SASwap sheet is 95 bytes"
-    ∷ sheetLength 3 95
+    ∷ row (sheetLength 3 95) refl
     -- P10
-    ∷ prints
+    ∷ row (prints
     sheet10
     setup10
     (3 ∷ 0 ∷ 0 ∷ 2 ∷ 5 ∷ 2 ∷ 0 ∷ 2 ∷ 6 ∷ 2 ∷ 255 ∷ 2 ∷ 3 ∷ 1 ∷ 1 ∷ 1 ∷ 5 ∷ 2 ∷ 1 ∷ 2 ∷ 6 ∷ 2 ∷ 255 ∷ 2 ∷ [])
-    ((6 ∷ 0 ∷ 2 ∷ []) ∷ (0 ∷ 4 ∷ 2 ∷ 1 ∷ 0 ∷ 2147483647 ∷ []) ∷ (1 ∷ 4 ∷ 1 ∷ 2 ∷ 1 ∷ 2147483647 ∷ []) ∷ [])
+    ((6 ∷ 0 ∷ 2 ∷ []) ∷ (0 ∷ 4 ∷ 2 ∷ 1 ∷ 0 ∷ 2147483647 ∷ []) ∷ (1 ∷ 4 ∷ 1 ∷ 2 ∷ 1 ∷ 2147483647 ∷ []) ∷ [])) refl
     -- desk error "A lock reached at its height minus one": refund_1's is 3
-    ∷ sendGets setup3 (lockedA ++ (1 ∷ 1 ∷ 3 ∷ 2 ∷ mine)) 2 (3 ∷ 0 ∷ 3 ∷ 2 ∷ []) 17
-    ∷ sendGets setup3 refundAt3 3 (3 ∷ 0 ∷ 3 ∷ 2 ∷ []) 0
+    ∷ row (sendGets setup3 (lockedA ++ (1 ∷ 1 ∷ 3 ∷ 2 ∷ mine)) 2 (3 ∷ 0 ∷ 3 ∷ 2 ∷ []) 17) refl
+    ∷ row (sendGets setup3 refundAt3 3 (3 ∷ 0 ∷ 3 ∷ 2 ∷ []) 0) refl
     -- "deadline taken from the own lock": refund_1's own is 3
-    ∷ deadlineIs 3 0 refund1 6
-    ∷ deadlineIs 3 0 success 3
+    ∷ row (deadlineIs 3 0 refund1 6) refl
+    ∷ row (deadlineIs 3 0 success 3) refl
     -- "a secret shared by a hand-in before its block"
-    ∷ sharedIs setup3 (refundAt3 ++ (4 ∷ 0 ∷ 3 ∷ 2 ∷ [])) refund1 contract 2
-    ∷ sharedIs setup3 (refundAt3 ++ (4 ∷ 0 ∷ 3 ∷ 2 ∷ mine)) refund1 contract 7
+    ∷ row (sharedIs setup3 (refundAt3 ++ (4 ∷ 0 ∷ 3 ∷ 2 ∷ [])) refund1 contract 2) refl
+    ∷ row (sharedIs setup3 (refundAt3 ++ (4 ∷ 0 ∷ 3 ∷ 2 ∷ mine)) refund1 contract 7) refl
     -- "spend_B exposing secrets": by a send or by its block
-    ∷ sharedIs setup3 spentB spendB alice 0
-    ∷ sharedIs setup3 (spentB ++ (5 ∷ 2 ∷ 8 ∷ 2 ∷ mine)) spendB alice 0
+    ∷ row (sharedIs setup3 spentB spendB alice 0) refl
+    ∷ row (sharedIs setup3 (spentB ++ (5 ∷ 2 ∷ 8 ∷ 2 ∷ mine)) spendB alice 0) refl
     -- "a bump that leaves the block without a parent": the bumped one's waiting ancestors enter too
-    ∷ statusIs (swapSheet setup3) setup3 (waitingAt2 ++ (7 ∷ 2 ∷ 2 ∷ 2 ∷ [])) success 3
-    ∷ statusIs (swapSheet setup3) setup3 (waitingAt2 ++ (7 ∷ 2 ∷ 2 ∷ 2 ∷ [])) lockA 3
-    ∷ statusIs chainSheet (1 ∷ 0 ∷ 0 ∷ 0 ∷ []) chainBumped 2 3
-    ∷ statusIs chainSheet (1 ∷ 0 ∷ 0 ∷ 0 ∷ []) chainBumped 1 3
-    ∷ statusIs chainSheet (1 ∷ 0 ∷ 0 ∷ 0 ∷ []) chainBumped 0 3
+    ∷ row (statusIs (swapSheet setup3) setup3 (waitingAt2 ++ (7 ∷ 2 ∷ 2 ∷ 2 ∷ [])) success 3) refl
+    ∷ row (statusIs (swapSheet setup3) setup3 (waitingAt2 ++ (7 ∷ 2 ∷ 2 ∷ 2 ∷ [])) lockA 3) refl
+    ∷ row (statusIs chainSheet (1 ∷ 0 ∷ 0 ∷ 0 ∷ []) chainBumped 2 3) refl
+    ∷ row (statusIs chainSheet (1 ∷ 0 ∷ 0 ∷ 0 ∷ []) chainBumped 1 3) refl
+    ∷ row (statusIs chainSheet (1 ∷ 0 ∷ 0 ∷ 0 ∷ []) chainBumped 0 3) refl
     -- the same: with a block entry its children leave
-    ∷ statusIs rivalSheet (1 ∷ 0 ∷ 0 ∷ 1 ∷ []) rivalBumped 0 3
-    ∷ statusIs rivalSheet (1 ∷ 0 ∷ 0 ∷ 1 ∷ []) rivalBumped 1 3
-    ∷ statusIs rivalSheet (1 ∷ 0 ∷ 0 ∷ 1 ∷ []) rivalBumped 2 0
-    ∷ statusIs rivalSheet (1 ∷ 0 ∷ 0 ∷ 1 ∷ []) rivalBumped 4 0
+    ∷ row (statusIs rivalSheet (1 ∷ 0 ∷ 0 ∷ 1 ∷ []) rivalBumped 0 3) refl
+    ∷ row (statusIs rivalSheet (1 ∷ 0 ∷ 0 ∷ 1 ∷ []) rivalBumped 1 3) refl
+    ∷ row (statusIs rivalSheet (1 ∷ 0 ∷ 0 ∷ 1 ∷ []) rivalBumped 2 0) refl
+    ∷ row (statusIs rivalSheet (1 ∷ 0 ∷ 0 ∷ 1 ∷ []) rivalBumped 4 0) refl
     -- "status (1 pool, 2 block, 4 confirmed, 8 dead, summed)": each alone; dead by a rival of its own and by one of its line
-    ∷ statusIs (swapSheet careful3) careful3 (carefulAt2 ++ (3 ∷ 1 ∷ 2 ∷ 2 ∷ [])) success 1
-    ∷ statusIs (swapSheet setup3) setup3 (refundAt3 ++ (4 ∷ 0 ∷ 3 ∷ 2 ∷ [])) refund1 2
-    ∷ statusIs (swapSheet setup3) setup3 succeeded success 4
-    ∷ statusIs (swapSheet setup3) setup3 succeeded refund1 8
-    ∷ statusIs (swapSheet setup3) setup3 succeeded refund2 8
+    ∷ row (statusIs (swapSheet careful3) careful3 (carefulAt2 ++ (3 ∷ 1 ∷ 2 ∷ 2 ∷ [])) success 1) refl
+    ∷ row (statusIs (swapSheet setup3) setup3 (refundAt3 ++ (4 ∷ 0 ∷ 3 ∷ 2 ∷ [])) refund1 2) refl
+    ∷ row (statusIs (swapSheet setup3) setup3 succeeded success 4) refl
+    ∷ row (statusIs (swapSheet setup3) setup3 succeeded refund1 8) refl
+    ∷ row (statusIs (swapSheet setup3) setup3 succeeded refund2 8) refl
     -- the list: "Alice's steps first, then Bob's .., then the miner's, each by kind, transaction, destination"; every kind is there
-    ∷ opens (swapSheet careful3) careful3 [] (1 ∷ 0 ∷ 255 ∷ 2 ∷ 1 ∷ 1 ∷ 255 ∷ 2 ∷ [])
-    ∷ opens (swapSheet careful3) careful3 carefulAt2
-    (2 ∷ 0 ∷ 0 ∷ 1 ∷ 3 ∷ 0 ∷ 8 ∷ 0 ∷ 4 ∷ 0 ∷ 8 ∷ 0 ∷ 3 ∷ 1 ∷ 2 ∷ 2 ∷ 4 ∷ 1 ∷ 2 ∷ 2 ∷ mine)
-    ∷ opens (swapSheet careful3) careful3 (carefulAt2 ++ (3 ∷ 1 ∷ 2 ∷ 2 ∷ []))
-    (2 ∷ 0 ∷ 0 ∷ 1 ∷ 3 ∷ 0 ∷ 8 ∷ 0 ∷ 4 ∷ 0 ∷ 8 ∷ 0 ∷ 3 ∷ 1 ∷ 9 ∷ 1 ∷ 7 ∷ 2 ∷ 2 ∷ 2 ∷ [])
-    ∷ opens sheet10 setup10 (3 ∷ 0 ∷ 0 ∷ 2 ∷ [])
-    (1 ∷ 0 ∷ 0 ∷ 2 ∷ 2 ∷ 0 ∷ 0 ∷ 1 ∷ 1 ∷ 1 ∷ 1 ∷ 1 ∷ 2 ∷ 1 ∷ 1 ∷ 0 ∷ 5 ∷ 2 ∷ 0 ∷ 2 ∷ [])
+    ∷ row (opens (swapSheet careful3) careful3 [] (1 ∷ 0 ∷ 255 ∷ 2 ∷ 1 ∷ 1 ∷ 255 ∷ 2 ∷ [])) refl
+    ∷ row (opens (swapSheet careful3) careful3 carefulAt2
+    (2 ∷ 0 ∷ 0 ∷ 1 ∷ 3 ∷ 0 ∷ 8 ∷ 0 ∷ 4 ∷ 0 ∷ 8 ∷ 0 ∷ 3 ∷ 1 ∷ 2 ∷ 2 ∷ 4 ∷ 1 ∷ 2 ∷ 2 ∷ mine)) refl
+    ∷ row (opens (swapSheet careful3) careful3 (carefulAt2 ++ (3 ∷ 1 ∷ 2 ∷ 2 ∷ []))
+    (2 ∷ 0 ∷ 0 ∷ 1 ∷ 3 ∷ 0 ∷ 8 ∷ 0 ∷ 4 ∷ 0 ∷ 8 ∷ 0 ∷ 3 ∷ 1 ∷ 9 ∷ 1 ∷ 7 ∷ 2 ∷ 2 ∷ 2 ∷ [])) refl
+    ∷ row (opens sheet10 setup10 (3 ∷ 0 ∷ 0 ∷ 2 ∷ [])
+    (1 ∷ 0 ∷ 0 ∷ 2 ∷ 2 ∷ 0 ∷ 0 ∷ 1 ∷ 1 ∷ 1 ∷ 1 ∷ 1 ∷ 2 ∷ 1 ∷ 1 ∷ 0 ∷ 5 ∷ 2 ∷ 0 ∷ 2 ∷ [])) refl
     -- Slip 1: a child that waits while its parent is mined stays in the pool, and at 1 block a day its bump is owed in the very next block
-    ∷ statusIs heirSheet (1 ∷ 0 ∷ 0 ∷ 0 ∷ []) heirWaits 0 4
-    ∷ statusIs heirSheet (1 ∷ 0 ∷ 0 ∷ 0 ∷ []) heirWaits 1 1
-    ∷ stepGets heirSheet (1 ∷ 0 ∷ 0 ∷ 0 ∷ []) heirWaits mine 20
-    ∷ stepGets heirSheet (1 ∷ 0 ∷ 0 ∷ 0 ∷ []) heirWaits (7 ∷ 2 ∷ 1 ∷ 2 ∷ []) 0
-    ∷ statusIs heirSheet (1 ∷ 0 ∷ 0 ∷ 0 ∷ []) (heirWaits ++ (7 ∷ 2 ∷ 1 ∷ 2 ∷ mine)) 1 4
+    ∷ row (statusIs heirSheet (1 ∷ 0 ∷ 0 ∷ 0 ∷ []) heirWaits 0 4) refl
+    ∷ row (statusIs heirSheet (1 ∷ 0 ∷ 0 ∷ 0 ∷ []) heirWaits 1 1) refl
+    ∷ row (stepGets heirSheet (1 ∷ 0 ∷ 0 ∷ 0 ∷ []) heirWaits mine 20) refl
+    ∷ row (stepGets heirSheet (1 ∷ 0 ∷ 0 ∷ 0 ∷ []) heirWaits (7 ∷ 2 ∷ 1 ∷ 2 ∷ []) 0) refl
+    ∷ row (statusIs heirSheet (1 ∷ 0 ∷ 0 ∷ 0 ∷ []) (heirWaits ++ (7 ∷ 2 ∷ 1 ∷ 2 ∷ mine)) 1 4) refl
     -- the same: who meets a different rival of a mined one leaves, and its child with it
-    ∷ statusIs rivalSheet (3 ∷ 0 ∷ 0 ∷ 1 ∷ []) rivalMined 2 8
-    ∷ statusIs rivalSheet (3 ∷ 0 ∷ 0 ∷ 1 ∷ []) rivalMined 4 8
+    ∷ row (statusIs rivalSheet (3 ∷ 0 ∷ 0 ∷ 1 ∷ []) rivalMined 2 8) refl
+    ∷ row (statusIs rivalSheet (3 ∷ 0 ∷ 0 ∷ 1 ∷ []) rivalMined 4 8) refl
     -- Slip 3: "kinds 3 and 4 that met both 16 and 17 got 16 and now get 17", at 5 blocks; at 6 only 16 is met
-    ∷ unsignedGets setup3 unsharedAt5 5 (3 ∷ 1 ∷ 4 ∷ 2 ∷ []) 17
-    ∷ unsignedGets setup3 unsharedAt5 5 (4 ∷ 1 ∷ 4 ∷ 2 ∷ []) 17
-    ∷ unsignedGets setup3 (unsharedAt5 ++ mine) 6 (3 ∷ 1 ∷ 4 ∷ 2 ∷ []) 16
-    ∷ unsignedGets setup3 (unsharedAt5 ++ mine) 6 (4 ∷ 1 ∷ 4 ∷ 2 ∷ []) 16
+    ∷ row (unsignedGets setup3 unsharedAt5 5 (3 ∷ 1 ∷ 4 ∷ 2 ∷ []) 17) refl
+    ∷ row (unsignedGets setup3 unsharedAt5 5 (4 ∷ 1 ∷ 4 ∷ 2 ∷ []) 17) refl
+    ∷ row (unsignedGets setup3 (unsharedAt5 ++ mine) 6 (3 ∷ 1 ∷ 4 ∷ 2 ∷ []) 16) refl
+    ∷ row (unsignedGets setup3 (unsharedAt5 ++ mine) 6 (4 ∷ 1 ∷ 4 ∷ 2 ∷ []) 16) refl
     -- the same: 18 stays behind 16, for success at 3 blocks
-    ∷ unsignedGets setup3 (lockedA ++ mine ++ mine) 3 (3 ∷ 1 ∷ 2 ∷ 2 ∷ []) 16
+    ∷ row (unsignedGets setup3 (lockedA ++ mine ++ mine) 3 (3 ∷ 1 ∷ 2 ∷ 2 ∷ []) 16) refl
     -- Slip 6, "In phase 2 Alice may now send": refund_1 and revoke from their lock heights on
-    ∷ sendGets careful30 (lockedAlone ++ mine) 2 (3 ∷ 0 ∷ 3 ∷ 2 ∷ []) 17
-    ∷ sendGets careful30 (lockedAlone ++ mine ++ mine) 3 (3 ∷ 0 ∷ 3 ∷ 2 ∷ []) 0
-    ∷ sendGets careful30 (lockedAlone ++ mine ++ mine ++ mine ++ mine ++ mine) 6 (3 ∷ 0 ∷ 4 ∷ 2 ∷ []) 0
+    ∷ row (sendGets careful30 (lockedAlone ++ mine) 2 (3 ∷ 0 ∷ 3 ∷ 2 ∷ []) 17) refl
+    ∷ row (sendGets careful30 (lockedAlone ++ mine ++ mine) 3 (3 ∷ 0 ∷ 3 ∷ 2 ∷ []) 0) refl
+    ∷ row (sendGets careful30 (lockedAlone ++ mine ++ mine ++ mine ++ mine ++ mine) 6 (3 ∷ 0 ∷ 4 ∷ 2 ∷ []) 0) refl
     ∷ []
 
--- the one fact
+-- its rows alone
+unfoldable pub known : List Case
+known = map (λ r. r .case) rows
+
+rows-hold : (rs : List Row) → every holds (map (λ r. r .case) rs) ≡ true
+unfolding every
+rows-hold [] = refl
+rows-hold (r ∷ rs) = rw (r .right, rows-hold rs)
+
+-- every row holds
 pub all-hold : every holds known ≡ true
-unfolding opened revokedIn swapSheet passes sendPlace getsThere sameLines holds known
-all-hold = refl
+unfolding known
+all-hold = rows-hold rows
 
 -- the row at each place holds
 pub holds-at : (i : ℕ) → i < length known → holds (getD known i (sheetLength 3 95)) ≡ true

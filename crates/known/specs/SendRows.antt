@@ -2,7 +2,7 @@
 -- Assumes nothing.
 use Prim.Native.Nat.{ℕ, _+_}
 use mathlib.Core.Path.{_≡_, refl, sym, _∙_}
-use mathlib.Core.Bool.{true, false≢true}
+use mathlib.Core.Bool.{Bool, true, _&&_, false≢true}
 use mathlib.Core.List.{List, [], _∷_, _++_}
 use lib.Dec.{eqb, lit<, lit≤}
 use lib.ListN.{getD, take, drop}
@@ -26,7 +26,7 @@ use Rattle.position.specs.Play.{FourBytes, journalSteps, decodeBytes, takeStep,
 use Rattle.position.proofs.Opened.{opened}
 use Rattle.runs.proofs.Runs.{run-next, run-stops, run-ends, row-append, run-allowed}
 use Rattle.known.specs.Case.{sendGets, swapSheet, passes, sendPlace, getsThere, holds}
-use Rattle.known.specs.Known.{setup3, careful30, mine, successAt2, revokeAt5, unsharedAt5, known}
+use Rattle.known.specs.Known.{setup3, careful30, mine, successAt2, revokeAt5, unsharedAt5, rows, known}
 use Rattle.known.specs.Heights.{refund1Height, revokeHeight}
 use Rattle.known.specs.Sends.{ReadyForPool, ReadyForMiner, success-to-pool, success-to-miner, revoke-to-pool}
 
@@ -161,7 +161,21 @@ revoke-passes =
     (record { allowed = refl; longer = refl; steps = refl; read = refl; taken = refl })
     (revoke-to-pool setup3 (after (revokeAt5 ++ mine)) bob Contract (lit< tt) pool-at-6)
 
+all-five : (a b c d e : Bool) → a ≡ true → b ≡ true → c ≡ true → d ≡ true → e ≡ true → (a && (b && (c && (d && (e && true))))) ≡ true
+all-five a b c d e ha hb hc hd he = rw (ha, hb, hc, hd, he)
+
 -- the five rows of the table
 pub sends-hold : every holds (take 5 (drop 11 known)) ≡ true
-unfolding every known
-sends-hold = rw (success-passes, success-late, success-handed, revoke-early, revoke-passes)
+unfolding every known rows
+sends-hold =
+    all-five
+    (holds (sendGets setup3 successAt2 2 (3 ∷ 1 ∷ 2 ∷ 2 ∷ []) 0))
+    (holds (sendGets setup3 (successAt2 ++ mine) 3 (3 ∷ 1 ∷ 2 ∷ 2 ∷ []) 18))
+    (holds (sendGets setup3 (successAt2 ++ mine) 3 (4 ∷ 1 ∷ 2 ∷ 2 ∷ []) 0))
+    (holds (sendGets setup3 revokeAt5 5 (3 ∷ 1 ∷ 4 ∷ 2 ∷ []) 17))
+    (holds (sendGets setup3 (revokeAt5 ++ mine) 6 (3 ∷ 1 ∷ 4 ∷ 2 ∷ []) 0))
+    success-passes
+    success-late
+    success-handed
+    revoke-early
+    revoke-passes
