@@ -1,5 +1,7 @@
 //! A reader of JSON, as strict as the standard: whole numbers only, and no name twice in an object.
 
+use crate::cursor::Cursor;
+
 #[derive(Clone, Debug, PartialEq, Eq)]
 pub enum Value {
     Null,
@@ -59,141 +61,116 @@ impl Value {
 
 /// The value of a text, or what is wrong with it.
 pub fn read(text: &str) -> Result<Value, String> {
-    let mut reader = Reader { text, at: 0 };
-    let value = reader.value()?;
-    reader.blanks();
-    match reader.at == text.len() {
-        true => Ok(value),
-        false => Err(reader.wrong("something after the value")),
+    let mut cursor = Cursor::new(text);
+    let value = value(&mut cursor)?;
+    blanks(&mut cursor);
+    match cursor.rest() {
+        "" => Ok(value),
+        _ => Err(cursor.wrong("something after the value")),
     }
 }
 
-struct Reader<'a> {
-    text: &'a str,
-    at: usize,
+fn blanks(cursor: &mut Cursor) {
+    let blanks = cursor.ahead(|c| [' ', '\n', '\r', '\t'].contains(&c));
+    cursor.part(blanks.len());
 }
 
-impl Reader<'_> {
-    fn wrong(&self, reason: &str) -> String {
-        format!("at byte {}: {reason}", self.at)
-    }
+/// Takes what comes after blanks, where that is this.
+fn take(cursor: &mut Cursor, word: &str) -> bool {
+    blanks(cursor);
+    cursor.take(word)
+}
 
-    fn rest(&self) -> &str {
-        &self.text[self.at..]
-    }
+fn expect(cursor: &mut Cursor, word: &str) -> Result<(), String> {
+    blanks(cursor);
+    cursor.expect(word)
+}
 
-    fn blanks(&mut self) {
-        let rest = self.rest();
-        self.at += rest.len() - rest.trim_start_matches([' ', '\n', '\r', '\t']).len();
-    }
-
-    /// Takes what comes next, where that is this.
-    fn take(&mut self, word: &str) -> bool {
-        self.blanks();
-        let found = self.rest().starts_with(word);
-        self.at += if found { word.len() } else { 0 };
-        found
-    }
-
-    fn expect(&mut self, word: &str) -> Result<(), String> {
-        match self.take(word) {
-            true => Ok(()),
-            false => Err(self.wrong(&format!("no {word}"))),
+fn value(cursor: &mut Cursor) -> Result<Value, String> {
+    let words = [
+        ("null", Value::Null),
+        ("true", Value::Bool(true)),
+        ("false", Value::Bool(false)),
+    ];
+    for (word, value) in words {
+        if take(cursor, word) {
+            return Ok(value);
         }
     }
+    match cursor.rest().chars().next() {
+        Some('{') => object(cursor),
+        Some('[') => list(cursor),
+        Some('"') => Ok(Value::Text(string(cursor)?)),
+        _ => number(cursor),
+    }
+}
 
-    fn value(&mut self) -> Result<Value, String> {
-        let words = [
-            ("null", Value::Null),
-            ("true", Value::Bool(true)),
-            ("false", Value::Bool(false)),
-        ];
-        for (word, value) in words {
-            if self.take(word) {
-                return Ok(value);
-            }
+fn number(cursor: &mut Cursor) -> Result<Value, String> {
+    let digits = cursor.ahead(|c| c.is_ascii_digit());
+    match digits.parse() {
+        Ok(number) if digits == "0" || !digits.starts_with('0') => {
+            cursor.part(digits.len());
+            Ok(Value::Number(number))
         }
-        match self.rest().chars().next() {
-            Some('{') => self.object(),
-            Some('[') => self.list(),
-            Some('"') => Ok(Value::Text(self.string()?)),
-            _ => self.number(),
+        _ => Err(cursor.wrong("no value")),
+    }
+}
+
+fn list(cursor: &mut Cursor) -> Result<Value, String> {
+    let mut values = Vec::new();
+    expect(cursor, "[")?;
+    while !take(cursor, "]") {
+        if !values.is_empty() {
+            expect(cursor, ",")?;
+        }
+        values.push(value(cursor)?);
+    }
+    Ok(Value::List(values))
+}
+
+fn object(cursor: &mut Cursor) -> Result<Value, String> {
+    let mut fields: Vec<(String, Value)> = Vec::new();
+    expect(cursor, "{")?;
+    while !take(cursor, "}") {
+        if !fields.is_empty() {
+            expect(cursor, ",")?;
+        }
+        let name = string(cursor)?;
+        expect(cursor, ":")?;
+        if fields.iter().any(|(other, _)| *other == name) {
+            return Err(cursor.wrong("a name twice"));
+        }
+        fields.push((name, value(cursor)?));
+    }
+    Ok(Value::Object(fields))
+}
+
+fn string(cursor: &mut Cursor) -> Result<String, String> {
+    let mut text = String::new();
+    expect(cursor, "\"")?;
+    loop {
+        match cursor.character().ok_or(cursor.wrong("no end"))? {
+            '"' => return Ok(text),
+            '\\' => text.push(escaped(cursor)?),
+            next if next.is_control() => return Err(cursor.wrong("a control character")),
+            next => text.push(next),
         }
     }
+}
 
-    fn number(&mut self) -> Result<Value, String> {
-        let rest = self.rest();
-        let length = rest.len() - rest.trim_start_matches(|c: char| c.is_ascii_digit()).len();
-        let digits = &rest[..length];
-        match digits.parse() {
-            Ok(number) if digits == "0" || !digits.starts_with('0') => {
-                self.at += length;
-                Ok(Value::Number(number))
-            }
-            _ => Err(self.wrong("no value")),
+fn escaped(cursor: &mut Cursor) -> Result<char, String> {
+    let wrong = cursor.wrong("no such escape");
+    let next = cursor.character().ok_or(wrong.clone())?;
+    match next {
+        '"' | '\\' | '/' => Ok(next),
+        'n' => Ok('\n'),
+        't' => Ok('\t'),
+        'u' => {
+            let digits = cursor.rest().get(..4).ok_or(wrong.clone())?;
+            let number = u32::from_str_radix(digits, 16).map_err(|_| wrong.clone())?;
+            cursor.part(digits.len());
+            char::from_u32(number).ok_or(wrong)
         }
-    }
-
-    fn list(&mut self) -> Result<Value, String> {
-        let mut values = Vec::new();
-        self.expect("[")?;
-        while !self.take("]") {
-            if !values.is_empty() {
-                self.expect(",")?;
-            }
-            values.push(self.value()?);
-        }
-        Ok(Value::List(values))
-    }
-
-    fn object(&mut self) -> Result<Value, String> {
-        let mut fields: Vec<(String, Value)> = Vec::new();
-        self.expect("{")?;
-        while !self.take("}") {
-            if !fields.is_empty() {
-                self.expect(",")?;
-            }
-            self.blanks();
-            let name = self.string()?;
-            self.expect(":")?;
-            if fields.iter().any(|(other, _)| *other == name) {
-                return Err(self.wrong("a name twice"));
-            }
-            fields.push((name, self.value()?));
-        }
-        Ok(Value::Object(fields))
-    }
-
-    fn string(&mut self) -> Result<String, String> {
-        let mut text = String::new();
-        self.expect("\"")?;
-        loop {
-            let next = self.rest().chars().next().ok_or(self.wrong("no end"))?;
-            self.at += next.len_utf8();
-            match next {
-                '"' => return Ok(text),
-                '\\' => text.push(self.escaped()?),
-                next if next.is_control() => return Err(self.wrong("a control character")),
-                next => text.push(next),
-            }
-        }
-    }
-
-    fn escaped(&mut self) -> Result<char, String> {
-        let wrong = self.wrong("no such escape");
-        let next = self.rest().chars().next().ok_or(wrong.clone())?;
-        self.at += next.len_utf8();
-        match next {
-            '"' | '\\' | '/' => Ok(next),
-            'n' => Ok('\n'),
-            't' => Ok('\t'),
-            'u' => {
-                let digits = self.rest().get(..4).ok_or(wrong.clone())?.to_string();
-                let number = u32::from_str_radix(&digits, 16).map_err(|_| wrong.clone())?;
-                self.at += 4;
-                char::from_u32(number).ok_or(wrong)
-            }
-            _ => Err(wrong),
-        }
+        _ => Err(wrong),
     }
 }

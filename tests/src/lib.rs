@@ -4,6 +4,7 @@ pub mod adversary;
 pub mod calendar;
 pub mod calls;
 pub mod compare;
+mod cursor;
 pub mod engine;
 pub mod every;
 pub mod fast;

@@ -1,6 +1,7 @@
 //! A reader of HTML that is written as XML is: every element closed, every value in quotes, every special character
 //! escaped.
 
+use crate::cursor::Cursor;
 use std::collections::BTreeMap;
 
 #[derive(Clone, Debug, PartialEq, Eq)]
@@ -52,127 +53,97 @@ impl Element {
 
 /// The element `html` of a page, or what is wrong with it.
 pub fn read(page: &str) -> Result<Element, String> {
-    let mut reader = Reader { text: page, at: 0 };
-    reader.expect("<!DOCTYPE html>\n")?;
-    let root = reader.element()?;
-    reader.expect("\n")?;
-    match reader.rest() {
+    let mut cursor = Cursor::new(page);
+    cursor.expect("<!DOCTYPE html>\n")?;
+    let root = element(&mut cursor)?;
+    cursor.expect("\n")?;
+    match cursor.rest() {
         "" if root.name == "html" => Ok(root),
-        _ => Err(reader.wrong("something after the page, or no page")),
+        _ => Err(cursor.wrong("something after the page, or no page")),
     }
 }
 
 /// What may be closed at once in HTML.
 const EMPTY: [&str; 5] = ["circle", "line", "meta", "rect", "use"];
 
-struct Reader<'a> {
-    text: &'a str,
-    at: usize,
+/// What comes before one of these characters; there is one.
+fn until<'a>(cursor: &mut Cursor<'a>, ends: &[char]) -> Result<&'a str, String> {
+    let length = cursor.rest().find(ends).ok_or(cursor.wrong("no end"))?;
+    Ok(cursor.part(length))
 }
 
-impl Reader<'_> {
-    fn wrong(&self, reason: &str) -> String {
-        format!("at byte {}: {reason}", self.at)
+fn name(cursor: &mut Cursor) -> Result<String, String> {
+    let name = until(cursor, &[' ', '=', '/', '>'])?;
+    let fits = |c: char| c.is_ascii_alphanumeric() || c == '-';
+    match !name.is_empty() && name.chars().all(fits) {
+        true => Ok(name.to_string()),
+        false => Err(cursor.wrong(&format!("{name} is no name"))),
     }
+}
 
-    fn rest(&self) -> &str {
-        &self.text[self.at..]
+/// A text that was taken, with its escapes undone.
+fn plain(cursor: &Cursor, text: &str) -> Result<String, String> {
+    let names = [("lt;", '<'), ("gt;", '>'), ("quot;", '"'), ("#39;", '\'')];
+    let mut parts = text.split('&');
+    let mut plain = parts.next().unwrap_or_default().to_string();
+    for part in parts {
+        let found = names.iter().chain(&[("amp;", '&')]);
+        let found = found.filter_map(|(name, c)| Some((c, part.strip_prefix(name)?)));
+        let (character, rest) = found.last().ok_or(cursor.wrong("& alone"))?;
+        plain.push(*character);
+        plain += rest;
     }
-
-    fn take(&mut self, word: &str) -> bool {
-        let found = self.rest().starts_with(word);
-        self.at += if found { word.len() } else { 0 };
-        found
+    match plain.chars().any(|c| c.is_control() && c != '\n') {
+        true => Err(cursor.wrong("a control character")),
+        false => Ok(plain),
     }
+}
 
-    fn expect(&mut self, word: &str) -> Result<(), String> {
-        match self.take(word) {
-            true => Ok(()),
-            false => Err(self.wrong(&format!("no {word}"))),
+fn attributes(cursor: &mut Cursor) -> Result<BTreeMap<String, String>, String> {
+    let mut attributes = BTreeMap::new();
+    while cursor.take(" ") {
+        let name = name(cursor)?;
+        cursor.expect("=\"")?;
+        let value = until(cursor, &['"', '<', '>'])?;
+        cursor.expect("\"")?;
+        if attributes.insert(name, plain(cursor, value)?).is_some() {
+            return Err(cursor.wrong("an attribute twice"));
         }
     }
+    Ok(attributes)
+}
 
-    /// What comes before one of these characters; there is one.
-    fn until(&mut self, ends: &[char]) -> Result<String, String> {
-        let length = self.rest().find(ends).ok_or(self.wrong("no end"))?;
-        let text = self.rest()[..length].to_string();
-        self.at += length;
-        Ok(text)
+fn element(cursor: &mut Cursor) -> Result<Element, String> {
+    cursor.expect("<")?;
+    let name = name(cursor)?;
+    let attributes = attributes(cursor)?;
+    let mut nodes = Vec::new();
+    if cursor.take("/>") {
+        if !EMPTY.contains(&name.as_str()) {
+            return Err(cursor.wrong(&format!("{name} without an end")));
+        }
+    } else {
+        cursor.expect(">")?;
+        while !cursor.take("</") {
+            nodes.push(node(cursor)?);
+        }
+        cursor.expect(&name)?;
+        cursor.expect(">")?;
     }
+    Ok(Element {
+        name,
+        attributes,
+        nodes,
+    })
+}
 
-    fn name(&mut self) -> Result<String, String> {
-        let name = self.until(&[' ', '=', '/', '>'])?;
-        let fits = |c: char| c.is_ascii_alphanumeric() || c == '-';
-        match !name.is_empty() && name.chars().all(fits) {
-            true => Ok(name),
-            false => Err(self.wrong(&format!("{name} is no name"))),
-        }
+fn node(cursor: &mut Cursor) -> Result<Node, String> {
+    if cursor.rest().starts_with('<') {
+        return Ok(Node::Element(element(cursor)?));
     }
-
-    /// A text with its escapes undone.
-    fn plain(&self, text: &str) -> Result<String, String> {
-        let names = [("lt;", '<'), ("gt;", '>'), ("quot;", '"'), ("#39;", '\'')];
-        let mut parts = text.split('&');
-        let mut plain = parts.next().unwrap_or_default().to_string();
-        for part in parts {
-            let found = names.iter().chain(&[("amp;", '&')]);
-            let found = found.filter_map(|(name, c)| Some((c, part.strip_prefix(name)?)));
-            let (character, rest) = found.last().ok_or(self.wrong("& alone"))?;
-            plain.push(*character);
-            plain += rest;
-        }
-        match plain.chars().any(|c| c.is_control() && c != '\n') {
-            true => Err(self.wrong("a control character")),
-            false => Ok(plain),
-        }
-    }
-
-    fn attributes(&mut self) -> Result<BTreeMap<String, String>, String> {
-        let mut attributes = BTreeMap::new();
-        while self.take(" ") {
-            let name = self.name()?;
-            self.expect("=\"")?;
-            let value = self.until(&['"', '<', '>'])?;
-            self.expect("\"")?;
-            if attributes.insert(name, self.plain(&value)?).is_some() {
-                return Err(self.wrong("an attribute twice"));
-            }
-        }
-        Ok(attributes)
-    }
-
-    fn element(&mut self) -> Result<Element, String> {
-        self.expect("<")?;
-        let name = self.name()?;
-        let attributes = self.attributes()?;
-        let mut nodes = Vec::new();
-        if self.take("/>") {
-            if !EMPTY.contains(&name.as_str()) {
-                return Err(self.wrong(&format!("{name} without an end")));
-            }
-        } else {
-            self.expect(">")?;
-            while !self.take("</") {
-                nodes.push(self.node()?);
-            }
-            self.expect(&name)?;
-            self.expect(">")?;
-        }
-        Ok(Element {
-            name,
-            attributes,
-            nodes,
-        })
-    }
-
-    fn node(&mut self) -> Result<Node, String> {
-        if self.rest().starts_with('<') {
-            return Ok(Node::Element(self.element()?));
-        }
-        let text = self.until(&['<', '>'])?;
-        match self.rest().starts_with('>') {
-            true => Err(self.wrong("> alone")),
-            false => Ok(Node::Text(self.plain(&text)?)),
-        }
+    let text = until(cursor, &['<', '>'])?;
+    match cursor.rest().starts_with('>') {
+        true => Err(cursor.wrong("> alone")),
+        false => Ok(Node::Text(plain(cursor, text)?)),
     }
 }
