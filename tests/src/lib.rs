@@ -8,6 +8,7 @@ mod cursor;
 pub mod engine;
 pub mod every;
 pub mod fast;
+pub mod game;
 pub mod json;
 pub mod markup;
 pub mod model;

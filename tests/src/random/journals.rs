@@ -198,6 +198,29 @@ pub fn journal(random: &mut Random, sheet: &[u8], setup: &[u8], manner: Manner) 
     groups(random, &sheet, &setup, manner).concat()
 }
 
+/// A random walk over a valid sheet and setup, looked at before the first step
+/// and after each accepted one. A refused one changes nothing.
+pub fn walk(
+    random: &mut Random,
+    game: &(Vec<u8>, Vec<u8>),
+    manner: Manner,
+    mut look: impl FnMut(&Sheet, &Setup, &Course),
+) -> Course {
+    let (sheet, setup) = read(&game.0, &game.1);
+    let groups = groups(random, &sheet, &setup, manner);
+    let mut course = Course::fresh(&sheet);
+    look(&sheet, &setup, &course);
+    for group in &groups {
+        let before = course.clone();
+        if course.take(&sheet, &setup, group) == 0 {
+            look(&sheet, &setup, &course);
+        } else {
+            assert_eq!(course, before);
+        }
+    }
+    course
+}
+
 /// Open steps in a row, up to a position where some step is refused with this
 /// number, and that step; all of them where the walk comes by none.
 pub fn led_journal(
