@@ -8,7 +8,7 @@ use mathlib.Core.Path.{_≡_, refl, ap, sym, _∙_}
 use mathlib.Core.List.{List, [], _∷_, _++_}
 use lib.ListN.{length, getD, take, set, length-set, length-append, length-replicate, getD-replicate, List·getD-append}
 use lib.Seq.{getD-append-add, take-length}
-use Rattle.laws.specs.Over.{over, over-none, length-over}
+use Rattle.laws.specs.Over.{over, over-none}
 use Rattle.pages.specs.Line.{blank, blanks, column}
 
 pub length-blanks : (n : ℕ) → length (blanks n) ≡ n
@@ -77,12 +77,12 @@ module _ (width : ℕ) (text : List ℕ) (before : ℕ) (e : before ≡ width - 
   column-done l₀ l i c h = copied-all (column width text) l₀ l i c (rw column-end at h)
 
 -- one column or another that is the same: its room, and what was written
-module _ (a b : List ℕ) (e : a ≡ b) where
-  pub room-as : (m : ℕ) → length b ≤ m → length a ≤ m
-  room-as m h = rw e h
+module _ {a b : List ℕ} (e : a ≡ b) where
+  pub room-as : {m : ℕ} → length b ≤ m → length a ≤ m
+  room-as h = rw e h
 
-  pub written-as : (r : ℕ) (l l′ : List ℕ) → (r ≡ length a) × (l′ ≡ over a l) → (r ≡ length b) × (l′ ≡ over b l)
-  written-as r l l′ h = rw e at h
+  pub written-as : {r : ℕ} {l′ : List ℕ} (l : List ℕ) → (r ≡ length a) × (l′ ≡ over a l) → (r ≡ length b) × (l′ ≡ over b l)
+  written-as l h = rw e at h
 
-pub same-column : (v w : ℕ) (x y : List ℕ) → v ≡ w → x ≡ y → column v x ≡ column w y
-same-column v w x y e h = rw (e, h)
+pub same-column : {v w : ℕ} {x y : List ℕ} → v ≡ w → x ≡ y → column v x ≡ column w y
+same-column e h = rw (e, h)

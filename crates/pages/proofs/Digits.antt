@@ -1,6 +1,6 @@
 -- Decimal digits: the last one and those before it, how many they are, and how they are made from the last one on.
 -- Assumes nothing.
-use Prim.Native.Nat.{ℕ, zero, suc, _+_, _-_, _*_, _/_, _%_, _^_, _≤_, _<_}
+use Prim.Native.Nat.{ℕ, zero, suc, _+_, _-_, _/_, _%_, _^_, _≤_, _<_}
 use native.Mathlib.Omega.{arith}
 use native.Mathlib.Nat.{not-suc-le-zero, le-of-suc-le-suc, pow-succ'}
 use mathlib.Core.Path.{_≡_, refl, ap, sym, _∙_}

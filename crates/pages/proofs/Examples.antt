@@ -72,7 +72,8 @@ answers room j =
     w .refusal ∷ length (w .buffer) ∷ getD (w .buffer) 218 0 ∷ getD (w .buffer) 219 0 ∷ []
 
 -- a byte to spare, none, one short, and a journal that is refused
-calls-answer : (answers 220 journal10 ≡ 0 ∷ 220 ∷ 10 ∷ 7 ∷ []) × (answers 219 journal10 ≡ 0 ∷ 219 ∷ 10 ∷ 0 ∷ []) × (answers 218 journal10 ≡ 25 ∷ 218 ∷ 0 ∷ 0 ∷ []) × (answers 220 (1 ∷ []) ≡ 24 ∷ 220 ∷ 7 ∷ 7 ∷ [])
+calls-answer : (answers 220 journal10 ≡ 0 ∷ 220 ∷ 10 ∷ 7 ∷ []) × (answers 219 journal10 ≡ 0 ∷ 219 ∷ 10 ∷ 0 ∷ [])
+    × (answers 218 journal10 ≡ 25 ∷ 218 ∷ 0 ∷ 0 ∷ []) × (answers 220 (1 ∷ []) ≡ 24 ∷ 220 ∷ 7 ∷ 7 ∷ [])
 unfolding opened answers line ended columns column blanks gather texts lineTexts pageOf pageAnswer digits digitsIn digit payeeText heightText
 calls-answer = (refl, refl, refl, refl)
 

@@ -30,9 +30,11 @@ module _ (payee : ℕ) where
   unfolding payeeText
   is-carol e = rw e
 
-  pub is-nobody : (payee ≡ alice → ⊥) → (payee ≡ bob → ⊥) → (payee ≡ contract → ⊥) → (payee ≡ carol → ⊥) → dashText ≡ payeeText payee
+  pub is-nobody : {A : Type 0} → (((A × (payee ≡ alice → ⊥)) × (payee ≡ bob → ⊥)) × (payee ≡ contract → ⊥)) × (payee ≡ carol → ⊥)
+      → dashText ≡ payeeText payee
   unfolding payeeText
-  is-nobody a b c d = rw (ne-eqb payee alice a, ne-eqb payee bob b, ne-eqb payee contract c, ne-eqb payee carol d)
+  is-nobody r =
+      rw (ne-eqb payee alice (r .0 .0 .0 .1), ne-eqb payee bob (r .0 .0 .1), ne-eqb payee contract (r .0 .1), ne-eqb payee carol (r .1))
 
 module _ (height : ℕ) where
   pub is-never : height ≡ never → neverText ≡ heightText height
@@ -54,17 +56,12 @@ module _ (shown : ℕ → List ℕ) (i : ℕ) where
   is-row h = let e : suc (i - 1) ≡ i = omega (arith, h) in ap (λ n. lineTexts shown n) e
 
 -- the text of column k of the header, and of a transaction's line
-pub is-title : (n k : ℕ) → k ≡ n → getD header n [] ≡ getD header k []
-is-title n k e = rw e
+pub is-title : (n : ℕ) {k : ℕ} → k ≡ n → getD header n [] ≡ getD header k []
+is-title n e = rw e
 
 pub is-value : (t : ℕ) (row : Line) (n k : ℕ) → k ≡ n → getD (texts (values t row)) n [] ≡ getD (texts (values t row)) k []
 is-value t row n k e = rw e
 
 -- none of the first five columns
-pub last : (k : ℕ) → k < 6 → (k ≡ 0 → ⊥) → (k ≡ 1 → ⊥) → (k ≡ 2 → ⊥) → (k ≡ 3 → ⊥) → (k ≡ 4 → ⊥) → k ≡ 5
-last zero h a b c d e = absurd (a refl)
-last (suc zero) h a b c d e = absurd (b refl)
-last (suc (suc zero)) h a b c d e = absurd (c refl)
-last (suc (suc (suc zero))) h a b c d e = absurd (d refl)
-last (suc (suc (suc (suc zero)))) h a b c d e = absurd (e refl)
-last (suc (suc (suc (suc (suc k))))) h a b c d e = omega (arith, h)
+pub last : {A : Type 0} (k : ℕ) → k < 6 → ((((A × (k ≡ 0 → ⊥)) × (k ≡ 1 → ⊥)) × (k ≡ 2 → ⊥)) × (k ≡ 3 → ⊥)) × (k ≡ 4 → ⊥) → k ≡ 5
+last k h r = omega (arith, r .0 .0 .0 .0 .1, r .0 .0 .0 .1, r .0 .0 .1, r .0 .1, r .1)

@@ -6,7 +6,7 @@ use mathlib.Core.Path.{_≡_, refl, sym, ap, _∙_}
 use mathlib.Core.List.{List}
 use lib.Dec.{eqb}
 use lib.ListN.{length, take}
-use borrow.Author.Tests.{eqb-true, eqb-false, eq-eqb, ne-eqb, le-leb, lt-leb}
+use borrow.Author.Tests.{eqb-true, eq-eqb, ne-eqb, le-leb, lt-leb}
 use Rattle.laws.specs.Booleans.{split}
 use Rattle.laws.specs.Over.{over}
 use Rattle.sheet.specs.Field.{count}
@@ -26,10 +26,6 @@ use Rattle.pages.specs.Page.{pageOf, pageAnswer}
 use Rattle.pages.proofs.Lines.{page-length}
 use Rattle.pages.proofs.Rows.{lines-readable, page-same}
 
--- the number and the buffer of an answer
-pub answered : (w v : Written) → w ≡ v → (v .refusal ≡ w .refusal) × (v .buffer ≡ w .buffer)
-answered w v e = rw e (refl, refl)
-
 -- the number of a page
 pub page-below : (s u j out : List ℕ) → pageAnswer s u j out .refusal < 33
 unfolding pageAnswer
@@ -39,63 +35,64 @@ page-below s u j out = written-bounds s u j (pageOf (count s) (printedLine s u (
 pub page-size : (s u j : List ℕ) → Fit s u → length (pageOf (count s) (printedLine s u (run s u j .position))) ≡ 73 * suc (count s)
 page-size s u j h = page-length (count s) (printedLine s u (run s u j .position)) (lines-readable s u (run s u j .position) (h .checked .sized .few))
 
--- where the report into a buffer that is always long enough gives this number
-module _ (s u j rows : List ℕ) (number : ℕ) (e : number ≡ reportAnswer s u j rows .refusal) (long : length rows ≡ slotCount * rowWidth) (out : List ℕ) where
+-- the number and the buffer of an answer
+answered : {w v : Written} → w ≡ v → (v .refusal ≡ w .refusal) × (v .buffer ≡ w .buffer)
+answered e = rw e (refl, refl)
+
+-- a report into rows that are always enough: its number, and what is in the rows then
+pub record Reported (s u j l : List ℕ) (number : ℕ) : Type 0 where
+  pub rows : List ℕ
+  pub long : length rows ≡ slotCount * rowWidth
+  pub is : number ≡ reportAnswer s u j rows .refusal
+  pub buffer : l ≡ reportAnswer s u j rows .buffer
+
+module _ {s u j l : List ℕ} {number : ℕ} (q : Reported s u j l number) where
+  shown : List ℕ
+  shown = pageOf (count s) (printedLine s u (run s u j .position))
+
   -- the number is the run's
   number-run : number ≡ run s u j .refusal
   number-run =
+      let rows = q .rows in
+      let found = report-as s u j rows in
       split (eqb (run s u j .refusal) 0)
       (λ y.
       let z = eqb-true (run s u j .refusal) 0 y in
       let few = ran-fit s u j (run s u j) refl z .checked .sized .few in
-      let k = rows-length s u j in
-      e ∙ ap (λ (w : Written). w .refusal) (report-as s u j rows ∙ passed-on (run s u j) (rowsAfter s u j) rows 0 y ∙ written (rowsAfter s u j) rows 0 (le-leb (length (rowsAfter s u j)) (length rows) (omega (arith, few, long, k)))) ∙ sym z)
-      (λ y. e ∙ ap (λ (w : Written). w .refusal) (report-as s u j rows ∙ not-passed-on (run s u j) (rowsAfter s u j) rows 0 y))
+      let room = le-leb (length (rowsAfter s u j)) (length rows) (omega (arith, few, q .long, rows-length s u j)) in
+      q .is ∙ ap (λ (w : Written). w .refusal) (found ∙ passed-on (run s u j) (rowsAfter s u j) rows 0 y ∙ written (rowsAfter s u j) rows 0 room) ∙ sym z)
+      (λ y. q .is ∙ ap (λ (w : Written). w .refusal) (found ∙ not-passed-on (run s u j) (rowsAfter s u j) rows 0 y))
 
-  pub page-refused : (number ≡ 0 → ⊥) → pageAnswer s u j out ≡ record { refusal = number; count = 0; buffer = out }
-  unfolding pageAnswer
-  page-refused h =
-      let bytes = pageOf (count s) (printedLine s u (run s u j .position)) in
-      not-passed-on (run s u j) bytes out 0 (ne-eqb (run s u j .refusal) 0 (λ z. h (number-run ∙ z)))
-      ∙ ap (λ (n : ℕ). record { refusal = n; count = 0; buffer = out }) (sym number-run)
+  pub page-refused : (out : List ℕ) → (number ≡ 0 → ⊥) → (number ≡ pageAnswer s u j out .refusal) × (out ≡ pageAnswer s u j out .buffer)
+  unfolding pageAnswer shown
+  page-refused out h = rw number-run (answered (not-passed-on (run s u j) shown out 0 (ne-eqb (run s u j .refusal) 0 (λ z. h (number-run ∙ z)))))
 
   module _ (z : number ≡ 0) where
-    run-accepted : run s u j .refusal ≡ 0
-    run-accepted = sym number-run ∙ z
-
     pub page-fit : Fit s u
-    page-fit = ran-fit s u j (run s u j) refl run-accepted
+    page-fit = ran-fit s u j (run s u j) refl (sym number-run ∙ z)
 
-    -- the rows are the report's
-    pub page-rows : take (rowWidth * count s) (reportAnswer s u j rows .buffer) ≡ rowsAfter s u j
-    page-rows = report-buffer s u j rows (sym e ∙ z)
+    page-allowed : (out : List ℕ) → pageAnswer s u j out ≡ fitted shown 0 out
+    unfolding pageAnswer shown
+    page-allowed out = passed-on (run s u j) shown out 0 (eq-eqb (run s u j .refusal) 0 (sym number-run ∙ z))
 
-    -- as the code lends them
-    pub lent-rows : (n : ℕ) (l : List ℕ) → n ≡ count s → l ≡ reportAnswer s u j rows .buffer → take (rowWidth * n) l ≡ rowsAfter s u j
-    lent-rows n l c b = rw (c, b) page-rows
+    module _ {n : ℕ} (c : n ≡ count s) where
+      pub few : n ≤ 32
+      few = omega (arith, page-fit .checked .sized .few)
 
-    pub lent-page : (n : ℕ) (l : List ℕ) → n ≡ count s → l ≡ reportAnswer s u j rows .buffer
-        → pageOf n (reportedLine (take (rowWidth * n) l)) ≡ pageOf (count s) (printedLine s u (run s u j .position))
-    lent-page n l c b = rw (lent-rows n l c b, c) (page-same s u (run s u j .position) (countsAfter s u j))
+      -- the rows that the code lends are the report's
+      rows-are : take (rowWidth * n) l ≡ rowsAfter s u j
+      rows-are = rw (c, q .buffer) (report-buffer s u j (q .rows) (sym (q .is) ∙ z))
 
-    pub rows-long : (n : ℕ) (l : List ℕ) → n ≡ count s → l ≡ reportAnswer s u j rows .buffer → length (take (rowWidth * n) l) ≡ rowWidth * n
-    rows-long n l c b = rw (lent-rows n l c b, c) (rows-length s u j)
+      pub rows-long : length (take (rowWidth * n) l) ≡ rowWidth * n
+      rows-long = rw (rows-are, c) (rows-length s u j)
 
-    pub few : (n : ℕ) → n ≡ count s → n ≤ 32
-    few n c = omega (arith, page-fit .checked .sized .few)
+      pub page-short : (out : List ℕ) → length out < 73 * suc n → (bufferShort ≡ pageAnswer s u j out .refusal) × (out ≡ pageAnswer s u j out .buffer)
+      unfolding shown
+      page-short out h = answered (page-allowed out ∙ not-written shown out 0 (lt-leb (length shown) (length out) (rw (page-size s u j page-fit, ← c) h)))
 
-    page-allowed : pageAnswer s u j out ≡ fitted (pageOf (count s) (printedLine s u (run s u j .position))) 0 out
-    unfolding pageAnswer
-    page-allowed =
-        passed-on (run s u j) (pageOf (count s) (printedLine s u (run s u j .position))) out 0 (eq-eqb (run s u j .refusal) 0 run-accepted)
-
-    pub page-short : length out < 73 * suc (count s) → pageAnswer s u j out ≡ record { refusal = bufferShort; count = 0; buffer = out }
-    page-short l =
-        let bytes = pageOf (count s) (printedLine s u (run s u j .position)) in
-        page-allowed ∙ not-written bytes out 0 (lt-leb (length bytes) (length out) (rw (page-size s u j page-fit) l))
-
-    pub page-whole : 73 * suc (count s) ≤ length out
-        → pageAnswer s u j out ≡ record { refusal = accepted; count = 0; buffer = over (pageOf (count s) (printedLine s u (run s u j .position))) out }
-    page-whole l =
-        let bytes = pageOf (count s) (printedLine s u (run s u j .position)) in
-        page-allowed ∙ written bytes out 0 (le-leb (length bytes) (length out) (rw (page-size s u j page-fit) l))
+      pub page-whole : (out l′ : List ℕ) → 73 * suc n ≤ length out → l′ ≡ over (pageOf n (reportedLine (take (rowWidth * n) l))) out
+          → (accepted ≡ pageAnswer s u j out .refusal) × (l′ ≡ pageAnswer s u j out .buffer)
+      unfolding shown
+      page-whole out l′ h e =
+          let w = answered (page-allowed out ∙ written shown out 0 (le-leb (length shown) (length out) (rw (page-size s u j page-fit, ← c) h))) in
+          (w .0, e ∙ rw (rows-are, c, page-same s u (run s u j .position) (countsAfter s u j)) (w .1))

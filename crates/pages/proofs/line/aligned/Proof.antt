@@ -7,11 +7,8 @@ use Rattle.pages.proofs.line.aligned.Tie as tie
 returns : tie.Need-returns
 returns c = at-blank _ _ _ (c .if1 .taken)
 
-shared-slice-read-result : tie.Need-shared-slice-read-result
-shared-slice-read-result c = search needs
-
 returns-2 : tie.Need-returns-2
 returns-2 c = at-text _ _ _ (c .before .if1 .left)
 
 pub aligned-spec : {M : Type 1} → statement M
-aligned-spec = tie.close (tie.spec returns shared-slice-read-result returns-2)
+aligned-spec = tie.close (tie.spec returns (λ c. search needs) returns-2)

@@ -1,8 +1,8 @@
 -- The columns before k; then the end of the line.
 use Prim.Native.Nat.{_-_, _+_, _≤_}
 use native.Mathlib.Omega.{arith}
-use mathlib.Core.Path.{_≡_, refl, sym}
-use mathlib.Core.List.{List, [], _∷_, _++_}
+use mathlib.Core.Path.{_≡_}
+use mathlib.Core.List.{[], _∷_, _++_}
 use lib.ListN.{length}
 use borrow.Rule.Slice.PartMut.{putMid}
 use Rattle.laws.specs.Gather.{gather}
@@ -55,9 +55,6 @@ sub-write-cell c = omega (arith, c .before .loop .inv .wrote)
 part-write-cell-start : tie.Need-part-write-cell-start Inv-loop μ-loop
 part-write-cell-start c = omega (arith, c .before .loop .inv .wrote)
 
-part-write-cell-end : tie.Need-part-write-cell-end Inv-loop μ-loop
-part-write-cell-end c = search needs
-
 write-cell-requires : tie.Need-write-cell-requires Inv-loop μ-loop
 write-cell-requires c κs =
     let s = c .before .before .before .before .before in
@@ -67,29 +64,17 @@ add-at : tie.Need-add-at Inv-loop μ-loop
 add-at c =
     omega (arith, turn-end _ _ _ _ _ _ _ (c .before .before .before .before .before .loop .inv) (c .before .before .before .before .loop-test .taken) (c .before .before .write-cell .ensures .0))
 
-add-k : tie.Need-add-k Inv-loop μ-loop
-add-k c = search needs
-
-loop-less : tie.Need-loop-less Inv-loop μ-loop
-loop-less c = search needs
-
 loop-again : tie.Need-loop-again Inv-loop μ-loop
 loop-again c = turn-more _ _ _ _ _ _ _ _ (c .before .before .before .before .before .loop .inv) (c .before .before .before .before .loop-test .taken) (c .before .before .write-cell .ensures .0) (c .before .before .write-cell .ensures .1)
 
 sub-write-text : tie.Need-sub-write-text Inv-loop μ-loop
 sub-write-text c = omega (arith, short c)
 
-slice-aggregate-write-text : tie.Need-slice-aggregate-write-text Inv-loop μ-loop
-slice-aggregate-write-text c = search needs
-
 sub-write-text-2 : tie.Need-sub-write-text-2 Inv-loop μ-loop
 sub-write-text-2 c = omega (arith, done (c .before))
 
 part-write-text-start : tie.Need-part-write-text-start Inv-loop μ-loop
 part-write-text-start c = omega (arith, done (c .before))
-
-part-write-text-end : tie.Need-part-write-text-end Inv-loop μ-loop
-part-write-text-end c = search needs
 
 write-text-requires : tie.Need-write-text-requires Inv-loop μ-loop
 write-text-requires c κs = let k = c .before .before in wrote-room _ _ _ _ _ (done k) (fits k)
@@ -116,17 +101,17 @@ write-line-spec =
     loop-holds
     sub-write-cell
     part-write-cell-start
-    part-write-cell-end
+    (λ c. search needs)
     write-cell-requires
     add-at
-    add-k
-    loop-less
+    (λ c. search needs)
+    (λ c. search needs)
     loop-again
     sub-write-text
-    slice-aggregate-write-text
+    (λ c. search needs)
     sub-write-text-2
     part-write-text-start
-    part-write-text-end
+    (λ c. search needs)
     write-text-requires
     same-length
     returns)

@@ -1,5 +1,5 @@
 -- The lines before i.
-use Prim.Native.Nat.{suc, _-_, _≤_, _<_}
+use Prim.Native.Nat.{suc, _-_, _<_}
 use native.Mathlib.Omega.{arith}
 use mathlib.Core.Path.{_≡_, sym}
 use lib.ListN.{length}
@@ -21,8 +21,9 @@ abbrev μ-loop : tie.MeasureT-loop
 -- line i has its length
 long : (c : tie.In-loop Inv-loop μ-loop) → length (line (lineTexts (reportedLine (c .before .before .before .before .args .report .now)) (c .before .loop .i))) ≡ 73
 long c =
-    let known = c .before .before .before .shared-slice-known .given in
-    line-length (c .before .before .before .before .args .n) (reportedLine (c .before .before .before .before .args .report .now)) (bytes-readable _ _ (c .before .before .before .before .pre .0) (λ k. omega (arith, known k))) (c .before .loop .i) (omega (arith, c .loop-test .taken))
+    let s = c .before .before .before .before in
+    let r = bytes-readable (s .args .n) (s .args .report .now) (s .pre .0) (λ k. omega (arith, c .before .before .before .shared-slice-known .given k)) in
+    line-length (s .args .n) (reportedLine (s .args .report .now)) r (c .before .loop .i) (omega (arith, c .loop-test .taken))
 
 again : (c : tie.In-loop Inv-loop μ-loop) → c .before .loop .i < suc (c .before .before .before .before .args .n)
 again c = omega (arith, c .loop-test .taken)
@@ -38,9 +39,6 @@ sub-write-line c = omega (arith, c .before .loop .inv .wrote)
 part-write-line-start : tie.Need-part-write-line-start Inv-loop μ-loop
 part-write-line-start c = omega (arith, c .before .loop .inv .wrote)
 
-part-write-line-end : tie.Need-part-write-line-end Inv-loop μ-loop
-part-write-line-end c = search needs
-
 write-line-requires : tie.Need-write-line-requires Inv-loop μ-loop
 write-line-requires c κs =
     let s = c .before .before .before .before .before in
@@ -51,12 +49,6 @@ write-line-requires c κs =
 add-at : tie.Need-add-at Inv-loop μ-loop
 add-at c =
     let k = c .before .before .before .before in omega (arith, turn-end _ _ _ _ _ _ 73 (k .before .loop .inv) (again k) (sym (long k)))
-
-add-i : tie.Need-add-i Inv-loop μ-loop
-add-i c = search needs
-
-loop-less : tie.Need-loop-less Inv-loop μ-loop
-loop-less c = search needs
 
 loop-again : tie.Need-loop-again Inv-loop μ-loop
 loop-again c =
@@ -78,11 +70,11 @@ write-page-spec =
     loop-holds
     sub-write-line
     part-write-line-start
-    part-write-line-end
+    (λ c. search needs)
     write-line-requires
     add-at
-    add-i
-    loop-less
+    (λ c. search needs)
+    (λ c. search needs)
     loop-again
     same-length
     returns)

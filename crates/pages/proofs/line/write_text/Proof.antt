@@ -13,28 +13,13 @@ Inv-loop width text out₀ before end i₀ out i = Copied (column width text) ou
 abbrev μ-loop : tie.MeasureT-loop
 μ-loop width text out₀ before end i₀ out i = end - i
 
-lack-requires : tie.Need-lack-requires Inv-loop μ-loop
-lack-requires c κs = search needs
-
-add-end : tie.Need-add-end Inv-loop μ-loop
-add-end c = search needs
-
 loop-holds : tie.Need-loop-holds Inv-loop μ-loop
 loop-holds c = copied-none _ _
-
-aligned-requires : tie.Need-aligned-requires Inv-loop μ-loop
-aligned-requires c κs = search needs
 
 slice-write-out : tie.Need-slice-write-out Inv-loop μ-loop
 slice-write-out c =
     let s = c .before .before .before .before .before .before in
     omega (arith, s .pre, c .before .before .loop .inv .long, column-end (s .args .width) (s .args .text .now) _ (c .before .before .before .lack .ensures))
-
-add-i : tie.Need-add-i Inv-loop μ-loop
-add-i c = search needs
-
-loop-less : tie.Need-loop-less Inv-loop μ-loop
-loop-less c = search needs
 
 loop-again : tie.Need-loop-again Inv-loop μ-loop
 loop-again c = column-turn _ _ _ (c .before .before .before .lack .ensures) _ _ _ _ (c .before .before .loop .inv) (c .before .loop-test .taken) (c .aligned .ensures)
@@ -53,13 +38,13 @@ write-text-spec =
     (tie.spec
     Inv-loop
     μ-loop
-    lack-requires
-    add-end
+    (λ c κs. search needs)
+    (λ c. search needs)
     loop-holds
-    aligned-requires
+    (λ c κs. search needs)
     slice-write-out
-    add-i
-    loop-less
+    (λ c. search needs)
+    (λ c. search needs)
     loop-again
     same-length
     returns)

@@ -1,125 +1,36 @@
 -- One of six texts.
-use native.Mathlib.Omega.{arith}
-use mathlib.Core.Path.{_≡_, sym}
 use Rattle.pages.proofs.Columns.{same-column, room-as, written-as}
 use Rattle.pages.proofs.Names.{is-title, last}
 use borrow.Author.Needs.{needs}
 use Rattle.pages.proofs.line.write_title.Statement.{statement}
 use Rattle.pages.proofs.line.write_title.Tie as tie
 
-width-requires : tie.Need-width-requires
-width-requires c κs = search needs
-
-slice-aggregate-write-text : tie.Need-slice-aggregate-write-text
-slice-aggregate-write-text c = search needs
-
-write-text-requires : tie.Need-write-text-requires
-write-text-requires c κs =
-    room-as _ _ (same-column _ _ _ _ (c .before .before .before .width .ensures) (is-title 0 _ (c .before .before .match .keys1))) _ (c .before .before .before .before .before .pre .1)
-
-slice-aggregate-write-text-2 : tie.Need-slice-aggregate-write-text-2
-slice-aggregate-write-text-2 c = search needs
-
-write-text-requires-2 : tie.Need-write-text-requires-2
-write-text-requires-2 c κs =
-    room-as _ _ (same-column _ _ _ _ (c .before .before .before .width .ensures) (is-title 1 _ (c .before .before .match .keys2))) _ (c .before .before .before .before .before .pre .1)
-
-slice-aggregate-write-text-3 : tie.Need-slice-aggregate-write-text-3
-slice-aggregate-write-text-3 c = search needs
-
-write-text-requires-3 : tie.Need-write-text-requires-3
-write-text-requires-3 c κs =
-    room-as _ _ (same-column _ _ _ _ (c .before .before .before .width .ensures) (is-title 2 _ (c .before .before .match .keys3))) _ (c .before .before .before .before .before .pre .1)
-
-slice-aggregate-write-text-4 : tie.Need-slice-aggregate-write-text-4
-slice-aggregate-write-text-4 c = search needs
-
-write-text-requires-4 : tie.Need-write-text-requires-4
-write-text-requires-4 c κs =
-    room-as _ _ (same-column _ _ _ _ (c .before .before .before .width .ensures) (is-title 3 _ (c .before .before .match .keys4))) _ (c .before .before .before .before .before .pre .1)
-
-slice-aggregate-write-text-5 : tie.Need-slice-aggregate-write-text-5
-slice-aggregate-write-text-5 c = search needs
-
-write-text-requires-5 : tie.Need-write-text-requires-5
-write-text-requires-5 c κs =
-    room-as _ _ (same-column _ _ _ _ (c .before .before .before .width .ensures) (is-title 4 _ (c .before .before .match .keys5))) _ (c .before .before .before .before .before .pre .1)
-
-slice-aggregate-write-text-6 : tie.Need-slice-aggregate-write-text-6
-slice-aggregate-write-text-6 c = search needs
-
-write-text-requires-6 : tie.Need-write-text-requires-6
-write-text-requires-6 c κs =
-    room-as _ _ (same-column _ _ _ _ (c .before .before .before .width .ensures) (is-title 5 _ (last _ (c .before .before .before .before .before .pre .0) (c .before .before .match .rest .0 .0 .0 .0 .1) (c .before .before .match .rest .0 .0 .0 .1) (c .before .before .match .rest .0 .0 .1) (c .before .before .match .rest .0 .1) (c .before .before .match .rest .1)))) _ (c .before .before .before .before .before .pre .1)
-
-same-length : tie.Need-same-length
-same-length c = search needs
-
-returns : tie.Need-returns
-returns c =
-    written-as _ _ (same-column _ _ _ _ (c .before .before .before .before .before .before .width .ensures) (is-title 0 _ (c .before .before .before .before .before .match .keys1))) _ _ _ (c .before .before .write-text .ensures)
-
-same-length-2 : tie.Need-same-length-2
-same-length-2 c = search needs
-
-returns-2 : tie.Need-returns-2
-returns-2 c =
-    written-as _ _ (same-column _ _ _ _ (c .before .before .before .before .before .before .width .ensures) (is-title 1 _ (c .before .before .before .before .before .match .keys2))) _ _ _ (c .before .before .write-text2 .ensures)
-
-same-length-3 : tie.Need-same-length-3
-same-length-3 c = search needs
-
-returns-3 : tie.Need-returns-3
-returns-3 c =
-    written-as _ _ (same-column _ _ _ _ (c .before .before .before .before .before .before .width .ensures) (is-title 2 _ (c .before .before .before .before .before .match .keys3))) _ _ _ (c .before .before .write-text3 .ensures)
-
-same-length-4 : tie.Need-same-length-4
-same-length-4 c = search needs
-
-returns-4 : tie.Need-returns-4
-returns-4 c =
-    written-as _ _ (same-column _ _ _ _ (c .before .before .before .before .before .before .width .ensures) (is-title 3 _ (c .before .before .before .before .before .match .keys4))) _ _ _ (c .before .before .write-text4 .ensures)
-
-same-length-5 : tie.Need-same-length-5
-same-length-5 c = search needs
-
-returns-5 : tie.Need-returns-5
-returns-5 c =
-    written-as _ _ (same-column _ _ _ _ (c .before .before .before .before .before .before .width .ensures) (is-title 4 _ (c .before .before .before .before .before .match .keys5))) _ _ _ (c .before .before .write-text5 .ensures)
-
-same-length-6 : tie.Need-same-length-6
-same-length-6 c = search needs
-
-returns-6 : tie.Need-returns-6
-returns-6 c =
-    written-as _ _ (same-column _ _ _ _ (c .before .before .before .before .before .before .width .ensures) (is-title 5 _ (last _ (c .before .before .before .before .before .before .before .before .pre .0) (c .before .before .before .before .before .match .rest .0 .0 .0 .0 .1) (c .before .before .before .before .before .match .rest .0 .0 .0 .1) (c .before .before .before .before .before .match .rest .0 .0 .1) (c .before .before .before .before .before .match .rest .0 .1) (c .before .before .before .before .before .match .rest .1)))) _ _ _ (c .before .before .write-text6 .ensures)
-
 pub write-title-spec : {M : Type 1} → statement M
 write-title-spec =
     tie.close
     (tie.spec
-    width-requires
-    slice-aggregate-write-text
-    write-text-requires
-    slice-aggregate-write-text-2
-    write-text-requires-2
-    slice-aggregate-write-text-3
-    write-text-requires-3
-    slice-aggregate-write-text-4
-    write-text-requires-4
-    slice-aggregate-write-text-5
-    write-text-requires-5
-    slice-aggregate-write-text-6
-    write-text-requires-6
-    same-length
-    returns
-    same-length-2
-    returns-2
-    same-length-3
-    returns-3
-    same-length-4
-    returns-4
-    same-length-5
-    returns-5
-    same-length-6
-    returns-6)
+    (λ c κs. search needs)
+    (λ c. search needs)
+    (λ c κs. let k = c .before .before in room-as (same-column (k .before .width .ensures) (is-title 0 (k .match .keys1))) (k .before .before .before .pre .1))
+    (λ c. search needs)
+    (λ c κs. let k = c .before .before in room-as (same-column (k .before .width .ensures) (is-title 1 (k .match .keys2))) (k .before .before .before .pre .1))
+    (λ c. search needs)
+    (λ c κs. let k = c .before .before in room-as (same-column (k .before .width .ensures) (is-title 2 (k .match .keys3))) (k .before .before .before .pre .1))
+    (λ c. search needs)
+    (λ c κs. let k = c .before .before in room-as (same-column (k .before .width .ensures) (is-title 3 (k .match .keys4))) (k .before .before .before .pre .1))
+    (λ c. search needs)
+    (λ c κs. let k = c .before .before in room-as (same-column (k .before .width .ensures) (is-title 4 (k .match .keys5))) (k .before .before .before .pre .1))
+    (λ c. search needs)
+    (λ c κs. let k = c .before .before in room-as (same-column (k .before .width .ensures) (is-title 5 (last _ (k .before .before .before .pre .0) (k .match .rest)))) (k .before .before .before .pre .1))
+    (λ c. search needs)
+    (λ c. let k = c .before .before .before .before .before in written-as (same-column (k .before .width .ensures) (is-title 0 (k .match .keys1))) _ (c .before .before .write-text .ensures))
+    (λ c. search needs)
+    (λ c. let k = c .before .before .before .before .before in written-as (same-column (k .before .width .ensures) (is-title 1 (k .match .keys2))) _ (c .before .before .write-text2 .ensures))
+    (λ c. search needs)
+    (λ c. let k = c .before .before .before .before .before in written-as (same-column (k .before .width .ensures) (is-title 2 (k .match .keys3))) _ (c .before .before .write-text3 .ensures))
+    (λ c. search needs)
+    (λ c. let k = c .before .before .before .before .before in written-as (same-column (k .before .width .ensures) (is-title 3 (k .match .keys4))) _ (c .before .before .write-text4 .ensures))
+    (λ c. search needs)
+    (λ c. let k = c .before .before .before .before .before in written-as (same-column (k .before .width .ensures) (is-title 4 (k .match .keys5))) _ (c .before .before .write-text5 .ensures))
+    (λ c. search needs)
+    (λ c. let k = c .before .before .before .before .before in written-as (same-column (k .before .width .ensures) (is-title 5 (last _ (k .before .before .before .pre .0) (k .match .rest)))) _ (c .before .before .write-text6 .ensures)))

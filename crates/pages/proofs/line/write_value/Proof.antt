@@ -1,118 +1,92 @@
 -- One of six values.
-use mathlib.Core.Path.{ap, _∙_}
-use Rattle.pages.specs.Line.{digits}
+use Prim.Native.Nat.{ℕ}
+use mathlib.Core.Path.{_≡_, refl, ap, _∙_}
+use mathlib.Core.List.{[]}
+use lib.ListN.{getD}
+use Rattle.pages.specs.Line.{digits, column, widths}
 use Rattle.pages.specs.Page.{texts}
+use Rattle.pages.specs.Forms.Cell.{values}
 use Rattle.pages.proofs.Columns.{same-column, room-as, written-as}
 use Rattle.pages.proofs.Names.{is-value, last}
 use borrow.Author.Needs.{needs}
 use Rattle.pages.proofs.line.write_value.Statement.{statement}
 use Rattle.pages.proofs.line.write_value.Tie as tie
 
-width-requires : tie.Need-width-requires
-width-requires c κs = search needs
+-- column k of the line, where k is n
+is : (c : tie.After-width) (n : ℕ) → c .before .before .args .k ≡ n
+    → let a = c .before .before .args in let v = texts (values (a .t) (a .row)) in
+    column (c .width .result) (getD v n []) ≡ column (getD widths (a .k) 0) (getD v (a .k) [])
+is c n e = same-column (c .width .ensures) (is-value (c .before .before .args .t) (c .before .before .args .row) n _ e)
 
 write-number-requires : tie.Need-write-number-requires
 unfolding texts
-write-number-requires c κs =
-    room-as _ _ (same-column _ _ _ _ (c .before .before .width .ensures) (is-value (c .before .before .before .before .args .t) (c .before .before .before .before .args .row) 0 _ (c .before .match .keys1))) _ (c .before .before .before .before .pre .1)
-
-wide-requires : tie.Need-wide-requires
-wide-requires c κs = search needs
+write-number-requires c κs = let k = c .before in room-as (is (k .before) 0 (k .match .keys1)) (k .before .before .before .pre .1)
 
 write-number-requires-2 : tie.Need-write-number-requires-2
 unfolding texts
-write-number-requires-2 c κs =
-    room-as _ _ (same-column _ _ _ _ (c .before .before .before .width .ensures) (ap digits (c .before .wide .ensures) ∙ is-value (c .before .before .before .before .before .args .t) (c .before .before .before .before .before .args .row) 1 _ (c .before .before .match .keys2))) _ (c .before .before .before .before .before .pre .1)
+write-number-requires-2 c κs = let k = c .before .before in room-as (same-column refl (ap digits (c .before .wide .ensures)) ∙ is (k .before) 1 (k .match .keys2)) (k .before .before .before .pre .1)
 
 write-payee-requires : tie.Need-write-payee-requires
 unfolding texts
-write-payee-requires c κs =
-    room-as _ _ (same-column _ _ _ _ (c .before .before .width .ensures) (is-value (c .before .before .before .before .args .t) (c .before .before .before .before .args .row) 2 _ (c .before .match .keys3))) _ (c .before .before .before .before .pre .1)
+write-payee-requires c κs = let k = c .before in room-as (is (k .before) 2 (k .match .keys3)) (k .before .before .before .pre .1)
 
 write-number-requires-3 : tie.Need-write-number-requires-3
 unfolding texts
-write-number-requires-3 c κs =
-    room-as _ _ (same-column _ _ _ _ (c .before .before .width .ensures) (is-value (c .before .before .before .before .args .t) (c .before .before .before .before .args .row) 3 _ (c .before .match .keys4))) _ (c .before .before .before .before .pre .1)
+write-number-requires-3 c κs = let k = c .before in room-as (is (k .before) 3 (k .match .keys4)) (k .before .before .before .pre .1)
 
 write-height-requires : tie.Need-write-height-requires
 unfolding texts
-write-height-requires c κs =
-    room-as _ _ (same-column _ _ _ _ (c .before .before .width .ensures) (is-value (c .before .before .before .before .args .t) (c .before .before .before .before .args .row) 4 _ (c .before .match .keys5))) _ (c .before .before .before .before .pre .1)
+write-height-requires c κs = let k = c .before in room-as (is (k .before) 4 (k .match .keys5)) (k .before .before .before .pre .1)
 
 write-height-requires-2 : tie.Need-write-height-requires-2
 unfolding texts
-write-height-requires-2 c κs =
-    room-as _ _ (same-column _ _ _ _ (c .before .before .width .ensures) (is-value (c .before .before .before .before .args .t) (c .before .before .before .before .args .row) 5 _ (last _ (c .before .before .before .before .pre .0) (c .before .match .rest .0 .0 .0 .0 .1) (c .before .match .rest .0 .0 .0 .1) (c .before .match .rest .0 .0 .1) (c .before .match .rest .0 .1) (c .before .match .rest .1)))) _ (c .before .before .before .before .pre .1)
-
-same-length : tie.Need-same-length
-same-length c = search needs
+write-height-requires-2 c κs = let k = c .before in room-as (is (k .before) 5 (last _ (k .before .before .before .pre .0) (k .match .rest))) (k .before .before .before .pre .1)
 
 returns : tie.Need-returns
 unfolding texts
-returns c =
-    written-as _ _ (same-column _ _ _ _ (c .before .before .before .before .before .width .ensures) (is-value (c .before .before .before .before .before .before .before .args .t) (c .before .before .before .before .before .before .before .args .row) 0 _ (c .before .before .before .before .match .keys1))) _ _ _ (c .before .before .write-number .ensures)
-
-same-length-2 : tie.Need-same-length-2
-same-length-2 c = search needs
+returns c = let k = c .before .before .before .before in written-as (is (k .before) 0 (k .match .keys1)) _ (c .before .before .write-number .ensures)
 
 returns-2 : tie.Need-returns-2
 unfolding texts
-returns-2 c =
-    written-as _ _ (same-column _ _ _ _ (c .before .before .before .before .before .before .width .ensures) (ap digits (c .before .before .before .before .wide .ensures) ∙ is-value (c .before .before .before .before .before .before .before .before .args .t) (c .before .before .before .before .before .before .before .before .args .row) 1 _ (c .before .before .before .before .before .match .keys2))) _ _ _ (c .before .before .write-number2 .ensures)
-
-same-length-3 : tie.Need-same-length-3
-same-length-3 c = search needs
+returns-2 c = let k = c .before .before .before .before in written-as (same-column refl (ap digits (k .wide .ensures)) ∙ is (k .before .before) 1 (k .before .match .keys2)) _ (c .before .before .write-number2 .ensures)
 
 returns-3 : tie.Need-returns-3
 unfolding texts
-returns-3 c =
-    written-as _ _ (same-column _ _ _ _ (c .before .before .before .before .before .width .ensures) (is-value (c .before .before .before .before .before .before .before .args .t) (c .before .before .before .before .before .before .before .args .row) 2 _ (c .before .before .before .before .match .keys3))) _ _ _ (c .before .before .write-payee .ensures)
-
-same-length-4 : tie.Need-same-length-4
-same-length-4 c = search needs
+returns-3 c = let k = c .before .before .before .before in written-as (is (k .before) 2 (k .match .keys3)) _ (c .before .before .write-payee .ensures)
 
 returns-4 : tie.Need-returns-4
 unfolding texts
-returns-4 c =
-    written-as _ _ (same-column _ _ _ _ (c .before .before .before .before .before .width .ensures) (is-value (c .before .before .before .before .before .before .before .args .t) (c .before .before .before .before .before .before .before .args .row) 3 _ (c .before .before .before .before .match .keys4))) _ _ _ (c .before .before .write-number3 .ensures)
-
-same-length-5 : tie.Need-same-length-5
-same-length-5 c = search needs
+returns-4 c = let k = c .before .before .before .before in written-as (is (k .before) 3 (k .match .keys4)) _ (c .before .before .write-number3 .ensures)
 
 returns-5 : tie.Need-returns-5
 unfolding texts
-returns-5 c =
-    written-as _ _ (same-column _ _ _ _ (c .before .before .before .before .before .width .ensures) (is-value (c .before .before .before .before .before .before .before .args .t) (c .before .before .before .before .before .before .before .args .row) 4 _ (c .before .before .before .before .match .keys5))) _ _ _ (c .before .before .write-height .ensures)
-
-same-length-6 : tie.Need-same-length-6
-same-length-6 c = search needs
+returns-5 c = let k = c .before .before .before .before in written-as (is (k .before) 4 (k .match .keys5)) _ (c .before .before .write-height .ensures)
 
 returns-6 : tie.Need-returns-6
 unfolding texts
-returns-6 c =
-    written-as _ _ (same-column _ _ _ _ (c .before .before .before .before .before .width .ensures) (is-value (c .before .before .before .before .before .before .before .args .t) (c .before .before .before .before .before .before .before .args .row) 5 _ (last _ (c .before .before .before .before .before .before .before .pre .0) (c .before .before .before .before .match .rest .0 .0 .0 .0 .1) (c .before .before .before .before .match .rest .0 .0 .0 .1) (c .before .before .before .before .match .rest .0 .0 .1) (c .before .before .before .before .match .rest .0 .1) (c .before .before .before .before .match .rest .1)))) _ _ _ (c .before .before .write-height2 .ensures)
+returns-6 c = let k = c .before .before .before .before in written-as (is (k .before) 5 (last _ (k .before .before .before .pre .0) (k .match .rest))) _ (c .before .before .write-height2 .ensures)
 
 pub write-value-spec : {M : Type 1} → statement M
 write-value-spec =
     tie.close
     (tie.spec
-    width-requires
+    (λ c κs. search needs)
     write-number-requires
-    wide-requires
+    (λ c κs. search needs)
     write-number-requires-2
     write-payee-requires
     write-number-requires-3
     write-height-requires
     write-height-requires-2
-    same-length
+    (λ c. search needs)
     returns
-    same-length-2
+    (λ c. search needs)
     returns-2
-    same-length-3
+    (λ c. search needs)
     returns-3
-    same-length-4
+    (λ c. search needs)
     returns-4
-    same-length-5
+    (λ c. search needs)
     returns-5
-    same-length-6
+    (λ c. search needs)
     returns-6)
