@@ -13,9 +13,9 @@ use Rattle.position.specs.declared.Position.{Position}
 use Rattle.position.specs.Position.{start}
 use Rattle.position.specs.Play.{FourBytes, journalSteps, step, runFrom, journalRight, callTests, run}
 use Rattle.runs.proofs.Calls.{sheet-passes, setup-passes, journal-whole}
-use Rattle.runs.proofs.Runs.{run-next, run-ends, row-append, run-allowed}
+use Rattle.runs.proofs.Runs.{run-next, run-ends, row-append, run-allowed, run-checked}
 use Rattle.asks.specs.Ask.{stepCount, stepOf}
-use Rattle.asks.proofs.Opens.{after-setup, call-tests, run-checked}
+use Rattle.asks.proofs.Opens.{after-setup, call-tests}
 
 -- the steps of a journal of whole steps, and of what follows it
 pub steps-append : (j b : List ℕ) → length j % 4 ≡ 0 → journalSteps (j ++ b) ≡ journalSteps j ++ journalSteps b

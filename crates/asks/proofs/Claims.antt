@@ -13,12 +13,13 @@ use Rattle.laws.specs.Booleans.{pick, split, and-parts}
 use Rattle.sheet.specs.Refusal.{accepted, journalLength, bufferShort}
 use Rattle.position.specs.Play.{run}
 use Rattle.runs.proofs.Calls.{sheet-passes, setup-passes, journal-whole}
+use Rattle.runs.proofs.Runs.{run-checked}
 use Rattle.moves.proofs.Theorems.{open-exact}
 use Rattle.asks.specs.Refusal.{countStale}
 use Rattle.asks.specs.Ask.{lengthRight, openRun, stepCount, stepOf, stepNumber, askAnswer}
 use Rattle.asks.specs.Commit.{lengthWithin, commitRun, committed, commitAnswer}
 use Rattle.asks.specs.Claim.{CommitAsAsked, Passed, NotTwice, Open, AskExact}
-use Rattle.asks.proofs.Opens.{open-right, open-wrong, opened-right, opened-run, run-counts, run-checked, by-length}
+use Rattle.asks.proofs.Opens.{open-right, open-wrong, opened-right, opened-run, run-counts, by-length}
 use Rattle.asks.proofs.Asks.{opened, asked-refused, asked-passed, number-four, number-none}
 use Rattle.asks.proofs.Commits.{by-journal, by-count, by-step, by-room, by-none, answer-no, answer-yes, answer-number, number, pass}
 use Rattle.asks.proofs.Appended.{one-more, whole, run-appended}

@@ -1,24 +1,22 @@
 -- The journal's run behind the tests of both calls: with a length that passes it is run's.
 -- Assumes nothing.
-use Prim.Native.Nat.{ℕ, _+_, _≤_, _<_}
+use Prim.Native.Nat.{ℕ, _≤_, _<_}
 use native.Mathlib.Omega.{arith}
 use mathlib.Core.Path.{_≡_, refl, sym, _∙_}
 use mathlib.Core.Bool.{Bool, true, false, false≢true}
 use mathlib.Core.List.{List, [], _∷_, _++_}
 use lib.Dec.{eqb, lit<, lit≤}
-use lib.ListN.{length}
 use borrow.Author.Tests.{ne-eqb, eqb-true, eqb-false}
 use Rattle.laws.specs.Booleans.{split}
-use Rattle.laws.specs.Failing.{firstFailing, numbered, passed, passed-append, failed-append, answer-below}
+use Rattle.laws.specs.Failing.{firstFailing, passed, passed-append, failed-append, answer-below}
 use Rattle.sheet.specs.Refusal.{accepted, journalLength}
 use Rattle.sheet.specs.Check.{arrayTests, sheetTests, sheetRefusal}
 use Rattle.sheet.specs.Setup.{setupTests, setupRefusal}
 use Rattle.sheet.specs.Checked.{Fit}
-use Rattle.position.specs.declared.Position.{Position}
 use Rattle.position.specs.declared.Ran.{Ran}
 use Rattle.position.specs.Position.{start}
-use Rattle.position.specs.Play.{FourBytes, journalSteps, step, runFrom, journalRight, callTests, run}
-use Rattle.runs.proofs.Runs.{run-next, run-stops, run-ends, run-allowed, run-refused, ran-fit}
+use Rattle.position.specs.Play.{journalSteps, journalRight, callTests, run}
+use Rattle.runs.proofs.Runs.{row-counts, run-allowed, run-refused, run-checked, ran-fit}
 use Rattle.runs.proofs.Bounds.{run-bounds}
 use Rattle.asks.specs.Ask.{openTests, openRun, stepCount}
 
@@ -26,23 +24,15 @@ module _ (s u : List ℕ) where
   abbrev rest : Bool → List (ℕ × Bool)
   rest right = (journalLength, right) ∷ []
 
-  sheet-numbered : numbered (sheetTests s) ≡ true
-  unfolding sheetTests arrayTests
-  sheet-numbered = refl
-
-  setup-numbered : numbered (setupTests s u) ≡ true
-  unfolding setupTests
-  setup-numbered = refl
-
   -- the tests one after another, where a and b are what the code found of the sheet and of the setup
   module _ (right : Bool) where
     after-sheet : sheetRefusal s ≡ 0 → firstFailing (openTests s u right) ≡ firstFailing (setupTests s u ++ rest right)
-    unfolding sheetRefusal openTests
-    after-sheet h = passed-append (sheetTests s) (setupTests s u ++ rest right) sheet-numbered h
+    unfolding sheetRefusal openTests sheetTests arrayTests
+    after-sheet h = passed-append (sheetTests s) (setupTests s u ++ rest right) refl h
 
     pub after-setup : sheetRefusal s ≡ 0 → setupRefusal s u ≡ 0 → firstFailing (openTests s u right) ≡ firstFailing (rest right)
-    unfolding setupRefusal
-    after-setup h k = after-sheet h ∙ passed-append (setupTests s u) (rest right) setup-numbered k
+    unfolding setupRefusal setupTests
+    after-setup h k = after-sheet h ∙ passed-append (setupTests s u) (rest right) refl k
 
     pub by-sheet : (a : ℕ) → a ≡ sheetRefusal s → (a ≡ 0 → ⊥) → a ≡ firstFailing (openTests s u right)
     unfolding sheetRefusal openTests
@@ -109,29 +99,13 @@ module _ (s u : List ℕ) where
     pub opened-fit : (right : Bool) (r : Ran) → r ≡ openRun s u right j → r .refusal ≡ 0 → Fit s u
     opened-fit right r e z = ran-fit s u j r (e ∙ opened-run right (rw e at z)) z
 
-  -- all steps of a row are counted where none is refused
-  row-counts : (bs : List FourBytes) (c : ℕ) (p : Position) → runFrom s u bs c p .refusal ≡ 0 → runFrom s u bs c p .accepted ≡ c + length bs
-  row-counts [] c p h = rw (run-ends s u c p) (omega arith)
-  row-counts (b ∷ bs) c p h =
-      split (eqb (step s u p b .refusal) accepted)
-      (λ e.
-      let n = run-next s u b bs c p e in
-      rw n (omega (arith, row-counts bs (c + 1) (step s u p b .position) (rw n at h))))
-      (λ e. let n = run-stops s u b bs c p e in absurd (eqb-false (step s u p b .refusal) accepted e (rw n at h)))
-
   module _ (j : List ℕ) where
-    pub run-checked : run s u j .refusal ≡ 0 → firstFailing (callTests s u j) ≡ 0
-    run-checked z =
-        split (eqb (firstFailing (callTests s u j)) 0)
-        (λ y. eqb-true (firstFailing (callTests s u j)) 0 y)
-        (λ y. rw (run-refused s u j (eqb-false (firstFailing (callTests s u j)) 0 y)) at z)
-
     -- run's count is that of the journal's steps
     pub run-counts : run s u j .refusal ≡ 0 → run s u j .accepted ≡ stepCount j
     unfolding stepCount
     run-counts z =
-        let e = run-allowed s u j (run-checked z) in
-        rw e (omega (arith, row-counts (journalSteps j) 0 (start s) (rw e at z)))
+        let e = run-allowed s u j (run-checked s u j z) in
+        rw e (omega (arith, row-counts s u (journalSteps j) 0 (start s) (rw e at z)))
 
     pub opened-counts : (right : Bool) (r : Ran) → r ≡ openRun s u right j → r .refusal ≡ 0 → r .accepted ≡ stepCount j
     opened-counts right r e z =

@@ -49,12 +49,9 @@ next-at l i h =
 unfoldable pub entriesFrom : List ℕ → ℕ → List Entry
 entriesFrom list k = listEntries (drop (4 * k) list)
 
-further : (k : ℕ) → 4 * k + 4 ≡ 4 * (k + 1)
-further k = omega arith
-
 pub entries-next : (list : List ℕ) (k : ℕ) → 4 * k + 4 ≤ length list → entriesFrom list k ≡ entryOf (listedAt list (4 * k)) ∷ entriesFrom list (k + 1)
 unfolding entriesFrom
-entries-next list k h = rw (next-at list (4 * k) h, further k)
+entries-next list k h = let e : 4 * k + 4 ≡ 4 * (k + 1) = omega arith in rw (next-at list (4 * k) h, e)
 
 entries-none : (list : List ℕ) (k : ℕ) → length list < 4 * k + 4 → entriesFrom list k ≡ []
 unfolding entriesFrom

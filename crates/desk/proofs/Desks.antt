@@ -8,7 +8,7 @@ use lib.Dec.{eqb, leb, lit<}
 use lib.ListN.{length}
 use borrow.Author.Tests.{eq-eqb, ne-eqb, eqb-true, eqb-false, le-leb, lt-leb}
 use Rattle.laws.specs.Booleans.{split}
-use Rattle.laws.specs.Failing.{firstFailing, numbered, passed, passed-append, failed-append, answer-below, fails, passes, none-left}
+use Rattle.laws.specs.Failing.{firstFailing, passed, passed-append, failed-append, answer-below, fails, passes, none-left}
 use Rattle.laws.specs.Gather.{length-gather}
 use Rattle.laws.specs.Little.{length-pair}
 use Rattle.laws.specs.Over.{over}
@@ -34,13 +34,9 @@ module _ (s b : List ℕ) where
   abbrev bundleTests : List (ℕ × Bool)
   bundleTests = (bundleLayout, bundleRight b) ∷ []
 
-  sheet-numbered : numbered (sheetTests s) ≡ true
-  unfolding sheetTests arrayTests
-  sheet-numbered = refl
-
   after-sheet : sheetRefusal s ≡ 0 → firstFailing (deskTests s b) ≡ firstFailing bundleTests
-  unfolding sheetRefusal deskTests
-  after-sheet h = passed-append (sheetTests s) bundleTests sheet-numbered h
+  unfolding sheetRefusal deskTests sheetTests arrayTests
+  after-sheet h = passed-append (sheetTests s) bundleTests refl h
 
   -- the returns of the code, where a is what it found of the sheet and r of the bundle
   pub by-sheet : (a : ℕ) → a ≡ sheetRefusal s → (a ≡ 0 → ⊥) → a ≡ firstFailing (deskTests s b)

@@ -7,7 +7,7 @@ use mathlib.Core.List.{List, [], _∷_, _++_}
 use lib.Dec.{leb}
 use lib.ListN.{length}
 use borrow.Author.Tests.{le-leb, lt-leb}
-use Rattle.laws.specs.Failing.{firstFailing, numbered, passed-append, failed-append}
+use Rattle.laws.specs.Failing.{firstFailing, passed-append, failed-append}
 use Rattle.sheet.specs.Refusal.{bufferShort}
 use Rattle.sheet.specs.Field.{count}
 use Rattle.sheet.specs.Check.{arrayTests, sheetTests, sheetRefusal}
@@ -20,21 +20,13 @@ module _ (s u : List ℕ) (bs : List FourBytes) (a o : List ℕ) where
   abbrev roomTests : List (ℕ × Bool)
   roomTests = (bufferShort, roomRight s u bs a o) ∷ []
 
-  sheet-numbered : numbered (sheetTests s) ≡ true
-  unfolding sheetTests arrayTests
-  sheet-numbered = refl
-
-  setup-numbered : numbered (setupTests s u) ≡ true
-  unfolding setupTests
-  setup-numbered = refl
-
   after-sheet : sheetRefusal s ≡ 0 → historyNumber s u bs a o ≡ firstFailing (setupTests s u ++ roomTests)
-  unfolding sheetRefusal historyNumber
-  after-sheet h = passed-append (sheetTests s) (setupTests s u ++ roomTests) sheet-numbered h
+  unfolding sheetRefusal historyNumber sheetTests arrayTests
+  after-sheet h = passed-append (sheetTests s) (setupTests s u ++ roomTests) refl h
 
   after-setup : sheetRefusal s ≡ 0 → setupRefusal s u ≡ 0 → historyNumber s u bs a o ≡ firstFailing roomTests
-  unfolding setupRefusal
-  after-setup h k = after-sheet h ∙ passed-append (setupTests s u) roomTests setup-numbered k
+  unfolding setupRefusal setupTests
+  after-setup h k = after-sheet h ∙ passed-append (setupTests s u) roomTests refl k
 
   pub by-sheet : (sheetRefusal s ≡ 0 → ⊥) → sheetRefusal s ≡ historyNumber s u bs a o
   unfolding sheetRefusal historyNumber

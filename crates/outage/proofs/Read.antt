@@ -22,7 +22,7 @@ use Rattle.position.specs.Position.{start}
 use Rattle.position.specs.Play.{FourBytes, journalSteps, step, runFrom, callTests, run, play}
 use Rattle.position.specs.Answers.{Written}
 use Rattle.moves.proofs.Journals.{play-next}
-use Rattle.runs.proofs.Runs.{run-next, run-stops, run-ends, run-allowed, run-refused}
+use Rattle.runs.proofs.Runs.{run-next, run-stops, run-ends, run-allowed, run-checked}
 use Rattle.runs.proofs.Calls.{sheet-passes, setup-passes}
 use Rattle.outages.specs.Verdict.{verdict, outageRow, outageBytes}
 use Rattle.outages.specs.Answer.{outageAnswer}
@@ -79,12 +79,7 @@ module _ (s u j : List ℕ) (blocks : ℕ) (out : List ℕ) (a : outageAnswer s 
 
   -- the checks before any step passed
   calls : firstFailing (callTests s u j) ≡ 0
-  calls =
-      split (eqb (firstFailing (callTests s u j)) 0)
-      (λ y. eqb-true (firstFailing (callTests s u j)) 0 y)
-      (λ y.
-      let n = eqb-false (firstFailing (callTests s u j)) 0 y in
-      absurd (n (ap (λ (r : Ran). r .refusal) (sym (run-refused s u j n)) ∙ run-taken)))
+  calls = run-checked s u j run-taken
 
   pub sheet-right : sheetRefusal s ≡ accepted
   sheet-right = sheet-passes s u j calls

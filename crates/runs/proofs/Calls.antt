@@ -8,7 +8,7 @@ use lib.Dec.{eqb, leb}
 use lib.ListN.{length}
 use borrow.Author.Tests.{eqb-true, eqb-false, leb-true}
 use Rattle.laws.specs.Booleans.{split, and-parts}
-use Rattle.laws.specs.Failing.{firstFailing, numbered, passed, passed-append, failed-append, fails, passes, none-left}
+use Rattle.laws.specs.Failing.{firstFailing, passed, passed-append, failed-append, fails, passes, none-left}
 use Rattle.sheet.specs.Refusal.{journalLength}
 use Rattle.sheet.specs.Check.{arrayTests, sheetTests, sheetRefusal}
 use Rattle.sheet.specs.Setup.{setupTests, setupRefusal}
@@ -27,21 +27,13 @@ module _ (s u j : List ℕ) where
   abbrev journalTests : List (ℕ × Bool)
   journalTests = (journalLength, journalRight j) ∷ []
 
-  sheet-numbered : numbered (sheetTests s) ≡ true
-  unfolding sheetTests arrayTests
-  sheet-numbered = refl
-
-  setup-numbered : numbered (setupTests s u) ≡ true
-  unfolding setupTests
-  setup-numbered = refl
-
   after-sheet : sheetRefusal s ≡ 0 → firstFailing (callTests s u j) ≡ firstFailing (setupTests s u ++ journalTests)
-  unfolding sheetRefusal callTests
-  after-sheet h = passed-append (sheetTests s) (setupTests s u ++ journalTests) sheet-numbered h
+  unfolding sheetRefusal callTests sheetTests arrayTests
+  after-sheet h = passed-append (sheetTests s) (setupTests s u ++ journalTests) refl h
 
   after-setup : sheetRefusal s ≡ 0 → setupRefusal s u ≡ 0 → firstFailing (callTests s u j) ≡ firstFailing journalTests
-  unfolding setupRefusal
-  after-setup h k = after-sheet h ∙ passed-append (setupTests s u) journalTests setup-numbered k
+  unfolding setupRefusal setupTests
+  after-setup h k = after-sheet h ∙ passed-append (setupTests s u) journalTests refl k
 
   -- the returns of the code, where a and b are what it found of the sheet and of the setup
   pub by-sheet : (a : ℕ) → a ≡ sheetRefusal s → (a ≡ 0 → ⊥) → a ≡ firstFailing (callTests s u j)

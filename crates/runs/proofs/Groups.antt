@@ -47,12 +47,9 @@ pub groups-all : (j : List ℕ) → groupsFrom j 0 ≡ journalSteps j
 unfolding groupsFrom
 groups-all j = refl
 
-further : (k : ℕ) → 4 * k + 4 ≡ 4 * (k + 1)
-further k = omega arith
-
 pub groups-next : (j : List ℕ) (k : ℕ) → 4 * k + 4 ≤ length j → groupsFrom j k ≡ stepAt j (4 * k) ∷ groupsFrom j (k + 1)
 unfolding groupsFrom journalSteps stepAt
-groups-next j k h = rw (four-bytes j (4 * k) h, further k)
+groups-next j k h = let e : 4 * k + 4 ≡ 4 * (k + 1) = omega arith in rw (four-bytes j (4 * k) h, e)
 
 pub groups-none : (j : List ℕ) (k : ℕ) → length j < 4 * k + 4 → groupsFrom j k ≡ []
 unfolding groupsFrom

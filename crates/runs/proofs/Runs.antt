@@ -46,6 +46,16 @@ module _ (s u : List ℕ) where
       run-next b (bs ++ cs) c p e ∙ rw n (row-append bs cs (c + 1) (step s u p b .position) (rw n at h)))
       (λ e. absurd (eqb-false (step s u p b .refusal) accepted e (rw (run-stops b bs c p e) at h)))
 
+  -- all steps of a row are counted where none is refused
+  pub row-counts : (bs : List FourBytes) (c : ℕ) (p : Position) → runFrom s u bs c p .refusal ≡ 0 → runFrom s u bs c p .accepted ≡ c + length bs
+  row-counts [] c p h = rw (run-ends c p) (omega arith)
+  row-counts (b ∷ bs) c p h =
+      split (eqb (step s u p b .refusal) accepted)
+      (λ e.
+      let n = run-next b bs c p e in
+      rw n (omega (arith, row-counts bs (c + 1) (step s u p b .position) (rw n at h))))
+      (λ e. absurd (eqb-false (step s u p b .refusal) accepted e (rw (run-stops b bs c p e) at h)))
+
   -- a row of one step
   pub one-step : (b : FourBytes) (p : Position) → record { refusal = runFrom s u (b ∷ []) 0 p .refusal; position = runFrom s u (b ∷ []) 0 p .position } ≡ step s u p b
   one-step b p =
@@ -80,7 +90,7 @@ module _ (s u j : List ℕ) where
   ran-allowed n r p e z g f = f ∙ rw g (sym (run-allowed (sym e ∙ z)))
 
   -- a run that refuses nothing passed the checks before any step
-  run-checked : run s u j .refusal ≡ 0 → firstFailing (callTests s u j) ≡ 0
+  pub run-checked : run s u j .refusal ≡ 0 → firstFailing (callTests s u j) ≡ 0
   run-checked z =
       split (eqb (firstFailing (callTests s u j)) 0)
       (λ y. eqb-true (firstFailing (callTests s u j)) 0 y)

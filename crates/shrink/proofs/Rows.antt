@@ -13,7 +13,7 @@ use Rattle.laws.specs.Booleans.{split, and-parts}
 use Rattle.sheet.specs.Refusal.{accepted}
 use Rattle.position.specs.declared.Position.{Position}
 use Rattle.position.specs.Play.{FourBytes, journalSteps, journalBytes, step, runFrom}
-use Rattle.runs.proofs.Runs.{run-next, run-stops, run-ends, row-append}
+use Rattle.runs.proofs.Runs.{run-next, run-stops, run-ends, row-append, row-counts}
 use Rattle.shrink.specs.Shrink.{stillRefused}
 
 -- four bytes a step
@@ -52,17 +52,6 @@ module _ (s u : List ℕ) where
       rw (run-next s u b row (c + d) p e, run-next s u b row d p e, a) (row-shift row c (d + 1) (step s u p b .position)))
       (λ e. rw (run-stops s u b row (c + d) p e, run-stops s u b row d p e) (refl, refl))
 
-  -- an accepted row is counted whole
-  pub row-whole : (row : List FourBytes) (c : ℕ) (p : Position) → runFrom s u row c p .refusal ≡ 0 → runFrom s u row c p .accepted ≡ c + length row
-  row-whole [] c p h = rw (run-ends s u c p) (omega arith)
-  row-whole (b ∷ row) c p h =
-      split (eqb (step s u p b .refusal) accepted)
-      (λ e.
-      let n = run-next s u b row c p e in
-      let w = row-whole row (c + 1) (step s u p b .position) (rw n at h) in
-      rw n (omega (arith, w)))
-      (λ e. absurd (eqb-false (step s u p b .refusal) accepted e (rw (run-stops s u b row c p e) at h)))
-
   -- an accepted row with one more accepted step
   pub row-longer : (row : List FourBytes) (b : FourBytes) (p : Position) → runFrom s u row 0 p .refusal ≡ 0 → step s u (runFrom s u row 0 p .position) b .refusal ≡ 0
       → (runFrom s u (row ++ (b ∷ [])) 0 p .refusal ≡ 0) × (runFrom s u (row ++ (b ∷ [])) 0 p .position ≡ step s u (runFrom s u row 0 p .position) b .position)
@@ -80,7 +69,7 @@ module _ (s u : List ℕ) where
         let r = runFrom s u kept 0 p in
         let w = row-shift row (length kept) 0 (r .position) in
         let x = runFrom s u row 0 (r .position) .accepted in
-        let a : r .accepted ≡ length kept + 0 = row-whole kept 0 p h ∙ omega arith in
+        let a : r .accepted ≡ length kept + 0 = row-counts s u kept 0 p h ∙ omega arith in
         let b : length kept + x + 1 ≡ length kept + (x + 1) = omega arith in
         rw (row-append s u kept row 0 p h, a, w .0, w .1, length-append kept row, b, eqb-add (length kept) (x + 1) (length row)) refl
 

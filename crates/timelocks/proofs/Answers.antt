@@ -33,14 +33,6 @@ module _ (s u : List ℕ) (base : ℕ) where
   abbrev limits : List (ℕ × Bool)
   limits = limitTests s (perDay u) base
 
-  sheet-numbered : numbered (sheetTests s) ≡ true
-  unfolding sheetTests arrayTests
-  sheet-numbered = refl
-
-  setup-numbered : numbered (setupTests s u) ≡ true
-  unfolding setupTests
-  setup-numbered = refl
-
   limits-numbered : numbered limits ≡ true
   unfolding limitTests
   limits-numbered = refl
@@ -50,8 +42,8 @@ module _ (s u : List ℕ) (base : ℕ) where
   field-numbered = refl
 
   after-sheet : sheetRefusal s ≡ 0 → fieldRefusal s u base ≡ firstFailing (setupTests s u ++ limits)
-  unfolding sheetRefusal fieldTests fieldRefusal
-  after-sheet h = passed-append (sheetTests s) (setupTests s u ++ limits) sheet-numbered h
+  unfolding sheetRefusal fieldTests fieldRefusal sheetTests arrayTests
+  after-sheet h = passed-append (sheetTests s) (setupTests s u ++ limits) refl h
 
   -- the returns of the code, where a, b and c are what it found of the sheet, of the setup and of the two limits
   pub by-sheet : (a : ℕ) → a ≡ sheetRefusal s → (a ≡ 0 → ⊥) → a ≡ fieldRefusal s u base
@@ -64,19 +56,19 @@ module _ (s u : List ℕ) (base : ℕ) where
 
   pub by-limits : (a b d c : ℕ) → a ≡ sheetRefusal s → a ≡ 0 → b ≡ setupRefusal s u → b ≡ 0 → d ≡ perDay u
       → c ≡ firstFailing (limitTests s d base) → c ≡ fieldRefusal s u base
-  unfolding setupRefusal
+  unfolding setupRefusal setupTests
   by-limits a b d c e z f y g h =
-      (rw g at h) ∙ sym (passed-append (setupTests s u) limits setup-numbered (sym f ∙ y)) ∙ sym (after-sheet (sym e ∙ z))
+      (rw g at h) ∙ sym (passed-append (setupTests s u) limits refl (sym f ∙ y)) ∙ sym (after-sheet (sym e ∙ z))
 
   -- the tests of the two numbers passed
   module _ (h : fieldRefusal s u base ≡ 0) where
     sheet-passes : (sheetRefusal s ≡ 0) × (firstFailing (setupTests s u ++ limits) ≡ 0)
-    unfolding sheetRefusal fieldTests fieldRefusal
-    sheet-passes = both-pass (sheetTests s) (setupTests s u ++ limits) sheet-numbered h
+    unfolding sheetRefusal fieldTests fieldRefusal sheetTests arrayTests
+    sheet-passes = both-pass (sheetTests s) (setupTests s u ++ limits) refl h
 
     setup-passes : (setupRefusal s u ≡ 0) × (firstFailing limits ≡ 0)
-    unfolding setupRefusal
-    setup-passes = both-pass (setupTests s u) limits setup-numbered (sheet-passes .1)
+    unfolding setupRefusal setupTests
+    setup-passes = both-pass (setupTests s u) limits refl (sheet-passes .1)
 
     pub field-fit : Fit s u
     field-fit = fit s u (sheet-passes .0) (setup-passes .0)
