@@ -16,7 +16,6 @@ use Rattle.laws.specs.Over.{over, stores-over}
 use Rattle.sheet.specs.Refusal.{accepted, bufferShort}
 use Rattle.position.specs.declared.Ran.{Ran}
 use Rattle.position.specs.Play.{step, run}
-use Rattle.position.specs.Answers.{Written}
 use Rattle.asks.specs.Refusal.{countStale}
 use Rattle.asks.specs.Ask.{lengthRight, openRun, stepCount, stepOf, stepNumber, own}
 use Rattle.asks.specs.Commit.{lengthWithin, commitRun, commitTests, committed, commitAnswer}
@@ -210,7 +209,3 @@ module _ (s u b : List ℕ) (c : ℕ) (buffer : List ℕ) (n : ℕ) where
   -- the number of a commit is one of the refusals to 35
   pub commit-below : commitAnswer s u b c buffer n .refusal < 36
   commit-below = rw answer-number number-small
-
--- the number and the buffer of an answer
-pub answered : (w v : Written) → w ≡ v → (v .refusal ≡ w .refusal) × (v .buffer ≡ w .buffer)
-answered w v e = rw e (refl, refl)

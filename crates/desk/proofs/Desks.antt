@@ -1,12 +1,13 @@
 -- The checks of the call, one after another, and its answers, case by case.
 -- Assumes nothing.
 use Prim.Native.Nat.{ℕ, _*_, _≤_, _<_}
+use native.Mathlib.Omega.{arith}
 use mathlib.Core.Path.{_≡_, refl, sym, _∙_}
 use mathlib.Core.Bool.{Bool, true, false, not}
 use mathlib.Core.List.{List, [], _∷_}
-use lib.Dec.{eqb, leb, lit<}
+use lib.Dec.{eqb, lit<}
 use lib.ListN.{length}
-use borrow.Author.Tests.{eq-eqb, ne-eqb, eqb-true, eqb-false, le-leb, lt-leb}
+use borrow.Author.Tests.{eq-eqb, ne-eqb, eqb-true, eqb-false}
 use Rattle.laws.specs.Booleans.{split}
 use Rattle.laws.specs.Failing.{firstFailing, passed, passed-append, failed-append, answer-below, fails, passes, none-left}
 use Rattle.laws.specs.Gather.{length-gather}
@@ -15,7 +16,7 @@ use Rattle.laws.specs.Over.{over}
 use Rattle.sheet.specs.Refusal.{accepted, bufferShort}
 use Rattle.sheet.specs.Check.{arrayTests, sheetTests, sheetRefusal}
 use Rattle.position.specs.Answers.{Written, fitted}
-use Rattle.position.proofs.Passing.{written, not-written}
+use Rattle.position.proofs.Passing.{written, not-written, fitted-bounds}
 use Rattle.desk.specs.Refusal.{bundleLayout}
 use Rattle.desk.specs.Bundle.{swaps, bundleRight}
 use Rattle.desk.specs.Desk.{swapRun, entryBytes, swapBytes, deskBytes, deskTests, deskAnswer}
@@ -79,15 +80,11 @@ module _ (s b out : List ℕ) (n : ℕ) (e : n ≡ firstFailing (deskTests s b))
   unfolding deskAnswer
   desk-allowed z = rw (eq-eqb (firstFailing (deskTests s b)) 0 (sym e ∙ z), deskAnswer)
 
-  desk-fits : 8 * swaps b ≤ length out → leb (length (deskBytes s b)) (length out) ≡ true
-  desk-fits l = le-leb (length (deskBytes s b)) (length out) (rw (desk-length s b) l)
-
   pub desk-whole : n ≡ 0 → 8 * swaps b ≤ length out → deskAnswer s b out ≡ record { refusal = accepted; count = 0; buffer = over (deskBytes s b) out }
-  desk-whole z l = desk-allowed z ∙ written (deskBytes s b) out 0 (desk-fits l)
+  desk-whole z l = desk-allowed z ∙ written (deskBytes s b) out 0 (rw (desk-length s b) l)
 
   pub desk-short : n ≡ 0 → length out < 8 * swaps b → deskAnswer s b out ≡ record { refusal = bufferShort; count = 0; buffer = out }
-  desk-short z l =
-      desk-allowed z ∙ not-written (deskBytes s b) out 0 (lt-leb (length (deskBytes s b)) (length out) (rw (desk-length s b) l))
+  desk-short z l = desk-allowed z ∙ not-written (deskBytes s b) out 0 (rw (desk-length s b) l)
 
   -- the returns of the code
   pub gives-refused : (n ≡ 0 → ⊥) → Gives n out (deskAnswer s b out)
@@ -104,9 +101,5 @@ pub desk-below : (s b out : List ℕ) → deskAnswer s b out .refusal < 29
 desk-below s b out =
     let n = firstFailing (deskTests s b) in
     split (eqb n 0)
-    (λ e.
-    let z = eqb-true n 0 e in
-    split (leb (length (deskBytes s b)) (length out))
-    (λ f. rw (desk-allowed s b out n refl z, written (deskBytes s b) out 0 f) (lit< tt))
-    (λ f. rw (desk-allowed s b out n refl z, not-written (deskBytes s b) out 0 f) (lit< tt)))
+    (λ e. rw (desk-allowed s b out n refl (eqb-true n 0 e)) (omega (arith, fitted-bounds (deskBytes s b) out 0 .0)))
     (λ e. rw (desk-refused s b out n refl (eqb-false n 0 e)) (tests-below s b))

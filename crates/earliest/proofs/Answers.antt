@@ -5,9 +5,9 @@ use native.Mathlib.Omega.{arith}
 use mathlib.Core.Path.{_≡_, refl, sym, _∙_}
 use mathlib.Core.Bool.{Bool, true, false, not, _&&_, _||_}
 use mathlib.Core.List.{List, _++_}
-use lib.Dec.{eqb, ltb, leb, lit<}
+use lib.Dec.{eqb, ltb, lit<}
 use lib.ListN.{length}
-use borrow.Author.Tests.{eq-eqb, ne-eqb, le-leb, lt-leb, eqb-true, eqb-false, ltb-true, not-true}
+use borrow.Author.Tests.{eq-eqb, ne-eqb, eqb-true, eqb-false, ltb-true, not-true}
 use Rattle.laws.specs.Booleans.{split, and-parts}
 use Rattle.laws.specs.Below.{allBelow, all-at}
 use Rattle.laws.specs.Failing.{firstFailing, answer-below, passed, passed-append, failed-append}
@@ -22,8 +22,8 @@ use Rattle.sheet.proofs.Parties.{party-small}
 use Rattle.slots.specs.Destination.{isContract, isParty, isPayee}
 use Rattle.steps.specs.Decode.{sharesTo}
 use Rattle.position.specs.Tests.{blockLimit}
-use Rattle.position.specs.Answers.{Written, fitted}
-use Rattle.position.proofs.Passing.{written, not-written}
+use Rattle.position.specs.Answers.{fitted}
+use Rattle.position.proofs.Passing.{Gives, written, not-written, fitted-bounds}
 use Rattle.blocks.specs.BlockList.{listBytes}
 use Rattle.blocks.proofs.Lengths.{length-list}
 use Rattle.endings.specs.Plan.{plan}
@@ -32,10 +32,6 @@ use Rattle.earliest.specs.Answer.{earliestRefusal, earliestList, earlies
 use Rattle.earliest.specs.Forms.Table.{members, table, Destined, tableBytes}
 use Rattle.earliest.proofs.Rows.{table-plan}
 use Rattle.earliest.proofs.Lengths.{plan-length}
-
--- the refusal x, the count y and the buffer l of an answer
-abbrev pub Gives : ℕ → ℕ → List ℕ → Written → Type 0
-Gives x y l w = (x ≡ w .refusal) × ((y ≡ w .count) × (l ≡ w .buffer))
 
 -- ---- the tests, one after another
 module _ (s u : List ℕ) (mask : ℕ) (dests : List ℕ) where
@@ -128,7 +124,7 @@ module _ (s : List ℕ) (d mask : ℕ) (dests out : List ℕ) (few : count s ≤
   pub plan-short : length out < 4 * k → Gives 25 0 out (fitted (listBytes (plan s d mask (destinationOf mask dests) blockLimit)) (length (plan s d mask (destinationOf mask dests) blockLimit)) out)
   plan-short h =
       rw (not-written (listBytes (plan s d mask (destinationOf mask dests) blockLimit)) out (length (plan s d mask (destinationOf mask dests) blockLimit))
-      (lt-leb (length (listBytes (plan s d mask (destinationOf mask dests) blockLimit))) (length out) (rw plan-bytes h))) (refl, (refl, refl))
+      (rw plan-bytes h)) (refl, (refl, refl))
 
   -- b is the table that the code made
   module _ (b : List ℕ) (m : b ≡ table s d f) (h : 4 * k ≤ length out) where
@@ -142,15 +138,9 @@ module _ (s : List ℕ) (d mask : ℕ) (dests out : List ℕ) (few : count s ≤
         → Gives 0 k l (fitted (listBytes (plan s d mask (destinationOf mask dests) blockLimit)) (length (plan s d mask (destinationOf mask dests) blockLimit)) out)
     plan-whole l o =
         rw (written (listBytes (plan s d mask (destinationOf mask dests) blockLimit)) out (length (plan s d mask (destinationOf mask dests) blockLimit))
-        (le-leb (length (listBytes (plan s d mask (destinationOf mask dests) blockLimit))) (length out) (rw plan-bytes h))) (refl, (plan-count, rw table-bytes at o))
+        (rw plan-bytes h)) (refl, (plan-count, rw table-bytes at o))
 
 -- ---- how large the answer can be
-fitted-bounds : (bytes out : List ℕ) (n : ℕ) → n ≤ 32 → (fitted bytes n out .refusal < 35) × (fitted bytes n out .count ≤ 32)
-fitted-bounds bytes out n h =
-    split (leb (length bytes) (length out))
-    (λ y. rw (written bytes out n y) (lit< tt, h))
-    (λ y. rw (not-written bytes out n y) (lit< tt, omega arith))
-
 module _ (s u : List ℕ) (mask : ℕ) (dests out : List ℕ) where
   list-few : earliestRefusal s u mask dests ≡ 0 → length (earliestList s u mask dests) ≤ 32
   unfolding earliestList
@@ -164,8 +154,8 @@ module _ (s u : List ℕ) (mask : ℕ) (dests out : List ℕ) where
   answer-bounds =
       split (eqb (earliestRefusal s u mask dests) 0)
       (λ y.
-      rw (y, earliestAnswer)
-      (fitted-bounds (listBytes (earliestList s u mask dests)) out (length (earliestList s u mask dests)) (list-few (eqb-true (earliestRefusal s u mask dests) 0 y))))
+      let w = fitted-bounds (listBytes (earliestList s u mask dests)) out (length (earliestList s u mask dests)) in
+      rw (y, earliestAnswer) (omega (arith, w .0), omega (arith, w .1, list-few (eqb-true (earliestRefusal s u mask dests) 0 y))))
       (λ y. rw (y, earliestAnswer) (refusal-below s u mask dests, omega arith))
 
   pub planned-bounds : (x y : ℕ) (l : List ℕ) → Gives x y l (earliestAnswer s u mask dests out) → (x < 35) × (y ≤ 32)

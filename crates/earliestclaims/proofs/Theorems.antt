@@ -203,12 +203,12 @@ module _ (s u : List ℕ) (mask : ℕ) (dests out : List ℕ) where
 
   by-room : eqb number accepted ≡ true → length out < 4 * length list → Answers (earliestAnswer s u mask dests out)
   by-room y l =
-      let e = answer-planned y ∙ fit.not-written (listBytes list) out (length list) (lt-leb (length (listBytes list)) (length out) (omega (arith, length-list list))) in
+      let e = answer-planned y ∙ fit.not-written (listBytes list) out (length list) (omega (arith, length-list list)) in
       rw e (record { number = rw (y, lt-ltb (length out) (4 * length list) l); written = λ z. absurd (eqb-false bufferShort accepted refl z); refused = λ f. (refl, refl) })
 
   by-list : eqb number accepted ≡ true → 4 * length list ≤ length out → Answers (earliestAnswer s u mask dests out)
   by-list y l =
-      let e = answer-planned y ∙ fit.written (listBytes list) out (length list) (le-leb (length (listBytes list)) (length out) (omega (arith, length-list list))) in
+      let e = answer-planned y ∙ fit.written (listBytes list) out (length list) (omega (arith, length-list list)) in
       let z = eqb-true number accepted y in
       rw e (record { number = rw (y, le-ltb (length out) (4 * length list) l, z); written = λ f. listed z l; refused = λ f. absurd (f refl) })
 

@@ -6,7 +6,6 @@ use mathlib.Core.Path.{_≡_, refl, sym, ap, _∙_}
 use mathlib.Core.Bool.{true}
 use mathlib.Core.List.{List}
 use lib.ListN.{length, take}
-use borrow.Author.Tests.{le-leb}
 use Rattle.laws.specs.Over.{over, take-over}
 use Rattle.sheet.specs.Refusal.{accepted, bufferShort}
 use Rattle.sheet.specs.Field.{count}
@@ -21,7 +20,7 @@ use Rattle.position.specs.Position.{start}
 use Rattle.position.specs.Play.{FourBytes, journalSteps, acceptedOf, run}
 use Rattle.dated.specs.Report.{reportAnswer}
 use Rattle.dated.proofs.ReportAnswers.{rowsAfter, rows-length, report-as}
-use Rattle.position.proofs.Passing.{passed-on, written}
+use Rattle.position.proofs.Passing.{passed-whole}
 use Rattle.moves.proofs.Journals.{journal-length}
 use Rattle.agreement.specs.Claim.{booksOf, positionOf, reportOf, Same}
 use Rattle.agreement.proofs.Theorems.{agreement, played-as-journal}
@@ -103,7 +102,7 @@ module _ (s u j a o : List ℕ) where
               let w = run s u (acceptedBytes s u bs) in
               let rows = rowsAfter s u (acceptedBytes s u bs) in
               rw
-              (report-as s u (acceptedBytes s u bs) o, passed-on w rows o 0 (rw (played-as-journal s u h k bs b)), written rows o 0 (le-leb (length rows) (length o) (rw (rows-length s u (acceptedBytes s u bs)) l)))
+              (report-as s u (acceptedBytes s u bs) o, passed-whole w rows o 0 (rw (played-as-journal s u h k bs b)) (rw (rows-length s u (acceptedBytes s u bs)) l))
 
           -- p is the position, a′ and o′ are the buffers that were written, g is the report's answer, hs and rs are the holders that were read
           pub played-promise : (p : Position) (g : ℕ) (a′ o′ hs rs : List ℕ) → p ≡ positionOf s u bs → a′ ≡ over (acceptedBytes s u bs) a

@@ -5,7 +5,6 @@ use native.Mathlib.Omega.{arith}
 use mathlib.Core.Path.{_≡_, refl, sym, ap, _∙_}
 use mathlib.Core.List.{List, _++_, append-assoc}
 use lib.ListN.{length, length-append}
-use borrow.Author.Tests.{eq-eqb, ne-eqb, le-leb, lt-leb}
 use Rattle.laws.specs.Over.{over}
 use Rattle.slots.specs.Destination.{alice, bob, carol, miner}
 use Rattle.output.specs.Forms.Emitted.{actorBytes}
@@ -15,16 +14,12 @@ use Rattle.position.specs.declared.Position.{Position}
 use Rattle.position.specs.declared.Ran.{Ran}
 use Rattle.position.specs.Play.{run}
 use Rattle.position.specs.Open.{openSteps, listBytes}
-use Rattle.position.specs.Answers.{Written, fitted, listAnswer}
-use Rattle.position.proofs.Passing.{passed-on, not-passed-on, written, not-written}
+use Rattle.position.specs.Answers.{fitted, listAnswer}
+use Rattle.position.proofs.Passing.{Gives, passed-on, not-passed-on, written, not-written}
 use Rattle.queries.specs.Forms.OpenSets.{belowSets, lastSet, openSets}
 use Rattle.queries.proofs.OpenBytes.{list-bytes, list-length, sets-open}
 use Rattle.runs.proofs.Bounds.{written-bounds}
 use Rattle.lists.specs.Forms.SetsBytes.{twoBytes, setsBytes, setsCount}
-
--- a refusal x, a count y and a buffer l are those of an answer
-abbrev pub Gives : ℕ → ℕ → List ℕ → Written → Type 0
-Gives x y l w = (x ≡ w .refusal) × ((y ≡ w .count) × (l ≡ w .buffer))
 
 -- ---- the actors' sets
 module _ (a b c m : OpenSets) where
@@ -49,10 +44,10 @@ module _ (a b c m : OpenSets) (n : ℕ) (out : List ℕ) (e : n ≡ setsCount a 
   sets-room h = omega (arith, e, h, sets-length a b c m)
 
   pub gives-short : length out < 4 * n → Gives 25 0 out (fitted (setsBytes a b c m) (setsCount a b c m) out)
-  gives-short h = rw (not-written (setsBytes a b c m) out (setsCount a b c m) (lt-leb (length (setsBytes a b c m)) (length out) (omega (arith, e, h, sets-length a b c m)))) (refl, (refl, refl))
+  gives-short h = rw (not-written (setsBytes a b c m) out (setsCount a b c m) (omega (arith, e, h, sets-length a b c m))) (refl, (refl, refl))
 
   pub gives-whole : (l : List ℕ) → 4 * n ≤ length out → l ≡ over (setsBytes a b c m) out → Gives 0 n l (fitted (setsBytes a b c m) (setsCount a b c m) out)
-  gives-whole l h o = rw (written (setsBytes a b c m) out (setsCount a b c m) (le-leb (length (setsBytes a b c m)) (length out) (sets-room h))) (refl, (e, o))
+  gives-whole l h o = rw (written (setsBytes a b c m) out (setsCount a b c m) (sets-room h)) (refl, (e, o))
 
 -- ---- the sets of a position
 module _ (s u : List ℕ) (p : Position) where
@@ -87,16 +82,12 @@ module _ (s u : List ℕ) (p : Position) where
 module _ (s u j out : List ℕ) where
   pub gives-refused : (r : Ran) → r ≡ run s u j → (r .refusal ≡ 0 → ⊥) → Gives (r .refusal) 0 out (listAnswer s u j out)
   unfolding listAnswer
-  gives-refused r e z =
-      let q = run s u j in
-      rw e (rw (not-passed-on q (listBytes s u (q .position)) out (length (openSteps s u (q .position))) (ne-eqb (q .refusal) 0 (rw (← e) z))) (refl, (refl, refl)))
+  gives-refused r e z = rw (← e) (rw (not-passed-on r (listBytes s u (r .position)) out (length (openSteps s u (r .position))) z) (refl, (refl, refl)))
 
   pub gives-passed : (r : Ran) (x y : ℕ) (l : List ℕ) → r ≡ run s u j → r .refusal ≡ 0
       → Gives x y l (fitted (listBytes s u (r .position)) (length (openSteps s u (r .position))) out) → Gives x y l (listAnswer s u j out)
   unfolding listAnswer
-  gives-passed r x y l e z h =
-      let q = run s u j in
-      rw (passed-on q (listBytes s u (q .position)) out (length (openSteps s u (q .position))) (eq-eqb (q .refusal) 0 (rw (← e) z))) (rw (← e) h)
+  gives-passed r x y l e z h = rw (← e) (rw (passed-on r (listBytes s u (r .position)) out (length (openSteps s u (r .position))) z) h)
 
   -- how large the answer can be, where x and y are what the code found
   list-bounds : (listAnswer s u j out .refusal < 33) × (listAnswer s u j out .count ≤ 3696)

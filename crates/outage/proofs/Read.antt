@@ -5,9 +5,9 @@ use native.Mathlib.Omega.{arith}
 use native.Mathlib.Nat.{not-suc-le-zero, le-of-suc-le-suc, add-zero}
 use mathlib.Core.Path.{_≡_, refl, sym, ap, _∙_}
 use mathlib.Core.List.{List, [], _∷_}
-use lib.Dec.{eqb, ltb}
+use lib.Dec.{eqb}
 use lib.ListN.{length, getD}
-use borrow.Author.Tests.{eqb-true, eqb-false, eq-eqb, ltb-true, ltb-false}
+use borrow.Author.Tests.{eq-eqb}
 use Rattle.laws.specs.Booleans.{split, clash}
 use Rattle.laws.specs.Failing.{firstFailing}
 use Rattle.laws.specs.Gather.{gather-at}
@@ -20,14 +20,15 @@ use Rattle.position.specs.declared.Position.{Position}
 use Rattle.position.specs.declared.Ran.{Ran}
 use Rattle.position.specs.Position.{start}
 use Rattle.position.specs.Play.{FourBytes, journalSteps, step, runFrom, callTests, run, play}
-use Rattle.position.specs.Answers.{Written}
+use Rattle.position.specs.Answers.{Written, passOn}
+use Rattle.position.proofs.Passing.{passed-on, fitted-room, answer-run}
 use Rattle.moves.proofs.Journals.{play-next}
 use Rattle.runs.proofs.Runs.{run-next, run-stops, run-ends, run-allowed, run-checked}
 use Rattle.runs.proofs.Calls.{sheet-passes, setup-passes}
 use Rattle.outages.specs.Verdict.{verdict, outageRow, outageBytes}
 use Rattle.outages.specs.Answer.{outageAnswer}
 use Rattle.outages.proofs.RowLengths.{row-length, rows-length}
-use Rattle.outages.proofs.OutageAnswers.{outage-refused, outage-short, outage-whole}
+use Rattle.outages.proofs.OutageAnswers.{is-outage, outage-whole}
 
 -- an element of the front is what was written there
 getD-over : (w l : List ℕ) (i : ℕ) → i < length w → length w ≤ length l → getD (over w l) i 0 ≡ getD w i 0
@@ -50,31 +51,26 @@ module _ (s u j : List ℕ) (blocks : ℕ) (out : List ℕ) (a : outageAnswer s 
   abbrev ran : Ran
   ran = run s u j
 
+  abbrev rows : List ℕ
+  rows = outageBytes s u (ran .position) blocks
+
+  passes : passOn ran rows 0 out .refusal ≡ accepted
+  passes = rw (is-outage s u j ran refl blocks out) at a
+
   pub run-taken : ran .refusal ≡ accepted
-  run-taken =
-      split (eqb (ran .refusal) accepted)
-      (λ y. eqb-true (ran .refusal) accepted y)
-      (λ y.
-      let n = eqb-false (ran .refusal) accepted y in
-      absurd (n (ap (λ (w : Written). w .refusal) (sym (outage-refused s u j ran refl blocks out n)) ∙ a)))
+  run-taken = answer-run ran rows out 0 passes
 
   room : 10 * count s ≤ length out
-  room =
-      split (ltb (length out) (10 * count s))
-      (λ y.
-      let w = ap (λ (w : Written). w .refusal) (outage-short s u j ran refl blocks out run-taken (ltb-true (length out) (10 * count s) y)) in
-      absurd (omega (arith, w, a)))
-      (λ y. ltb-false (length out) (10 * count s) y)
+  room = rw (rows-length s u (ran .position) blocks) at (fitted-room rows out 0 (rw (passed-on ran rows out 0 run-taken) at passes))
 
   pub verdict-read : (t : ℕ) → t < count s → byte (outageAnswer s u j blocks out .buffer) (10 * t) ≡ verdict s u (ran .position) blocks t
   unfolding outageBytes outageRow
   verdict-read t l =
-      let bytes = outageBytes s u (ran .position) blocks in
       let n = rows-length s u (ran .position) blocks in
       let r = room in
       ap (λ (w : Written). byte (w .buffer) (10 * t)) (outage-whole s u j ran refl blocks out run-taken room)
-      ∙ getD-over bytes out (10 * t) (omega arith) (omega arith)
-      ∙ ap (λ i. getD bytes i 0) (sym (add-zero (10 * t)))
+      ∙ getD-over rows out (10 * t) (omega arith) (omega arith)
+      ∙ ap (λ i. getD rows i 0) (sym (add-zero (10 * t)))
       ∙ gather-at (outageRow s u (ran .position) blocks) 10 (row-length s u (ran .position) blocks) (count s) t 0 0 l (omega arith)
 
   -- the checks before any step passed

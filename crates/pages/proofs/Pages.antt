@@ -2,11 +2,11 @@
 -- Assumes nothing.
 use Prim.Native.Nat.{ℕ, suc, _*_, _≤_, _<_}
 use native.Mathlib.Omega.{arith}
-use mathlib.Core.Path.{_≡_, refl, sym, ap, _∙_}
+use mathlib.Core.Path.{_≡_, refl, sym, _∙_}
 use mathlib.Core.List.{List}
 use lib.Dec.{eqb}
 use lib.ListN.{length, take}
-use borrow.Author.Tests.{eqb-true, eq-eqb, ne-eqb, le-leb, lt-leb}
+use borrow.Author.Tests.{eqb-true, eqb-false}
 use Rattle.laws.specs.Booleans.{split}
 use Rattle.laws.specs.Over.{over}
 use Rattle.sheet.specs.Field.{count}
@@ -16,10 +16,9 @@ use Rattle.readings.specs.Reported.{rowWidth, reportedLine}
 use Rattle.position.specs.Position.{slotCount}
 use Rattle.position.specs.Play.{run}
 use Rattle.position.specs.Printed.{printedLine}
-use Rattle.position.specs.Answers.{Written, fitted}
 use Rattle.dated.specs.Report.{reportAnswer}
 use Rattle.dated.proofs.ReportAnswers.{countsAfter, rowsAfter, rows-length, report-as, report-buffer}
-use Rattle.position.proofs.Passing.{passed-on, not-passed-on, written, not-written}
+use Rattle.position.proofs.Passing.{not-passed-on, passed-short, passed-whole}
 use Rattle.runs.proofs.Runs.{ran-fit}
 use Rattle.runs.proofs.Bounds.{written-bounds}
 use Rattle.pages.specs.Page.{pageOf, pageAnswer}
@@ -35,10 +34,6 @@ page-below s u j out = written-bounds s u j (pageOf (count s) (printedLine s u (
 pub page-size : (s u j : List ℕ) → Fit s u → length (pageOf (count s) (printedLine s u (run s u j .position))) ≡ 73 * suc (count s)
 page-size s u j h = page-length (count s) (printedLine s u (run s u j .position)) (lines-readable s u (run s u j .position) (h .checked .sized .few))
 
--- the number and the buffer of an answer
-answered : {w v : Written} → w ≡ v → (v .refusal ≡ w .refusal) × (v .buffer ≡ w .buffer)
-answered e = rw e (refl, refl)
-
 -- a report into rows that are always enough: its number, and what is in the rows then
 pub record Reported (s u j l : List ℕ) (number : ℕ) : Type 0 where
   pub rows : List ℕ
@@ -53,27 +48,25 @@ module _ {s u j l : List ℕ} {number : ℕ} (q : Reported s u j l number) where
   -- the number is the run's
   number-run : number ≡ run s u j .refusal
   number-run =
-      let rows = q .rows in
-      let found = report-as s u j rows in
-      split (eqb (run s u j .refusal) 0)
+      let r = run s u j in
+      q .is ∙ rw (report-as s u j (q .rows))
+      (split (eqb (r .refusal) 0)
       (λ y.
-      let z = eqb-true (run s u j .refusal) 0 y in
-      let few = ran-fit s u j (run s u j) refl z .checked .sized .few in
-      let room = le-leb (length (rowsAfter s u j)) (length rows) (omega (arith, few, q .long, rows-length s u j)) in
-      q .is ∙ ap (λ (w : Written). w .refusal) (found ∙ passed-on (run s u j) (rowsAfter s u j) rows 0 y ∙ written (rowsAfter s u j) rows 0 room) ∙ sym z)
-      (λ y. q .is ∙ ap (λ (w : Written). w .refusal) (found ∙ not-passed-on (run s u j) (rowsAfter s u j) rows 0 y))
+      let z = eqb-true (r .refusal) 0 y in
+      let few = ran-fit s u j r refl z .checked .sized .few in
+      rw (passed-whole r (rowsAfter s u j) (q .rows) 0 z (omega (arith, few, q .long, rows-length s u j))) (sym z))
+      (λ y. rw (not-passed-on r (rowsAfter s u j) (q .rows) 0 (eqb-false (r .refusal) 0 y))))
 
   pub page-refused : (out : List ℕ) → (number ≡ 0 → ⊥) → (number ≡ pageAnswer s u j out .refusal) × (out ≡ pageAnswer s u j out .buffer)
   unfolding pageAnswer shown
-  page-refused out h = rw number-run (answered (not-passed-on (run s u j) shown out 0 (ne-eqb (run s u j .refusal) 0 (λ z. h (number-run ∙ z)))))
+  page-refused out h = rw (not-passed-on (run s u j) shown out 0 (λ z. h (number-run ∙ z))) (number-run, refl)
 
   module _ (z : number ≡ 0) where
-    pub page-fit : Fit s u
-    page-fit = ran-fit s u j (run s u j) refl (sym number-run ∙ z)
+    page-runs : run s u j .refusal ≡ 0
+    page-runs = sym number-run ∙ z
 
-    page-allowed : (out : List ℕ) → pageAnswer s u j out ≡ fitted shown 0 out
-    unfolding pageAnswer shown
-    page-allowed out = passed-on (run s u j) shown out 0 (eq-eqb (run s u j .refusal) 0 (sym number-run ∙ z))
+    pub page-fit : Fit s u
+    page-fit = ran-fit s u j (run s u j) refl page-runs
 
     module _ {n : ℕ} (c : n ≡ count s) where
       pub few : n ≤ 32
@@ -86,13 +79,17 @@ module _ {s u j l : List ℕ} {number : ℕ} (q : Reported s u j l number) where
       pub rows-long : length (take (rowWidth * n) l) ≡ rowWidth * n
       rows-long = rw (rows-are, c) (rows-length s u j)
 
-      pub page-short : (out : List ℕ) → length out < 73 * suc n → (bufferShort ≡ pageAnswer s u j out .refusal) × (out ≡ pageAnswer s u j out .buffer)
+      long : length shown ≡ 73 * suc n
       unfolding shown
-      page-short out h = answered (page-allowed out ∙ not-written shown out 0 (lt-leb (length shown) (length out) (rw (page-size s u j page-fit, ← c) h)))
+      long = rw c (page-size s u j page-fit)
+
+      pub page-short : (out : List ℕ) → length out < 73 * suc n → (bufferShort ≡ pageAnswer s u j out .refusal) × (out ≡ pageAnswer s u j out .buffer)
+      unfolding pageAnswer shown
+      page-short out h = rw (passed-short (run s u j) shown out 0 page-runs (rw long h)) (refl, refl)
 
       pub page-whole : (out l′ : List ℕ) → 73 * suc n ≤ length out → l′ ≡ over (pageOf n (reportedLine (take (rowWidth * n) l))) out
           → (accepted ≡ pageAnswer s u j out .refusal) × (l′ ≡ pageAnswer s u j out .buffer)
-      unfolding shown
+      unfolding pageAnswer shown
       page-whole out l′ h e =
-          let w = answered (page-allowed out ∙ written shown out 0 (le-leb (length shown) (length out) (rw (page-size s u j page-fit, ← c) h))) in
-          (w .0, e ∙ rw (rows-are, c, page-same s u (run s u j .position) (countsAfter s u j)) (w .1))
+          rw (passed-whole (run s u j) shown out 0 page-runs (rw long h))
+          (refl, e ∙ rw (rows-are, c, page-same s u (run s u j .position) (countsAfter s u j)))

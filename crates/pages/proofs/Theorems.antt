@@ -10,7 +10,7 @@ use mathlib.Core.List.{List, [], _∷_, _++_}
 use lib.Dec.{eqb, ltb, lit<}
 use lib.ListN.{length, getD, take, drop, length-drop}
 use lib.Seq.{sets-eq, drop-at, take-append-le, drop-append-le}
-use borrow.Author.Tests.{eqb-true, eqb-false, ltb-true, ltb-false, lt-ltb, le-ltb, le-leb, lt-leb}
+use borrow.Author.Tests.{eqb-true, eqb-false, ltb-true, ltb-false, lt-ltb, le-ltb}
 use Rattle.laws.specs.Booleans.{pick, split}
 use Rattle.laws.specs.Little.{bytesOf}
 use Rattle.laws.specs.Over.{over, take-over, length-over, stores-over}
@@ -29,7 +29,7 @@ use Rattle.pages.specs.Page.{payeeText, heightText, texts, lineTexts, pa
 use Rattle.pages.specs.Claim.{lineAt, readNumber, readRow, LinesLong, ReadsBack, RunsReadBack, PageWritten, PageAnswered, PageAnswers}
 use Rattle.pages.proofs.Lines.{line-length}
 use Rattle.pages.proofs.Pages.{page-size}
-use Rattle.position.proofs.Passing.{passed-on, not-passed-on, written, not-written}
+use Rattle.position.proofs.Passing.{not-passed-on, passed-short, passed-whole}
 use Rattle.runs.proofs.Runs.{ran-fit}
 use Rattle.moves.proofs.Wellformeds.{wellformed-run}
 use Rattle.pages.proofs.Rows.{low, low-bytes, low-most, low-below, status-few, lines-readable, read-line}
@@ -116,21 +116,21 @@ module _ (s u j out : List ℕ) where
   by-run : eqb (run s u j .refusal) accepted ≡ false → Answers (pageAnswer s u j out)
   unfolding pageAnswer
   by-run y =
-      rw (not-passed-on (run s u j) page out 0 y)
+      rw (not-passed-on (run s u j) page out 0 (eqb-false (run s u j .refusal) accepted y))
       (record { number = rw y; written = λ z. absurd (eqb-false (run s u j .refusal) accepted y z); refused = λ f. refl })
 
   by-room : eqb (run s u j .refusal) accepted ≡ true → length out < 73 * suc (count s) → Answers (pageAnswer s u j out)
   unfolding pageAnswer
   by-room y l =
-      let long = size (eqb-true (run s u j .refusal) accepted y) in
-      rw (passed-on (run s u j) page out 0 y ∙ not-written page out 0 (lt-leb (length page) (length out) (omega (arith, long))))
+      let z = eqb-true (run s u j .refusal) accepted y in
+      rw (passed-short (run s u j) page out 0 z (omega (arith, size z)))
       (record { number = rw (y, lt-ltb (length out) (73 * suc (count s)) l); written = λ z. absurd (eqb-false bufferShort accepted refl z); refused = λ f. refl })
 
   by-page : eqb (run s u j .refusal) accepted ≡ true → 73 * suc (count s) ≤ length out → Answers (pageAnswer s u j out)
   unfolding pageAnswer
   by-page y l =
       let z = eqb-true (run s u j .refusal) accepted y in
-      rw (passed-on (run s u j) page out 0 y ∙ written page out 0 (le-leb (length page) (length out) (omega (arith, size z))))
+      rw (passed-whole (run s u j) page out 0 z (omega (arith, size z)))
       (record { number = rw (y, le-ltb (length out) (73 * suc (count s)) l, z); written = λ f. page-written z l; refused = λ f. absurd (f refl) })
 
 pub page-answers : PageAnswers

@@ -4,7 +4,7 @@ use Prim.Native.Nat.{ℕ, _+_, _*_, _≤_, _<_}
 use native.Mathlib.Omega.{arith}
 use mathlib.Core.Path.{_≡_, refl}
 use mathlib.Core.List.{List, [], _∷_}
-use lib.Dec.{eqb, leb, lit<, lit≤}
+use lib.Dec.{eqb, lit<, lit≤}
 use lib.ListN.{length}
 use borrow.Author.Tests.{eqb-true, eqb-false}
 use Rattle.laws.specs.Booleans.{split}
@@ -23,7 +23,7 @@ use Rattle.position.specs.Tests.{shareTests, giveTests, sendTests, poolTests, m
 use Rattle.position.specs.StepRefusal.{tests, stepRefusal}
 use Rattle.position.specs.Play.{FourBytes, journalSteps, decodeBytes, takeStep, takeDecoded, step, runFrom, callTests, run}
 use Rattle.position.specs.Answers.{passOn}
-use Rattle.position.proofs.Passing.{passed-on, not-passed-on, written, not-written}
+use Rattle.position.proofs.Passing.{passed-on, not-passed-on, fitted-bounds}
 use Rattle.runs.proofs.Calls.{journal-whole}
 use Rattle.runs.proofs.Runs.{run-next, run-stops, run-ends, run-allowed, run-refused}
 
@@ -100,7 +100,6 @@ module _ (s u : List ℕ) where
     written-bounds bytes out n =
         split (eqb (run s u j .refusal) accepted)
         (λ e.
-        split (leb (length bytes) (length out))
-        (λ f. rw (passed-on (run s u j) bytes out n e, written bytes out n f) (lit< tt, omega arith))
-        (λ f. rw (passed-on (run s u j) bytes out n e, not-written bytes out n f) (lit< tt, omega arith)))
-        (λ e. rw (not-passed-on (run s u j) bytes out n e) (omega (arith, run-bounds .0), omega arith))
+        let w = fitted-bounds bytes out n in
+        rw (passed-on (run s u j) bytes out n (eqb-true (run s u j .refusal) accepted e)) (omega (arith, w .0), w .1))
+        (λ e. rw (not-passed-on (run s u j) bytes out n (eqb-false (run s u j .refusal) accepted e)) (omega (arith, run-bounds .0), omega arith))

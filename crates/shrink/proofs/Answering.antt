@@ -7,7 +7,7 @@ use mathlib.Core.Bool.{Bool, true, false, not}
 use mathlib.Core.List.{List, [], _∷_}
 use lib.Dec.{eqb, leb, lit<, lit≤}
 use lib.ListN.{length, take, length-take}
-use borrow.Author.Tests.{eq-eqb, ne-eqb, eqb-true, eqb-false, le-leb, lt-leb, leb-true}
+use borrow.Author.Tests.{eq-eqb, ne-eqb, eqb-true, eqb-false, leb-true}
 use Rattle.laws.specs.Booleans.{split}
 use Rattle.laws.specs.Failing.{firstFailing, numbered, passed, passed-append, failed-append, answer-below}
 use Rattle.laws.specs.Over.{over, take-over}
@@ -18,8 +18,8 @@ use Rattle.position.specs.declared.Position.{Position}
 use Rattle.position.specs.declared.Ran.{Ran}
 use Rattle.position.specs.Position.{start}
 use Rattle.position.specs.Play.{FourBytes, journalSteps, journalBytes, runFrom, callTests, run}
-use Rattle.position.specs.Answers.{Written, fitted}
-use Rattle.position.proofs.Passing.{written, not-written}
+use Rattle.position.specs.Answers.{fitted}
+use Rattle.position.proofs.Passing.{Gives, written, not-written, fitted-bounds}
 use Rattle.moves.proofs.Journals.{journal-length}
 use Rattle.runs.proofs.Runs.{run-allowed}
 use Rattle.runs.proofs.Bounds.{steps-bytes}
@@ -28,10 +28,6 @@ use Rattle.shrink.specs.Shrink.{stillRefused, shrunk, refusedRow, fewSte
 use Rattle.shrink.specs.Forms.Round.{Starts}
 use Rattle.shrink.proofs.Rounding.{next-length, shrunk-keeps}
 use Rattle.shrink.proofs.Refused.{steps-take, cut, cut-still}
-
--- the three parts of an answer
-abbrev pub Says : ℕ → ℕ → List ℕ → Written → Type 0
-Says number count buffer w = (number ≡ w .refusal) × ((count ≡ w .count) × (buffer ≡ w .buffer))
 
 pub shrunk-length : (s u : List ℕ) (number : ℕ) (row : List FourBytes) → length (shrunk s u number row) ≤ length row
 shrunk-length s u number row =
@@ -61,15 +57,12 @@ module _ (s u : List ℕ) (number : ℕ) (row part left : List ℕ) (n : ℕ) (f
   left-long = ap length is-front ∙ omega (arith, journal-length few-row, is-count)
 
   module _ (out : List ℕ) where
-    pub left-short : length out < 4 * n → Says 25 0 out (fitted (journalBytes few-row) (length few-row) out)
-    left-short h =
-        let f = lt-leb (length (journalBytes few-row)) (length out) (omega (arith, journal-length few-row, is-count)) in
-        rw (not-written (journalBytes few-row) out (length few-row) f) (refl, (refl, refl))
+    pub left-short : length out < 4 * n → Gives 25 0 out (fitted (journalBytes few-row) (length few-row) out)
+    left-short h = rw (not-written (journalBytes few-row) out (length few-row) (omega (arith, journal-length few-row, is-count))) (refl, (refl, refl))
 
-    pub left-written : 4 * n ≤ length out → (after : List ℕ) → after ≡ over (take (4 * n) left) out → Says 0 n after (fitted (journalBytes few-row) (length few-row) out)
+    pub left-written : 4 * n ≤ length out → (after : List ℕ) → after ≡ over (take (4 * n) left) out → Gives 0 n after (fitted (journalBytes few-row) (length few-row) out)
     left-written h after o =
-        let f = le-leb (length (journalBytes few-row)) (length out) (omega (arith, journal-length few-row, is-count)) in
-        rw (written (journalBytes few-row) out (length few-row) f) (refl, (is-count, o ∙ ap (λ b. over b out) is-front))
+        rw (written (journalBytes few-row) out (length few-row) (omega (arith, journal-length few-row, is-count))) (refl, (is-count, o ∙ ap (λ b. over b out) is-front))
 
 -- ---- the whole answer
 module _ (s u j : List ℕ) where
@@ -95,7 +88,7 @@ module _ (s u j : List ℕ) where
     refuses number e n = rw (ne-eqb (firstFailing (shrinkTests s u j)) 0 (λ y. n (sym e ∙ y)), shrinkAnswer) (rw e refl)
 
     -- the tests fail before any step
-    pub answer-long : (a : ℕ) → a ≡ firstFailing (longTests s u j) → (a ≡ 0 → ⊥) → Says a 0 out (shrinkAnswer s u j out)
+    pub answer-long : (a : ℕ) → a ≡ firstFailing (longTests s u j) → (a ≡ 0 → ⊥) → Gives a 0 out (shrinkAnswer s u j out)
     unfolding shrinkTests
     answer-long a e n =
         let t : List (ℕ × Bool) = (noneRefused, not (eqb (run s u j .refusal) accepted)) ∷ [] in
@@ -108,7 +101,7 @@ module _ (s u j : List ℕ) where
           passed-append (longTests s u j) ((noneRefused, not (eqb (run s u j .refusal) accepted)) ∷ []) long-numbered z ∙ rw e refl
 
       -- no step is refused
-      pub answer-none : run s u j .refusal ≡ 0 → Says 37 0 out (shrinkAnswer s u j out)
+      pub answer-none : run s u j .refusal ≡ 0 → Gives 37 0 out (shrinkAnswer s u j out)
       unfolding firstFailing
       answer-none h =
           rw (refuses 37 (last-test true (eq-eqb (run s u j .refusal) accepted h)) (λ y. eqb-false 37 0 refl y)) (refl, (refl, refl))
@@ -164,12 +157,6 @@ module _ (s u j : List ℕ) where
       let n = run s u j .accepted + 1 in
       omega (arith, shrunk-length s u (run s u j .refusal) (take n (journalSteps j)), length-take n (journalSteps j), steps-bytes j)
 
-  fitted-bounds : (bytes out : List ℕ) (n : ℕ) → n ≤ 1024 → (fitted bytes n out .refusal < 38) × (fitted bytes n out .count ≤ 1024)
-  fitted-bounds bytes out n h =
-      split (leb (length bytes) (length out))
-      (λ f. rw (written bytes out n f) (lit< tt, h))
-      (λ f. rw (not-written bytes out n f) (lit< tt, lit≤ tt))
-
   shrink-bounds : (out : List ℕ) → (shrinkAnswer s u j out .refusal < 38) × (shrinkAnswer s u j out .count ≤ 1024)
   shrink-bounds out =
       split (eqb (firstFailing (longTests s u j)) 0)
@@ -177,11 +164,13 @@ module _ (s u j : List ℕ) where
       let z = eqb-true (firstFailing (longTests s u j)) 0 y in
       split (eqb (run s u j .refusal) 0)
       (λ x. let w = answer-none out z (eqb-true (run s u j .refusal) 0 x) in rw (← (w .0), ← (w .1 .0)) (lit< tt, lit≤ tt))
-      (λ x. rw (answer-fitted out z (eqb-false (run s u j .refusal) 0 x)) (fitted-bounds (journalBytes (fewSteps s u j)) out (length (fewSteps s u j)) (few-length (calls-short z)))))
+      (λ x.
+      let w = fitted-bounds (journalBytes (fewSteps s u j)) out (length (fewSteps s u j)) in
+      rw (answer-fitted out z (eqb-false (run s u j .refusal) 0 x)) (omega (arith, w .0), omega (arith, w .1, few-length (calls-short z)))))
       (λ y.
       let w = answer-long out (firstFailing (longTests s u j)) refl (eqb-false (firstFailing (longTests s u j)) 0 y) in
       rw (← (w .0), ← (w .1 .0)) (long-below, lit≤ tt))
 
   -- the same of what the code found
-  pub shrunk-bounds : (out : List ℕ) (number count : ℕ) (after : List ℕ) → Says number count after (shrinkAnswer s u j out) → (number < 38) × (count ≤ 1024)
+  pub shrunk-bounds : (out : List ℕ) (number count : ℕ) (after : List ℕ) → Gives number count after (shrinkAnswer s u j out) → (number < 38) × (count ≤ 1024)
   shrunk-bounds out number count after w = rw (w .0, w .1 .0) (shrink-bounds out)

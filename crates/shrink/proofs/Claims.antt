@@ -3,14 +3,14 @@
 use Prim.Native.Nat.{ℕ, suc, _+_, _%_, _≤_, _<_}
 use native.Mathlib.Omega.{arith}
 use native.Mathlib.Numerals.{add-one}
-use mathlib.Core.Path.{_≡_, refl, sym, ap, _∙_}
+use mathlib.Core.Path.{_≡_, refl, _∙_}
 use mathlib.Core.Bool.{true, false}
 use mathlib.Core.Logic.{_⊎_, inl, inr}
 use mathlib.Core.List.{List, [], _∷_, _++_, append-nil, append-assoc, Sublistᴰ, Sublistᴰ·refl, Sublistᴰ·cons, Sublistᴰ·trans, Sublistᴰ·append}
-use lib.Dec.{eqb, leb}
+use lib.Dec.{eqb}
 use lib.ListN.{length, take, drop, getD, length-append, length-take, length-drop}
 use lib.Seq.{take-suc, drop-cons}
-use borrow.Author.Tests.{eq-eqb, eqb-true, eqb-false, le-leb, leb-true}
+use borrow.Author.Tests.{eq-eqb, eqb-true, eqb-false, le-leb}
 use Rattle.laws.specs.Booleans.{split, clash}
 use Rattle.laws.specs.Failing.{firstFailing, passed-append}
 use Rattle.laws.specs.Over.{over, take-over}
@@ -19,8 +19,8 @@ use Rattle.sheet.specs.Check.{arrayTests, sheetTests, sheetRefusal}
 use Rattle.sheet.specs.Setup.{setupTests, setupRefusal}
 use Rattle.position.specs.Position.{start}
 use Rattle.position.specs.Play.{FourBytes, journalSteps, journalBytes, runFrom, journalRight, callTests, run}
-use Rattle.position.specs.Answers.{Written, fitted}
-use Rattle.position.proofs.Passing.{written, not-written}
+use Rattle.position.specs.Answers.{fitted}
+use Rattle.position.proofs.Passing.{written, fitted-room}
 use Rattle.moves.proofs.Journals.{journal-steps, journal-length}
 use Rattle.runs.proofs.Calls.{sheet-passes, setup-passes}
 use Rattle.runs.proofs.Runs.{run-allowed}
@@ -162,18 +162,15 @@ module _ (s u j out : List ℕ) (e : shrinkAnswer s u j out .refusal ≡ 0) wher
   is-fitted : shrinkAnswer s u j out ≡ fitted (journalBytes few-row) (length few-row) out
   is-fitted = answer-fitted s u j out tests-pass some-refused
 
-  fits : leb (length (journalBytes few-row)) (length out) ≡ true
-  fits =
-      split (leb (length (journalBytes few-row)) (length out))
-      (λ y. y)
-      (λ y. absurd (eqb-false 25 0 refl (sym (ap (λ (w : Written). w .refusal) (is-fitted ∙ not-written (journalBytes few-row) out (length few-row) y)) ∙ e)))
+  fits : length (journalBytes few-row) ≤ length out
+  fits = fitted-room (journalBytes few-row) out (length few-row) (rw is-fitted at e)
 
   is-written : shrinkAnswer s u j out ≡ record { refusal = accepted; count = length few-row; buffer = over (journalBytes few-row) out }
   is-written = is-fitted ∙ written (journalBytes few-row) out (length few-row) fits
 
   pub few-written : WroteFew s u j (shrinkAnswer s u j out)
   few-written =
-      let t = take-over (journalBytes few-row) out (leb-true (length (journalBytes few-row)) (length out) fits) in
+      let t = take-over (journalBytes few-row) out fits in
       record {
         part = few-row;
         count = rw is-written refl;

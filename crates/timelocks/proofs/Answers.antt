@@ -19,7 +19,7 @@ use Rattle.sheet.specs.Checked.{Fit}
 use Rattle.sheet.proofs.Theorems.{fit}
 use Rattle.timelocks.specs.Fields.{timelockBytes}
 use Rattle.timelocks.specs.Limits.{relativeRight, absoluteRight, limitTests}
-use Rattle.timelocks.specs.Timelocks.{fieldTests, fieldRefusal, timelocksTests, Answer, timelocksAnswer}
+use Rattle.timelocks.specs.Timelocks.{fieldTests, fieldRefusal, timelocksTests, timelocksAnswer}
 use Rattle.timelocks.proofs.Lengths.{bytes-length}
 
 -- two lists of tests whose answer is 0
@@ -144,7 +144,3 @@ module _ (s u : List ℕ) (base : ℕ) where
         split (eqb number accepted)
         (λ e. rw (answer-yes (eqb-true number accepted e)) (lit< tt))
         (λ e. rw (answer-no number refl (eqb-false number accepted e)) number-below)
-
--- the number and the buffer of an answer
-pub answered : (w v : Answer) → w ≡ v → (v .refusal ≡ w .refusal) × (v .buffer ≡ w .buffer)
-answered w v e = rw e (refl, refl)

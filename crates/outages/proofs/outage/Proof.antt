@@ -1,7 +1,7 @@
 -- Refused with the run, too short a buffer, or the rows.
 use Rattle.runs.proofs.Runs.{ran-fit}
-use Rattle.outages.proofs.OutageAnswers.{outage-refused, outage-short, outage-whole, answered}
-use mathlib.Core.Path.{_∙_}
+use Rattle.outages.proofs.OutageAnswers.{outage-refused, outage-short, outage-whole}
+use mathlib.Core.Path.{refl}
 use native.Mathlib.Omega.{arith}
 use borrow.Author.Needs.{needs}
 use Rattle.outages.proofs.outage.Statement.{statement}
@@ -13,7 +13,7 @@ ran-requires c κs = search needs
 returns : tie.Need-returns
 returns c =
     let a = c .before .before .before .before .before .before .before .args in
-    answered _ _ (outage-refused (a .sheet .now) (a .setup .now) (a .journal .now) _ (c .before .before .ran .ensures) (a .blocks) (a .out .now) (c .if1 .taken))
+    rw (outage-refused (a .sheet .now) (a .setup .now) (a .journal .now) _ (c .before .before .ran .ensures) (a .blocks) (a .out .now) (c .if1 .taken)) (refl, refl)
 
 count-requires : tie.Need-count-requires
 count-requires c κs =
@@ -26,10 +26,10 @@ mul-if2 c = search needs
 returns-2 : tie.Need-returns-2
 returns-2 c =
     let a = c .before .before .before .before .before .before .before .before .before .args in
-    answered _ _
+    rw
     (outage-short (a .sheet .now) (a .setup .now) (a .journal .now) _ (c .before .before .before .before .ran .ensures) (a .blocks) (a .out .now)
     (c .before .before .if1 .left)
-    (omega (arith, c .if2 .taken, c .before .count .ensures .is)))
+    (omega (arith, c .if2 .taken, c .before .count .ensures .is))) (refl, refl)
 
 write-rows-requires : tie.Need-write-rows-requires
 write-rows-requires c κs =
@@ -41,13 +41,12 @@ same-length c = search needs
 
 returns-3 : tie.Need-returns-3
 returns-3 c =
-    let a = c .before .before .before .before .before .before .before .before .before .before .before .before .before .before .args in
-    let w =
-    answered _ _
-    (outage-whole (a .sheet .now) (a .setup .now) (a .journal .now) _ (c .before .before .before .before .before .before .before .before .before .ran .ensures) (a .blocks) (a .out .now)
-    (c .before .before .before .before .before .before .before .if1 .left)
-    (omega (arith, c .before .before .before .before .before .if2 .left, c .before .before .before .before .before .before .count .ensures .is))) in
-    (w .0, c .before .before .write-rows .ensures ∙ w .1)
+    let k = c .before .before .before .before .before .before in
+    let a = k .before .before .before .before .before .before .before .before .args in
+    rw
+    (outage-whole (a .sheet .now) (a .setup .now) (a .journal .now) _ (k .before .before .before .ran .ensures) (a .blocks) (a .out .now)
+    (k .before .if1 .left)
+    (omega (arith, c .before .before .before .before .before .if2 .left, k .count .ensures .is))) (refl, c .before .before .write-rows .ensures)
 
 pub outage-spec : {M : Type 1} → statement M
 outage-spec = tie.close (tie.spec ran-requires returns count-requires mul-if2 returns-2 write-rows-requires same-length returns-3)

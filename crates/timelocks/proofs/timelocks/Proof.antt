@@ -1,6 +1,6 @@
 -- Refused before the buffer, too short a buffer, or the numbers.
-use Rattle.timelocks.proofs.Answers.{field-fit, all-absolute, answer-refused, answer-short, answer-whole, answered}
-use mathlib.Core.Path.{sym, _∙_}
+use Rattle.timelocks.proofs.Answers.{field-fit, all-absolute, answer-refused, answer-short, answer-whole}
+use mathlib.Core.Path.{refl, sym, _∙_}
 use native.Mathlib.Omega.{arith}
 use borrow.Author.Needs.{needs}
 use Rattle.timelocks.proofs.timelocks.Statement.{statement}
@@ -12,7 +12,7 @@ field-refusal-requires c κs = search needs
 returns : tie.Need-returns
 returns c =
     let a = c .before .before .before .before .before .args in
-    answered _ _ (answer-refused (a .sheet .now) (a .setup .now) (a .base) (a .out .now) _ (c .before .field-refusal .ensures) (c .if1 .taken))
+    rw (answer-refused (a .sheet .now) (a .setup .now) (a .base) (a .out .now) _ (c .before .field-refusal .ensures) (c .if1 .taken)) (refl, refl)
 
 count-requires : tie.Need-count-requires
 count-requires c κs =
@@ -25,10 +25,10 @@ mul-if2 c = search needs
 returns-2 : tie.Need-returns-2
 returns-2 c =
     let a = c .before .before .before .before .before .before .before .args in
-    answered _ _
+    rw
     (answer-short (a .sheet .now) (a .setup .now) (a .base) (a .out .now)
     (sym (c .before .before .before .field-refusal .ensures) ∙ c .before .before .if1 .left)
-    (omega (arith, c .if2 .taken, c .before .count .ensures .is)))
+    (omega (arith, c .if2 .taken, c .before .count .ensures .is))) (refl, refl)
 
 per-day-requires : tie.Need-per-day-requires
 per-day-requires c κs = field-fit _ _ _ (sym (c .before .before .before .field-refusal .ensures) ∙ c .before .before .if1 .left) .setup .size
@@ -45,13 +45,13 @@ same-length c = search needs
 
 returns-3 : tie.Need-returns-3
 returns-3 c =
-    let a = c .before .before .before .before .before .before .before .before .before .before .before .before .args in
-    let w =
-    answered _ _
+    let k = c .before .before .before .before .before .before in
+    let a = k .before .before .before .before .before .before .args in
+    rw
     (answer-whole (a .sheet .now) (a .setup .now) (a .base) (a .out .now)
-    (sym (c .before .before .before .before .before .before .before .before .field-refusal .ensures) ∙ c .before .before .before .before .before .before .before .if1 .left)
-    (omega (arith, c .before .before .before .before .before .if2 .left, c .before .before .before .before .before .before .count .ensures .is))) in
-    (w .0, rw (c .before .before .before .before .per-day .ensures) at (c .before .before .write-fields .ensures) ∙ w .1)
+    (sym (k .before .before .field-refusal .ensures) ∙ k .before .if1 .left)
+    (omega (arith, c .before .before .before .before .before .if2 .left, k .count .ensures .is)))
+    (refl, rw (c .before .before .before .before .per-day .ensures) at (c .before .before .write-fields .ensures))
 
 pub timelocks-spec : {M : Type 1} → statement M
 timelocks-spec =

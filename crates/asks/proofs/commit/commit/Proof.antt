@@ -3,7 +3,7 @@ use native.Mathlib.Omega.{arith}
 use mathlib.Core.Path.{refl, sym, _∙_}
 use lib.ListN.{length-drop}
 use Rattle.laws.specs.Wrote.{to-end}
-use Rattle.asks.proofs.Commits.{part-written, answer-no, answer-yes, pass, answered}
+use Rattle.asks.proofs.Commits.{part-written, answer-no, answer-yes, pass}
 use borrow.Author.Needs.{needs}
 use Rattle.asks.proofs.commit.commit.Statement.{statement}
 use Rattle.asks.proofs.commit.commit.Tie as tie
@@ -18,14 +18,17 @@ returns : tie.Need-returns
 returns c =
     let a = c .before .before .before .before .before .before .before .args in
     let e = c .before .commit-refusal .ensures in
-    let w = answered _ _ (answer-no (a .sheet .now) (a .setup .now) (a .step .now) (a .count) (a .buffer .now) (a .size) (λ z. c .if1 .taken (e ∙ z))) in
-    (e ∙ w .0, w .1)
+    rw (answer-no (a .sheet .now) (a .setup .now) (a .step .now) (a .count) (a .buffer .now) (a .size) (λ z. c .if1 .taken (e ∙ z))) (e, refl)
 
 sub-write-step : tie.Need-sub-write-step
-sub-write-step c = let a = c .before .before .before .before .before .before .before .args in pass (a .sheet .now) (a .setup .now) (a .step .now) (a .count) (a .buffer .now) (a .size) (sym (c .before .commit-refusal .ensures) ∙ c .if1 .left) .within
+sub-write-step c =
+    let a = c .before .before .before .before .before .before .before .args in
+    pass (a .sheet .now) (a .setup .now) (a .step .now) (a .count) (a .buffer .now) (a .size) (sym (c .before .commit-refusal .ensures) ∙ c .if1 .left) .within
 
 part-write-step-start : tie.Need-part-write-step-start
-part-write-step-start c = let a = c .before .before .before .before .before .before .before .args in pass (a .sheet .now) (a .setup .now) (a .step .now) (a .count) (a .buffer .now) (a .size) (sym (c .before .commit-refusal .ensures) ∙ c .if1 .left) .within
+part-write-step-start c =
+    let a = c .before .before .before .before .before .before .before .args in
+    pass (a .sheet .now) (a .setup .now) (a .step .now) (a .count) (a .buffer .now) (a .size) (sym (c .before .commit-refusal .ensures) ∙ c .if1 .left) .within
 
 part-write-step-end : tie.Need-part-write-step-end
 part-write-step-end c = search needs
@@ -44,8 +47,8 @@ returns-2 c =
     let a = c .before .before .before .before .before .before .before .before .before .before .before .args in
     let z = sym (c .before .before .before .before .before .commit-refusal .ensures) ∙ c .before .before .before .before .if1 .left in
     let w = pass (a .sheet .now) (a .setup .now) (a .step .now) (a .count) (a .buffer .now) (a .size) z in
-    let v = answered _ _ (answer-yes (a .sheet .now) (a .setup .now) (a .step .now) (a .count) (a .buffer .now) (a .size) z) in
-    (v .0, part-written (a .step .now) (a .buffer .now) (a .size) _ (w .four) (w .room) refl _ (c .before .before .write-step .ensures) ∙ v .1)
+    rw (answer-yes (a .sheet .now) (a .setup .now) (a .step .now) (a .count) (a .buffer .now) (a .size) z)
+    (refl, part-written (a .step .now) (a .buffer .now) (a .size) _ (w .four) (w .room) refl _ (c .before .before .write-step .ensures))
 
 pub commit-spec : {M : Type 1} → statement M
 commit-spec =
