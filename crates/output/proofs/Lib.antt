@@ -1,3 +1,4 @@
 pub mod Lengths
 pub mod Four
+pub mod Writing
 pub mod Examples

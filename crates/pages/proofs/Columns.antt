@@ -1,14 +1,13 @@
 -- Columns: a text copied behind its blanks, byte by byte.
 -- Assumes nothing.
-use Prim.Native.Nat.{ℕ, zero, suc, _+_, _-_, _≤_, _<_}
+use Prim.Native.Nat.{ℕ, _+_, _-_, _≤_, _<_}
 use native.Mathlib.Omega.{arith}
-use native.Mathlib.Nat.{not-suc-le-zero, le-of-suc-le-suc}
-use native.Mathlib.Numerals.{add-one}
 use mathlib.Core.Path.{_≡_, refl, ap, sym, _∙_}
-use mathlib.Core.List.{List, [], _∷_, _++_}
-use lib.ListN.{length, getD, take, set, length-set, length-append, length-replicate, getD-replicate, List·getD-append}
-use lib.Seq.{getD-append-add, take-length}
-use Rattle.laws.specs.Over.{over, over-none}
+use mathlib.Core.List.{List, _++_}
+use lib.ListN.{length, getD, set, length-append, length-replicate, getD-replicate, List·getD-append}
+use lib.Seq.{getD-append-add}
+use Rattle.laws.specs.Over.{over}
+use Rattle.output.proofs.Writing.{Copied, copied-more, copied-all}
 use Rattle.pages.specs.Line.{blank, blanks, column}
 
 pub length-blanks : (n : ℕ) → length (blanks n) ≡ n
@@ -31,37 +30,6 @@ module _ (text : List ℕ) (before i : ℕ) where
 pub length-column : (width : ℕ) (text : List ℕ) → length (column width text) ≡ (width - length text) + length text
 unfolding column
 length-column width text = length-append (blanks (width - length text)) text ∙ ap (λ n. n + length text) (length-blanks (width - length text))
-
--- a list is copied from the front: the first i elements stand
-pub record Copied (f l₀ l : List ℕ) (i : ℕ) : Type 0 where
-  pub most : i ≤ length f
-  pub is : l ≡ over (take i f) l₀
-  pub long : length l ≡ length l₀
-
-copy-one : (f l : List ℕ) (i : ℕ) → i < length f → set (over (take i f) l) i (getD f i 0) ≡ over (take (suc i) f) l
-unfolding over
-copy-one [] l i h = absurd (not-suc-le-zero h)
-copy-one (x ∷ f) [] zero h = refl
-copy-one (x ∷ f) (y ∷ l) zero h = refl
-copy-one (x ∷ f) [] (suc i) h = refl
-copy-one (x ∷ f) (y ∷ l) (suc i) h = ap (λ r. x ∷ r) (copy-one f l i (le-of-suc-le-suc h))
-
-module _ (f l₀ : List ℕ) where
-  pub copied-none : Copied f l₀ l₀ 0
-  copied-none = record { most = omega arith; is = over-none l₀; long = refl }
-
-  pub copied-more : (l : List ℕ) (i v : ℕ) → Copied f l₀ l i → i < length f → v ≡ getD f i 0 → Copied f l₀ (set l i v) (i + 1)
-  copied-more l i v c h e =
-      record {
-        most = omega (arith, h);
-        is = rw (c .is, e, add-one) (copy-one f l₀ i h);
-        long = length-set l i v ∙ c .long;
-      }
-
-  pub copied-all : (l : List ℕ) (i : ℕ) → Copied f l₀ l i → length f ≤ i → l ≡ over f l₀
-  copied-all l i c h =
-      let e : i ≡ length f = omega (arith, c .most) in
-      c .is ∙ ap (λ w. over w l₀) (rw e (take-length f))
 
 -- a column as the code writes it, where so many blanks stand before the text
 module _ (width : ℕ) (text : List ℕ) (before : ℕ) (e : before ≡ width - length text) where

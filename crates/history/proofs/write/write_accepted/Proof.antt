@@ -1,13 +1,14 @@
 -- What is written and what is left to write come to the whole.
 use Prim.Native.Nat.{_-_}
 use native.Mathlib.Omega.{arith}
-use Rattle.history.proofs.Writing.{Writing, writing-start, writing-room, writing-end, writing-more, writing-done}
+use Rattle.output.proofs.Writing.{Writing, writing-start, writing-more, writing-done}
+use Rattle.history.proofs.Writing.{bytesFrom, bytesAll, bytes-start, bytes-turn, bytes-none, turn-room, turn-end}
 use borrow.Author.Needs.{needs}
 use Rattle.history.proofs.write.write_accepted.Statement.{statement}
 use Rattle.history.proofs.write.write_accepted.Tie as tie
 
 abbrev Inv-loop : tie.InvT-loop
-Inv-loop sheet setup steps out₀ n here₀ at₀ k₀ out here at k = Writing sheet setup steps out₀ out here at k
+Inv-loop sheet setup steps out₀ n here₀ at₀ k₀ out here at k = Writing (bytesFrom sheet setup steps) (bytesAll sheet setup steps) out₀ out here at k
 
 abbrev μ-loop : tie.MeasureT-loop
 μ-loop sheet setup steps out₀ n here₀ at₀ k₀ out here at k = n - k
@@ -16,7 +17,7 @@ start-requires : tie.Need-start-requires Inv-loop μ-loop
 start-requires c κs = search needs
 
 loop-holds : tie.Need-loop-holds Inv-loop μ-loop
-loop-holds c = writing-start _ _ _ _ _ (c .start .ensures) (c .before .before .before .before .before .pre .1)
+loop-holds c = writing-start _ _ _ _ (bytes-start _ _ _ _ (c .start .ensures)) (c .before .before .before .before .before .pre .1)
 
 mul-step-at : tie.Need-mul-step-at Inv-loop μ-loop
 mul-step-at c = search needs
@@ -39,12 +40,13 @@ part-write-taken-end c = search needs
 write-taken-requires : tie.Need-write-taken-requires Inv-loop μ-loop
 write-taken-requires c κs =
     let t = c .before .before .before .loop-test .taken in
-    (omega (arith, t), writing-room _ _ _ _ _ _ _ _ _ (c .before .before .before .before .loop .inv) (omega (arith, t)) (c .before .before .step-at .ensures))
+    (omega (arith, t), turn-room _ _ _ (c .before .before .before .before .loop .inv) _ (omega (arith, t)) (c .before .before .step-at .ensures))
 
 add-at : tie.Need-add-at Inv-loop μ-loop
 add-at c =
     let t = c .before .before .before .before .before .before .loop-test .taken in
-    omega (arith, writing-end _ _ _ _ _ _ _ _ _ (c .before .before .before .before .before .before .before .loop .inv) (omega (arith, t)) (c .before .before .before .before .before .step-at .ensures) _ (c .before .before .write-taken .ensures .0))
+    let e = c .before .before .before .before .before .step-at .ensures in
+    omega (arith, turn-end _ _ _ (c .before .before .before .before .before .before .before .loop .inv) _ (omega (arith, t)) e _ (c .before .before .write-taken .ensures .0))
 
 add-k : tie.Need-add-k Inv-loop μ-loop
 add-k c = search needs
@@ -54,15 +56,16 @@ loop-less c = search needs
 
 loop-again : tie.Need-loop-again Inv-loop μ-loop
 loop-again c =
-    let t = c .before .before .before .before .before .before .loop-test .taken in
+    let k = c .before .before .before .before .before in
     let w = c .before .before .write-taken .ensures in
-    writing-more _ _ _ _ _ _ _ _ _ (c .before .before .before .before .before .before .before .loop .inv) (omega (arith, t)) (c .before .before .before .before .before .step-at .ensures) _ _ (w .0) (w .1)
+    let e = bytes-turn _ _ _ _ _ _ (omega (arith, k .before .loop-test .taken)) (k .step-at .ensures) in
+    writing-more (k .before .before .loop .inv) _ _ e _ _ (w .0) (w .1)
 
 same-length : tie.Need-same-length Inv-loop μ-loop
 same-length c = c .before .loop .inv .wrote .long
 
 returns : tie.Need-returns Inv-loop μ-loop
-returns c = writing-done _ _ _ _ _ _ _ _ (c .before .loop .inv) (omega (arith, c .loop-test .left))
+returns c = writing-done (c .before .loop .inv) (bytes-none _ _ _ _ _ (omega (arith, c .loop-test .left))) .is
 
 pub write-accepted-spec : {M : Type 1} → statement M
 write-accepted-spec =

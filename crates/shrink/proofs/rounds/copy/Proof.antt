@@ -1,22 +1,19 @@
 -- The first i bytes are over the front.
-use Prim.Native.Nat.{_≤_, _-_}
-use mathlib.Core.Path.{_≡_, refl, ap, _∙_}
-use lib.ListN.{length, take}
-use lib.Seq.{take-all}
-use Rattle.laws.specs.Over.{over, over-none, length-over}
-use Rattle.shrink.proofs.Writing.{copy-more}
+use Prim.Native.Nat.{_-_}
+use mathlib.Core.Path.{refl}
+use Rattle.output.proofs.Writing.{Copied, copied-none, copied-more, copied-all}
 use borrow.Author.Needs.{needs}
 use Rattle.shrink.proofs.rounds.copy.Statement.{statement}
 use Rattle.shrink.proofs.rounds.copy.Tie as tie
 
 abbrev Inv-loop : tie.InvT-loop
-Inv-loop from out₀ n i₀ out i = (i ≤ n) × (length out ≡ length out₀) × (out ≡ over (take i from) out₀)
+Inv-loop from out₀ n i₀ out i = Copied from out₀ out i
 
 abbrev μ-loop : tie.MeasureT-loop
 μ-loop from out₀ n i₀ out i = n - i
 
 loop-holds : tie.Need-loop-holds Inv-loop μ-loop
-loop-holds c = (search needs, refl, over-none _)
+loop-holds c = copied-none _ _
 
 shared-slice-read-out : tie.Need-shared-slice-read-out Inv-loop μ-loop
 shared-slice-read-out c = search needs
@@ -31,19 +28,13 @@ loop-less : tie.Need-loop-less Inv-loop μ-loop
 loop-less c = search needs
 
 loop-again : tie.Need-loop-again Inv-loop μ-loop
-loop-again c =
-    let l = c .before .before .loop .inv in
-    let m = copy-more _ _ _ _ (c .before .loop-test .taken) (l .2) in
-    (search needs, ap length m ∙ length-over _ _, m)
+loop-again c = copied-more _ _ _ _ _ (c .before .before .loop .inv) (c .before .loop-test .taken) refl
 
 same-length : tie.Need-same-length Inv-loop μ-loop
 same-length c = search needs
 
 returns : tie.Need-returns Inv-loop μ-loop
-returns c =
-    let s = c .before .before .args in
-    let l = c .before .loop .inv in
-    l .2 ∙ rw (take-all _ (s .from .now) (c .loop-test .left)) refl
+returns c = copied-all _ _ _ _ (c .before .loop .inv) (c .loop-test .left)
 
 pub copy-spec : {M : Type 1} → statement M
 copy-spec =
