@@ -9,6 +9,12 @@ use slots::signatures;
 use steps::Outlook;
 use steps::View;
 use steps::conduct;
+use steps::names::LOCK_A;
+use steps::names::LOCK_B;
+use steps::names::NO_TRANSACTION;
+use steps::names::REFUND_1;
+use steps::names::SECRET_BOB;
+use steps::names::SUCCESS;
 use steps::parent;
 use steps::sending;
 ghost use Prim.Native.Nat.{_<_};
@@ -40,14 +46,26 @@ fn is_sent(x: Slot) -> bool
     0 < x.height
 }
 
-// A party's first shares: revoke and timeout, of Bob also refund_1 and refund_2.
+// Each party's first shares as a set: Alice's revoke and timeout; Bob's also refund_1 and refund_2.
+pub const ALICE_FIRST: u32 = 80;
+
+pub const BOB_FIRST: u32 = 120;
+
+// The ways of conduct, and the destination of a contract transaction.
+const OPEN: u8 = 0;
+
+const CAREFUL: u8 = 2;
+
+const CONTRACT: u8 = 2;
+
+// A party's first shares.
 pub fn first_shares(party: u8) -> u32
     ensures { λ r. ⌜ r ≡ firstSet party ⌝ }
 {
     if party == 0 {
-        return 80;
+        return ALICE_FIRST;
     }
-    120
+    BOB_FIRST
 }
 
 // Whether a party is Alice or Bob, and neither lock, whose slots a and b are, is confirmed.
@@ -69,7 +87,7 @@ pub fn pays_first(sheet: &[u8], setup: &[u8], t: usize) -> bool
     requires { ⌜ t < count (now sheet) ⌝ }
     ensures { λ r. ⌜ r ≡ (isCareful (now (setup .entry)) && isContract (now (sheet .entry)) t) ⌝ }
 {
-    if sheet::setup::conduct(setup) != 2 {
+    if sheet::setup::conduct(setup) != CAREFUL {
         return false;
     }
     party::is_contract(sheet, t)
@@ -91,7 +109,7 @@ impl Position {
         let mut t = next::next(set, 0, 32);
         while t < 32 {
             let x = self.slots[t];
-            if !x.marked_for(party, 2) {
+            if !x.marked_for(party, CONTRACT) {
                 return false;
             }
             t = next::next(set, t + 1, 32);
@@ -103,10 +121,10 @@ impl Position {
     pub fn phase(self) -> u8
         ensures { λ r. ⌜ r ≡ phase self ⌝ }
     {
-        if 0 < self.block_of(1) {
+        if 0 < self.block_of(LOCK_B) {
             return 3;
         }
-        if 0 < self.block_of(0) {
+        if 0 < self.block_of(LOCK_A) {
             return 2;
         }
         if !self.first_shares_made(0) {
@@ -124,7 +142,7 @@ impl Position {
         requires { ⌜ 2 < count (now sheet) ⌝ }
         ensures { λ r. ⌜ r ≡ late (now (sheet .entry)) (now (setup .entry)) self ⌝ }
     {
-        self.deadline_in(sheet, setup, 2) <= lock_height::wide(self.mined)
+        self.deadline_in(sheet, setup, SUCCESS) <= lock_height::wide(self.mined)
     }
 
     // What conduct reads off the position.
@@ -134,7 +152,7 @@ impl Position {
         ensures { λ r. ⌜ r ≡ outlook (now (sheet .entry)) (now (setup .entry)) self ⌝ }
     {
         let way = sheet::setup::conduct(setup);
-        if way == 0 {
+        if way == OPEN {
             return Outlook {
                 free: true,
                 careful: false,
@@ -146,17 +164,17 @@ impl Position {
                 bobhas: 0,
             };
         }
-        let success = self.slots[2];
-        let refund = self.slots[3];
+        let success = self.slots[SUCCESS];
+        let refund = self.slots[REFUND_1];
         Outlook {
             free: false,
-            careful: way == 2,
+            careful: way == CAREFUL,
             phase: self.phase(),
             late: self.late(sheet, setup),
             refund: is_sent(refund),
             unshared: success.contract == 0,
-            knows: signatures::has(self.keys(0), 3),
-            bobhas: view.sender(sheet, success, 1, 2),
+            knows: signatures::has(self.keys(0), SECRET_BOB),
+            bobhas: view.sender(sheet, success, 1, CONTRACT),
         }
     }
 
@@ -166,15 +184,15 @@ impl Position {
         ensures { λ r. ⌜ r ≡ sendOutlook (now (setup .entry)) self ⌝ }
     {
         let way = sheet::setup::conduct(setup);
-        let success = self.slots[2];
+        let success = self.slots[SUCCESS];
         Outlook {
-            free: way == 0,
-            careful: way == 2,
+            free: way == OPEN,
+            careful: way == CAREFUL,
             phase: self.phase(),
             late: false,
             refund: false,
             unshared: success.contract == 0,
-            knows: signatures::has(self.keys(0), 3),
+            knows: signatures::has(self.keys(0), SECRET_BOB),
             bobhas: 0,
         }
     }
@@ -211,7 +229,7 @@ impl Position {
         o.send_allowed(sheet, party, t)
     }
 
-    // Whether conduct allows a party to share t, or with 255 its first shares.
+    // Whether conduct allows a party to share t, or with no transaction its first shares.
     pub fn may_share(self, sheet: &[u8], setup: &[u8], view: View, party: u8, t: u8) -> bool
         requires { ⌜ Fit (now sheet) (now setup) ⌝ }
         requires { ⌜ view ≡ viewBelow (now sheet) (count (now sheet)) self ⌝ }
@@ -241,7 +259,7 @@ impl Position {
         if early {
             return refusal::ACCEPTED;
         }
-        let allowed = self.may_share(sheet, setup, view, party, 255);
+        let allowed = self.may_share(sheet, setup, view, party, NO_TRANSACTION);
         conduct::conduct_refusal(allowed, true)
     }
 

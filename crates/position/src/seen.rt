@@ -1,5 +1,6 @@
 // The view of a position carried from step to step.
 use crate::Position;
+use crate::conduct::BOB_FIRST;
 use slots::next;
 use steps::View;
 use steps::mined;
@@ -30,7 +31,7 @@ pub fn changed_set(view: View, kind: u8, t: u8) -> u32
     if t < 32 {
         return 1u32 << t;
     }
-    120
+    BOB_FIRST
 }
 
 // Of these, those that a mined block may have changed, or all.

@@ -12,6 +12,9 @@ use slots::party;
 use steps::View;
 use steps::conduct;
 use steps::mining;
+use steps::names::LOCK_A;
+use steps::names::LOCK_B;
+use steps::names::NO_TRANSACTION;
 use steps::parent;
 use steps::sending;
 use steps::sharing;
@@ -28,7 +31,7 @@ ghost use Rattle.position.specs.Play.{takeStep};
 ghost use Rattle.position.specs.Forms.View.{viewBelow};
 
 impl Position {
-    // 1 Share: of one transaction, or with 255 of the party's first shares.
+    // 1 Share: of one transaction, or with none of the party's first shares.
     pub fn share(
         mut self,
         sheet: &[u8],
@@ -43,9 +46,9 @@ impl Position {
         requires { ⌜ shareable (now sheet) t ≡ true ⌝ }
         ensures { λ r. ⌜ r ≡ takeStep (now (sheet .entry)) (now (setup .entry)) self (Share party t to) ⌝ }
     {
-        if t == 255 {
-            let a = self.slots[0];
-            let b = self.slots[1];
+        if t == NO_TRANSACTION {
+            let a = self.slots[LOCK_A];
+            let b = self.slots[LOCK_B];
             let early = is_early(party, a, b);
             return self.share_all(sheet, setup, view, early, party, to);
         }

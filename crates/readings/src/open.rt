@@ -8,6 +8,7 @@ use steps::Outlook;
 use steps::conduct;
 use steps::decode;
 use steps::mining;
+use steps::names::NO_TRANSACTION;
 use steps::owed;
 use steps::parent;
 use steps::sending;
@@ -362,7 +363,7 @@ fn shares_first(setup: &[u8], sight: Sight, actor: u8) -> bool
     if sheet::setup::conduct(setup) == 0 {
         return false;
     }
-    let allowed = sight.outlook.share_allowed(actor, 255);
+    let allowed = sight.outlook.share_allowed(actor, NO_TRANSACTION);
     conduct::conduct_refusal(allowed, !sight.made) == 0
 }
 

@@ -1,5 +1,13 @@
 // Conduct, over an outlook.
 use crate::Outlook;
+use crate::names::LOCK_A;
+use crate::names::NO_TRANSACTION;
+use crate::names::REFUND_1;
+use crate::names::SECRET_ALICE;
+use crate::names::SECRET_BOB;
+use crate::names::SIG_ALICE;
+use crate::names::SPEND_B;
+use crate::names::SUCCESS_BYTE;
 use sheet::refusal;
 use slots::party;
 use slots::signatures;
@@ -29,7 +37,7 @@ fn may_send(phase: u8, party: u8, t: usize) -> bool
 {
     if party == 0 {
         if phase == 1 {
-            return t == 0;
+            return t == LOCK_A;
         }
         return 2 <= phase; // as in phase 3
     }
@@ -47,20 +55,20 @@ impl Outlook {
         if self.phase != 3 { // she shares nothing in phase 2
             return false;
         }
-        if t != 2 {
+        if t != SUCCESS_BYTE {
             return false;
         }
         !self.refund && !self.late
     }
 
-    // Whether a party may share t, or with 255 its first shares.
+    // Whether a party may share t, or with no transaction its first shares.
     pub fn share_allowed(self, party: u8, t: u8) -> bool
         ensures { λ r. ⌜ r ≡ shareAllowedIn self party t ⌝ }
     {
         if self.free {
             return true;
         }
-        if t == 255 {
+        if t == NO_TRANSACTION {
             return self.phase == 0;
         }
         if party != 0 {
@@ -76,7 +84,7 @@ impl Outlook {
         if self.phase != 3 { // she gives nothing in phase 2
             return false;
         }
-        if i != 0 {
+        if i != SIG_ALICE {
             return false;
         }
         self.knows && !self.late
@@ -89,13 +97,13 @@ impl Outlook {
         if self.phase < 2 {
             return false;
         }
-        if i != 3 {
+        if i != SECRET_BOB {
             return false;
         }
-        if !signatures::has(self.bobhas, 0) {
+        if !signatures::has(self.bobhas, SIG_ALICE) {
             return false;
         }
-        if signatures::has(self.bobhas, 2) {
+        if signatures::has(self.bobhas, SECRET_ALICE) {
             return false;
         }
         !self.late
@@ -123,13 +131,13 @@ impl Outlook {
         requires { ⌜ t < count (now sheet) ⌝ }
         ensures { λ r. ⌜ r ≡ secretSafeIn (now (sheet .entry)) self t ⌝ }
     {
-        if !signatures::has(sheet::field::required(sheet, t), 2) {
+        if !signatures::has(sheet::field::required(sheet, t), SECRET_ALICE) {
             return true;
         }
         if !self.knows {
             return true;
         }
-        t == 8
+        t == SPEND_B
     }
 
     // Whether a careful party sends t.
@@ -141,7 +149,7 @@ impl Outlook {
         if party != 0 {
             return true;
         }
-        if t == 3 {
+        if t == REFUND_1 {
             return self.unshared;
         }
         self.secret_safe(sheet, t)

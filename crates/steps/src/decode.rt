@@ -1,5 +1,6 @@
 // Four bytes as a step, or refusal 11.
 use crate::Decoded;
+use crate::names::NO_TRANSACTION;
 use slots::Destination;
 use slots::Step;
 use slots::party;
@@ -88,7 +89,7 @@ fn first_share_fields(setup: &[u8], t: u8, destination: u8) -> bool
     requires { ⌜ length (now setup) ≡ 4 ⌝ }
     ensures { λ r. ⌜ r ≡ firstShareFields (now (setup .entry)) t destination ⌝ }
 {
-    if t != 255 {
+    if t != NO_TRANSACTION {
         return false;
     }
     if sheet::setup::conduct(setup) == 0 {
@@ -181,7 +182,7 @@ fn mine_fields(party: u8, t: u8, destination: u8) -> bool
     if party != 2 {
         return false;
     }
-    if t != 255 {
+    if t != NO_TRANSACTION {
         return false;
     }
     destination == 2

@@ -8,6 +8,7 @@ pub mod conduct;
 pub mod decode;
 pub mod mined;
 pub mod mining;
+pub mod names;
 pub mod owed;
 pub mod parent;
 pub mod sending;

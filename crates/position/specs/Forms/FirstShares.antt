@@ -11,9 +11,16 @@ use Rattle.slots.specs.Destination.{alice}
 use Rattle.steps.specs.Names.{timeout}
 use Rattle.steps.specs.Decode.{noTransaction}
 
--- firstShares: 2^4 + 2^6, and 2^3 + 2^4 + 2^5 + 2^6
+-- Alice's first shares, 2^4 + 2^6, and Bob's, 2^3 + 2^4 + 2^5 + 2^6
+abbrev pub aliceFirst : ℕ
+aliceFirst = 80
+
+abbrev pub bobFirst : ℕ
+bobFirst = 120
+
+-- firstShares as a set
 unfoldable pub firstSet : ℕ → ℕ
-firstSet party = pick (eqb party alice) 80 120
+firstSet party = pick (eqb party alice) aliceFirst bobFirst
 
 -- Alice or Bob, where neither lock, whose slots these are, is confirmed: of one whose first shares are not made this is phase 0
 unfoldable pub isEarly : ℕ → Slot → Slot → Bool

@@ -12,6 +12,7 @@ use Rattle.steps.specs.Forms.View.{viewWith}
 use Rattle.steps.specs.Forms.Blocks.{struckIn, touchedIn}
 use Rattle.position.specs.declared.Position.{Position}
 use Rattle.position.specs.Position.{slot}
+use Rattle.position.specs.Forms.FirstShares.{bobFirst}
 
 -- the slots that an accepted step of this kind and transaction byte may have changed: none by a gift and an empty block; by a block with
 -- entries and a bump those of what was in the pool or in the block; by the first shares those of either party
@@ -20,7 +21,7 @@ changedSet v kind t =
     pick (eqb kind 6) (pick (eqb (v .block) 0) 0 (bitOr (v .pool) (v .block)))
     (pick (eqb kind 7) (bitOr (v .pool) (v .block))
     (pick (eqb kind 2) 0
-    (pick (ltb t 32) (2 ^ t) 120)))
+    (pick (ltb t 32) (2 ^ t) bobFirst)))
 
 -- of these, those that a mined block may have changed, or all
 unfoldable pub narrowedSet : List ℕ → View → ℕ → ℕ → ℕ
