@@ -93,13 +93,6 @@ pub fn pays_first(sheet: &[u8], setup: &[u8], t: usize) -> bool
     party::is_contract(sheet, t)
 }
 
-// Whether a send that conduct allows but for paying first is allowed, where `back` says that the party is to pay first.
-pub fn unless_back(may: bool, back: bool) -> bool
-    ensures { λ r. ⌜ r ≡ (may && not back) ⌝ }
-{
-    may && !back
-}
-
 impl Position {
     // Whether a party's first shares are made, for the contract.
     pub fn first_shares_made(self, party: u8) -> bool

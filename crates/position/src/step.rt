@@ -3,7 +3,6 @@ use crate::Position;
 use crate::Stepped;
 use crate::conduct::is_early;
 use crate::conduct::pays_first;
-use crate::conduct::unless_back;
 use crate::effect;
 use crate::outcome;
 use sheet::refusal;
@@ -148,7 +147,7 @@ impl Position {
         let k = sheet::field::wide(t);
         let may = sheet::setup::conduct(setup) == 0 || self.may_send(sheet, setup, party, k);
         let back = pays_first(sheet, setup, k) && self.can_pay(sheet, setup, view, party);
-        let allowed = unless_back(may, back);
+        let allowed = may & !back;
         let up = parent::slot_above(sheet, k);
         let above = self.slots[up];
         let since = parent::block_above(sheet, k, above.height);
@@ -192,7 +191,7 @@ impl Position {
         let k = sheet::field::wide(t);
         let may = sheet::setup::conduct(setup) == 0 || self.may_send(sheet, setup, party, k);
         let back = pays_first(sheet, setup, k) && self.can_pay(sheet, setup, view, party);
-        let allowed = unless_back(may, back);
+        let allowed = may & !back;
         let up = parent::slot_above(sheet, k);
         let above = self.slots[up];
         let since = parent::block_above(sheet, k, above.height);
