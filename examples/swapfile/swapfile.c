@@ -10,8 +10,8 @@
 #include "../calendar/saswap.h"
 #include "../calendar/words.h"
 #include "../common/output.h"
+#include "../common/text.h"
 #include "store.h"
-#include "text.h"
 
 /* The exit status. */
 enum { FINE = 0, REFUSED = 1, BAD_USAGE = 2 };
@@ -58,7 +58,7 @@ static int encode(const char *file, const char *folder)
     static struct swap swap;
     uint8_t sides;
 
-    return encode_text(file, &swap, &sides) && store_swap(folder, &swap, side_name(sides), false) ? FINE : REFUSED;
+    return encode_text("swapfile", file, &swap, &sides) && store_swap(folder, &swap, side_name(sides), false) ? FINE : REFUSED;
 }
 
 /* Tells why the engine refuses a folder's swap. */

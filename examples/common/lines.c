@@ -10,18 +10,18 @@
 #include <string.h>
 #include <strings.h>
 
-#include "../common/output.h"
-#include "../common/whole.h"
+#include "output.h"
+#include "whole.h"
 
-bool read_text(const char *file, char *text, size_t *length)
+bool read_text(const struct line *line, char *text, size_t *length)
 {
-    const char *reason = read_plain(AT_FDCWD, file, text, TEXT_MOST + 1, length);
+    const char *reason = read_plain(AT_FDCWD, line->of, text, TEXT_MOST + 1, length);
 
     if (reason == NULL && *length > TEXT_MOST) {
         reason = strerror(EFBIG);
     }
     if (reason != NULL) {
-        complain("swapfile", file, "", reason);
+        complain(line->program, line->of, "", reason);
     }
     return reason == NULL;
 }
@@ -91,9 +91,12 @@ bool bad(const struct line *line, const char *format, ...)
     FILE *to = open_memstream(&words, &length);
     va_list more;
 
-    fputs("swapfile: ", stderr);
-    print_visible(stderr, line->file);
-    fprintf(stderr, ":%u: ", line->number);
+    fprintf(stderr, "%s: ", line->program);
+    print_visible(stderr, line->of);
+    if (line->number > 0) {
+        fprintf(stderr, ":%u", line->number);
+    }
+    fputs(": ", stderr);
     if (to != NULL) {
         va_start(more, format);
         vfprintf(to, format, more);

@@ -1,4 +1,4 @@
-/* A text file, line by line, each line as words. */
+/* Text, line by line, each line as words. */
 #ifndef LINES_H
 #define LINES_H
 
@@ -14,7 +14,8 @@
 
 /* A line: the words before a comment, and how many of them are taken. Blanks, commas and colons part words. */
 struct line {
-    const char *file;
+    const char *program; /* who reads it */
+    const char *of;      /* the file; or what else has the words, and then the number is 0 */
     unsigned number;
     size_t count;
     size_t taken;
@@ -22,14 +23,14 @@ struct line {
     char *words[WORDS_MOST];
 };
 
-/* The text of a plain file, which is not waited for. False, with a message, where it cannot be read. */
-bool read_text(const char *file, char *text, size_t *length);
+/* The text of a plain file, the line's, which is not waited for. False, with a message, where it cannot be read. */
+bool read_text(const struct line *line, char *text, size_t *length);
 
 /* Cuts the next line off a text, which starts at *AT. False at the text's end. The
  * text has a byte of room after its end. */
 bool next_line(char *text, size_t length, size_t *at, struct line *line);
 
-/* Prints what is wrong with a line; false. */
+/* Prints what is wrong with a line, as "PROGRAM: FILE:NUMBER: ..."; false. */
 bool bad(const struct line *line, const char *format, ...);
 
 /* The next word, or the words "the end of the line". */

@@ -164,28 +164,44 @@ bool read_steps(struct line *line, const struct swap *swap, uint8_t step[4], uns
     return sound && expect_end(line);
 }
 
-/* Prints the words of a step that mines no block. */
-static void print_words(const struct swap *swap, const uint8_t step[4])
+/* The words after the party's name, of a step that mines no block. */
+static void write_words(const struct swap *swap, const uint8_t step[4], char *to, size_t size)
 {
-    if (step[1] != SWAP_MINER) {
-        printf("%s ", parties[step[1]]);
-    }
-    if (step[0] == SWAP_GIVE && is_saswap(swap)) {
-        printf("gives %s to %s", saswap_signature(step[2]), parties[step[3]]);
-    } else if (step[0] == SWAP_GIVE) {
-        printf("gives signature %u to %s", (unsigned)step[2], parties[step[3]]);
-    } else if (step[2] == SWAP_NONE) {
-        printf("%s", first_shares);
-    } else {
-        const char *after = phrases[step[0]].after;
+    const char *after;
+    int length;
 
-        printf("%s %s%s%s", phrases[step[0]].before, transaction_label(swap, step[2]).text, *after == '\0' ? "" : " ",
-               after);
-        if (step[3] != SWAP_CONTRACT) {
-            printf(", paying %s", parties[step[3]]);
-        }
+    if (step[0] == SWAP_GIVE && is_saswap(swap)) {
+        snprintf(to, size, "gives %s to %s", saswap_signature(step[2]), parties[step[3]]);
+        return;
     }
-    putchar('\n');
+    if (step[0] == SWAP_GIVE) {
+        snprintf(to, size, "gives signature %u to %s", (unsigned)step[2], parties[step[3]]);
+        return;
+    }
+    if (step[2] == SWAP_NONE) {
+        snprintf(to, size, "%s", first_shares);
+        return;
+    }
+    after = phrases[step[0]].after;
+    length = snprintf(to, size, "%s %s%s%s", phrases[step[0]].before, transaction_label(swap, step[2]).text,
+                      *after == '\0' ? "" : " ", after);
+    if (step[3] != SWAP_CONTRACT) {
+        snprintf(to + length, size - (size_t)length, ", paying %s", parties[step[3]]);
+    }
+}
+
+struct step_words step_words(const struct swap *swap, const uint8_t step[4])
+{
+    struct step_words words = {"mine the block"};
+    int length = 0;
+
+    if (step[1] != SWAP_MINER) {
+        length = snprintf(words.text, sizeof words.text, "%s ", parties[step[1]]);
+    }
+    if (step[0] != SWAP_MINE) {
+        write_words(swap, step, words.text + length, sizeof words.text - (size_t)length);
+    }
+    return words;
 }
 
 /* Prints so many blocks, which follow MINED others. */
@@ -207,7 +223,7 @@ void print_journal(const struct swap *swap)
         size_t blocks = 0;
 
         if (step[0] != SWAP_MINE) {
-            print_words(swap, step);
+            printf("%s\n", step_words(swap, step).text);
             at += 4;
             continue;
         }

@@ -7,9 +7,9 @@
 /* A party's name for the file `side`, or NULL. */
 const char *side_name(uint8_t sides);
 
-/* Reads a swap, and its side or 0, from a text file. False, with a message that names file and line, where the text is
- * wrong or the engine refuses what it says. The journal's memory is good until the next text is read. */
-bool encode_text(const char *file, struct swap *swap, uint8_t *sides);
+/* Reads a swap, and its side or 0, from a text file. False, with the program's message that names file and line, where
+ * the text is wrong or the engine refuses what it says. The journal's memory is good until the next text is read. */
+bool encode_text(const char *program, const char *file, struct swap *swap, uint8_t *sides);
 
 /* Prints a swap that the engine accepts, and its side or 0. */
 void decode_text(const struct swap *swap, uint8_t sides);

@@ -191,19 +191,19 @@ static bool read_line(struct line *line, struct reading *reading)
     return reading->part == SHEET ? read_sheet_line(line, &reading->draft) : expect(line, "journal");
 }
 
-bool encode_text(const char *file, struct swap *swap, uint8_t *sides)
+bool encode_text(const char *program, const char *file, struct swap *swap, uint8_t *sides)
 {
     static char text[TEXT_MOST + 2];
     static uint8_t journal[SWAP_JOURNAL_SIZE];
     static struct reading reading;
-    struct line line = {.file = file};
+    struct line line = {.program = program, .of = file};
     size_t length;
     size_t at = 0;
 
     memset(&reading, 0, sizeof reading);
     reading.swap = swap;
     swap->journal = journal;
-    if (!read_text(file, text, &length)) {
+    if (!read_text(&line, text, &length)) {
         return false;
     }
     while (next_line(text, length, &at, &line)) {
