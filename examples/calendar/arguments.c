@@ -6,8 +6,8 @@
 #include "../common/output.h"
 
 const char usage[] = "usage: calendar [--full | --json] [--html FILE] [--blocks N | --days D]\n"
-                     "                [--from BLOCK] [--margin N] [--side SIDE] [--base HEIGHT]\n"
-                     "                [FOLDER]\n";
+                     "                [--in N | --from HEIGHT] [--margin N] [--side SIDE]\n"
+                     "                [--base HEIGHT] [FOLDER]\n";
 
 const char help[] =
     "\n"
@@ -16,12 +16,15 @@ const char help[] =
     "               swap\n"
     "--blocks N     the length of the outage in blocks\n"
     "--days D       the same in days of each swap's setup; left out: 1\n"
-    "--from BLOCK   the first block of the outage; left out: the next one\n"
+    "--in N         the outage begins after the next N blocks; left out: 0\n"
+    "--from HEIGHT  its first block instead, by the real chain's heights: needs the\n"
+    "               base of each swap, and lies ahead of each\n"
     "--margin N     blocks to spare after the outage; left out: 0\n"
     "--side SIDE    alice, bob or carol; left out: what the file `side` in the swap's\n"
     "               folder says, else every party\n"
-    "--base HEIGHT  the real chain's height before block 1 of the swaps: heights are\n"
-    "               printed, and --from is read, as the real chain's\n"
+    "--base HEIGHT  the real chain's height when the journal was empty, for one swap;\n"
+    "               left out: what the file `base` in the swap's folder says. With a\n"
+    "               base the swap's heights are the real chain's, else its own blocks\n"
     "--full         for each swap the position, the steps that each party could take\n"
     "               now, the payouts so far and all that can still be confirmed\n"
     "--json         the position and the windows of each swap as JSON, for programs;\n"
@@ -35,14 +38,14 @@ const char help[] =
     "until the window ends, and what can be confirmed instead after that. A WARNING\n"
     "says that the window can end in the outage or its margin, and that the\n"
     "transaction or one below it can pay the side: with the box off, that payout can\n"
-    "be lost. With --from, a window that ends before the outage and cannot move is no\n"
-    "warning; it is shown as due before the outage.\n"
+    "be lost. Where the outage begins later, a window that ends before it and cannot\n"
+    "move is no warning; it is shown as due before the outage.\n"
     "\n"
     "Exit status: 0 no warning; 3 warnings; 1 a swap is refused or cannot be read,\n"
-    "or there is none; 2 bad usage.\n";
+    "there is none, or the question does not fit it; 2 bad usage.\n";
 
 /* The arguments that have a value. The first three can stand by their place too. */
-enum { FOLDER, BLOCKS, SIDE, DAYS, FROM, MARGIN, BASE, HTML, ARGUMENTS };
+enum { FOLDER, BLOCKS, SIDE, DAYS, IN, FROM, MARGIN, BASE, HTML, ARGUMENTS };
 
 static const struct {
     const char *name;
@@ -53,9 +56,10 @@ static const struct {
     [BLOCKS] = {"--blocks", 0, 999999999},
     [SIDE] = {"--side", 0, 0},
     [DAYS] = {"--days", 0, 999999},
+    [IN] = {"--in", 0, 999999999},
     [FROM] = {"--from", 1, 999999999},
     [MARGIN] = {"--margin", 0, 999999999},
-    [BASE] = {"--base", 0, 499999999},
+    [BASE] = {"--base", 0, BASE_MOST},
     [HTML] = {"--html", 0, 0},
 };
 
@@ -84,25 +88,35 @@ static bool wrong(const char *argument, const char *value, const char *reason)
     return false;
 }
 
-/* A decimal number of one to nine digits in the argument's range; what is left out stays as it is. */
-static bool read_number(int argument, const char *text, uint32_t *number)
+bool is_number_named(const char *text, uint32_t least, uint32_t most, uint32_t *number)
 {
-    char range[48];
+    size_t length = strlen(text);
     uint32_t value = 0;
 
-    if (text == NULL) {
+    if (length < 1 || length > 9 || strspn(text, "0123456789") != length) {
+        return false;
+    }
+    for (; *text != '\0'; text++) {
+        value = 10 * value + (uint32_t)(*text - '0');
+    }
+    if (value < least || value > most) {
+        return false;
+    }
+    *number = value;
+    return true;
+}
+
+/* A number in the argument's range; what is left out stays as it is. */
+static bool read_number(int argument, const char *text, uint32_t *number)
+{
+    uint32_t least = arguments[argument].least;
+    uint32_t most = arguments[argument].most;
+    char range[48];
+
+    if (text == NULL || is_number_named(text, least, most, number)) {
         return true;
     }
-    for (size_t i = 0; text[i] >= '0' && text[i] <= '9' && i < 9; i++) {
-        value = 10 * value + (uint32_t)(text[i] - '0');
-    }
-    if (strspn(text, "0123456789") == strlen(text) && strlen(text) >= 1 && strlen(text) <= 9 &&
-        value >= arguments[argument].least && value <= arguments[argument].most) {
-        *number = value;
-        return true;
-    }
-    snprintf(range, sizeof range, "not a number from %lu to %lu", (unsigned long)arguments[argument].least,
-             (unsigned long)arguments[argument].most);
+    snprintf(range, sizeof range, "not a number from %lu to %lu", (unsigned long)least, (unsigned long)most);
     return wrong(arguments[argument].name, text, range);
 }
 
@@ -117,26 +131,38 @@ static bool read_length(const char *const values[ARGUMENTS], struct question *qu
     return read_number(BLOCKS, values[BLOCKS], &question->length) && read_number(DAYS, values[DAYS], &question->length);
 }
 
+/* When the outage begins. */
+static bool read_start(const char *const values[ARGUMENTS], struct question *question)
+{
+    if (values[IN] != NULL && values[FROM] != NULL) {
+        return wrong("--in", values[IN], "not beside --from");
+    }
+    return read_number(IN, values[IN], &question->in) && read_number(FROM, values[FROM], &question->from);
+}
+
 /* What the values say. */
 static bool read_values(const char *const values[ARGUMENTS], struct question *question)
 {
     question->folder = values[FOLDER];
     question->html = values[HTML];
+    question->based = values[BASE] != NULL;
     if (question->json && question->full) {
         return wrong("--json", NULL, "not beside --full");
     }
-    if (!read_length(values, question) || !read_number(BASE, values[BASE], &question->base) ||
-        !read_number(FROM, values[FROM], &question->from) || !read_number(MARGIN, values[MARGIN], &question->margin)) {
+    if (!read_length(values, question) || !read_start(values, question) ||
+        !read_number(BASE, values[BASE], &question->base) || !read_number(MARGIN, values[MARGIN], &question->margin)) {
         return false;
-    }
-    if (values[FROM] != NULL && question->from <= question->base) {
-        return wrong("--from", values[FROM], "not above the base");
     }
     if (values[SIDE] != NULL) {
         question->sides = side_named(values[SIDE]);
         return question->sides != 0 || wrong("--side", values[SIDE], "not alice, bob or carol");
     }
     return true;
+}
+
+bool begins_later(const struct question *question)
+{
+    return question->in > 0 || question->from > 0;
 }
 
 /* The argument of this name, or ARGUMENTS. */

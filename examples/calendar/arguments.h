@@ -14,14 +14,25 @@ struct question {
     uint8_t sides;      /* whose lines, a mask as payees have it; 0: by each swap's folder */
     bool in_days;       /* whether the length is in days */
     uint32_t length;    /* of the outage */
-    uint32_t from;      /* its first block; 0: the next one */
+    uint32_t in;        /* blocks from now before it begins */
+    uint32_t from;      /* or its first block, by the real chain's heights; 0: by the blocks from now */
     uint32_t margin;    /* blocks to spare after it */
-    uint32_t base;      /* the real chain's height before block 1 */
+    bool based;         /* whether the base is given: for one swap only */
+    uint32_t base;      /* the real chain's height when the swap's journal was empty */
 };
 
 /* How the calendar is called, in a line; and what its arguments and its lines mean. */
 extern const char usage[];
 extern const char help[];
+
+/* The greatest base. */
+#define BASE_MOST 499999999u
+
+/* Whether a text is a decimal number of one to nine digits in a range; then it is read. */
+bool is_number_named(const char *text, uint32_t least, uint32_t most, uint32_t *number);
+
+/* Whether the outage begins later than with the next block. */
+bool begins_later(const struct question *question);
 
 /* The mask of a party's name; 0 where it is none. */
 uint8_t side_named(const char *name);

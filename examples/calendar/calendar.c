@@ -81,10 +81,17 @@ static int show(const struct question *question, const struct desk *desk, const 
     return totals.warnings > 0 ? WARNINGS : NO_WARNING;
 }
 
+/* Asks about the outage and shows the swaps: the exit status. */
+static int show_outages(const struct question *question, struct desk *desk, const struct target *target)
+{
+    ask_outages(question, desk);
+    return show(question, desk, target);
+}
+
 /* Answers a question: the exit status. */
 static int answer(const struct question *question, const struct target *target)
 {
-    struct desk desk = {NULL, 0};
+    struct desk desk = {0};
     int status;
 
     if (!read_desk(question, &desk)) {
@@ -93,7 +100,7 @@ static int answer(const struct question *question, const struct target *target)
         status = fault(question->folder, "no swap here");
     } else {
         ask_desk(question, &desk);
-        status = show(question, &desk, target);
+        status = fits_desk(question, &desk) ? show_outages(question, &desk, target) : FAULT;
     }
     free_desk(&desk);
     return status;

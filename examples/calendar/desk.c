@@ -3,11 +3,13 @@
 #include "desk.h"
 
 #include <dirent.h>
+#include <stdio.h>
 #include <stdlib.h>
 #include <string.h>
 #include <sys/stat.h>
 #include <unistd.h>
 
+#include "../common/output.h"
 #include "bundle.h"
 #include "saswap.h"
 
@@ -50,6 +52,9 @@ static bool add_folder(struct desk *desk, const char *name, const char *folder)
         return false;
     }
     entry->fault = read_swap(folder, &entry->swap, &entry->sides);
+    if (entry->fault.file == NULL) {
+        entry->fault = read_base(folder, &entry->based, &entry->base);
+    }
     return true;
 }
 
@@ -113,16 +118,23 @@ bool read_desk(const struct question *question, struct desk *desk)
     if (chdir(question->folder) != 0) {
         return false;
     }
-    return is_swap(".") ? add_folder(desk, last_part(question->folder), ".") : add_subfolders(desk);
+    desk->several = !is_swap(".");
+    return desk->several ? add_subfolders(desk) : add_folder(desk, last_part(question->folder), ".");
 }
 
-/* What else the engine answers of a swap whose journal is accepted whole. */
-static void ask_entry(const struct question *question, struct entry *entry)
+/* Whose lines are shown, and the base: arguments go before files. */
+static void apply_arguments(const struct question *question, struct entry *entry)
 {
-    entry->answer = ask_position(&entry->swap, SWAP_COUNT(entry->answer), &entry->position);
-    if (is_sound(entry)) {
-        entry->outage = outage_of(question, &entry->position);
-        entry->answer = ask_outage(&entry->position, entry->outage.reach);
+    uint8_t all = everybody(&entry->swap);
+
+    if (question->sides != 0) {
+        entry->sides = question->sides & all;
+    } else if (entry->sides == 0) {
+        entry->sides = all;
+    }
+    if (question->based) {
+        entry->based = true;
+        entry->base = question->base;
     }
 }
 
@@ -133,14 +145,67 @@ void ask_desk(const struct question *question, struct desk *desk)
         struct entry *entry = desk->entries[i];
 
         if (is_sound(entry)) {
-            ask_entry(question, entry);
+            entry->answer = ask_position(&entry->swap, SWAP_COUNT(entry->answer), &entry->position);
         }
-        if (question->sides != 0) {
-            entry->sides = question->sides & everybody(&entry->swap);
-        } else if (entry->sides == 0) {
-            entry->sides = everybody(&entry->swap);
+        apply_arguments(question, entry);
+    }
+}
+
+/* Whether an outage from a height on lies ahead of the swap. */
+static bool lies_ahead(const struct question *question, const struct entry *entry)
+{
+    unsigned long height = (unsigned long)entry->base + entry->position.mined;
+    char reason[96];
+
+    if (!entry->based) {
+        complain("calendar", entry->name, "", "no base, and --from is a height of the real chain");
+        return false;
+    }
+    if (question->from > height) {
+        return true;
+    }
+    snprintf(reason, sizeof reason, "--from %lu is in the past: the swap stands at height %lu",
+             (unsigned long)question->from, height);
+    complain("calendar", entry->name, "", reason);
+    return false;
+}
+
+bool fits_desk(const struct question *question, const struct desk *desk)
+{
+    bool sound = true;
+
+    if (question->based && desk->several) {
+        complain("calendar", "--base", "", "for one swap; each of several has a file base in its folder");
+        return false;
+    }
+    for (size_t i = 0; i < desk->count && question->from > 0; i++) {
+        if (is_sound(desk->entries[i]) && !lies_ahead(question, desk->entries[i])) {
+            sound = false;
         }
     }
+    return sound;
+}
+
+void ask_outages(const struct question *question, struct desk *desk)
+{
+    for (size_t i = 0; i < desk->count; i++) {
+        struct entry *entry = desk->entries[i];
+
+        if (is_sound(entry)) {
+            entry->outage = outage_of(question, &entry->position, entry->base);
+            entry->answer = ask_outage(&entry->position, entry->outage.reach);
+        }
+    }
+}
+
+bool is_mixed(const struct desk *desk)
+{
+    size_t counts[2] = {0, 0};
+
+    for (size_t i = 0; i < desk->count; i++) {
+        counts[desk->entries[i]->based] += is_sound(desk->entries[i]);
+    }
+    return counts[0] > 0 && counts[1] > 0;
 }
 
 void free_desk(struct desk *desk)

@@ -9,6 +9,8 @@
 struct entry {
     char *name;
     uint8_t sides;      /* whose lines are shown, a mask as payees have it */
+    bool based;         /* whether its base is known */
+    uint32_t base;      /* the real chain's height when its journal was empty; 0 where that is not known */
     struct fault fault; /* of its files */
     struct swap swap;
     bool ran;                 /* its answer holds its run's */
@@ -20,6 +22,7 @@ struct entry {
 struct desk {
     struct entry **entries;
     size_t count;
+    bool several; /* whether the folder holds swaps and is none itself */
 };
 
 /* Whether an entry is read and its journal accepted whole. */
@@ -35,8 +38,18 @@ bool is_shown(const struct entry *entry, uint8_t side);
  */
 bool read_desk(const struct question *question, struct desk *desk);
 
-/* Puts all swaps to the engine. */
+/* Puts all swaps to the engine: their positions. */
 void ask_desk(const struct question *question, struct desk *desk);
+
+/* Whether the question fits the swaps: a base is given for one swap only, and an outage from a height on needs the base
+ * of each and lies ahead of each. Where it does not, a message names each swap. */
+bool fits_desk(const struct question *question, const struct desk *desk);
+
+/* Then asks about the outage. */
+void ask_outages(const struct question *question, struct desk *desk);
+
+/* Whether some swaps have a base and others none, so that heights are of two sorts. */
+bool is_mixed(const struct desk *desk);
 
 void free_desk(struct desk *desk);
 

@@ -14,8 +14,8 @@
 #include "arguments.h"
 #include "fields.h"
 
-/* The longest name of a side, a line end and one byte more. */
-#define SIDE_SIZE 8
+/* The longest name of a side or number of a base, a line end and one byte more. */
+#define LINE_SIZE 12
 
 static const char *const file_names[] = {"sheet.bin", "setup.bin", "journal.bin"};
 
@@ -83,28 +83,63 @@ bool is_swap(const char *folder)
     return found;
 }
 
+/* Reads a file of one line, without its end: the reason why that cannot be, or NULL. */
+static const char *read_line(int folder, const char *name, char text[LINE_SIZE + 1])
+{
+    size_t length = 0;
+    const char *reason = read_plain(folder, name, text, LINE_SIZE, &length);
+
+    if (reason != NULL) {
+        return reason;
+    }
+    while (length > 0 && (text[length - 1] == '\n' || text[length - 1] == '\r')) {
+        length--;
+    }
+    text[length] = '\0';
+    if (strlen(text) != length) {
+        text[0] = '\0'; /* a zero among its bytes: no line of text */
+    }
+    return NULL;
+}
+
 /* Reads the file `side` of a folder with this swap. */
 static struct fault read_side(int folder, const struct swap *swap, uint8_t *sides)
 {
-    char text[SIDE_SIZE + 1] = "";
-    size_t length = 0;
+    char text[LINE_SIZE + 1] = "";
     const char *reason;
 
     if (!has(folder, "side")) {
         return fault(NULL, NULL);
     }
-    reason = read_plain(folder, "side", text, SIDE_SIZE, &length);
+    reason = read_line(folder, "side", text);
     if (reason != NULL) {
         return fault("side", reason);
     }
-    while (length > 0 && (text[length - 1] == '\n' || text[length - 1] == '\r')) {
-        text[--length] = '\0';
-    }
-    *sides = strlen(text) == length ? side_named(text) : 0;
+    *sides = side_named(text);
     if ((*sides & ~everybody(swap)) != 0) {
         return fault("side", "carol is no party of this sheet");
     }
     return fault("side", *sides != 0 ? NULL : "not alice, bob or carol");
+}
+
+struct fault read_base(const char *path, bool *based, uint32_t *base)
+{
+    int folder = open_folder(path);
+    char text[LINE_SIZE + 1] = "";
+    const char *reason = NULL;
+
+    if (folder < 0) {
+        return fault("base", strerror(errno));
+    }
+    *based = has(folder, "base");
+    if (*based) {
+        reason = read_line(folder, "base", text);
+    }
+    if (*based && reason == NULL && !is_number_named(text, 0, BASE_MOST, base)) {
+        reason = "not a number from 0 to 499999999";
+    }
+    close(folder);
+    return fault("base", reason);
 }
 
 struct fault read_swap(const char *path, struct swap *swap, uint8_t *sides)

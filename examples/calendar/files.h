@@ -37,4 +37,7 @@ void free_swap(struct swap *swap);
  * file. */
 struct fault read_swap(const char *path, struct swap *swap, uint8_t *sides);
 
+/* Reads a folder's file `base`, the real chain's height when the journal was empty, where there is one. */
+struct fault read_base(const char *path, bool *based, uint32_t *base);
+
 #endif

@@ -9,7 +9,7 @@
 /* What is written, and whether a comma stands before the next part. */
 struct json {
     FILE *to;
-    uint32_t base;
+    uint32_t base; /* of the swap that is written */
     bool comma;
 };
 
@@ -90,6 +90,14 @@ static void key_height(struct json *json, const char *name, uint32_t height)
     write_height(json->to, AS_JSON, json->base, height);
 }
 
+/* A number of blocks, or what has no base in it; null is never. */
+static void key_blocks(struct json *json, const char *name, uint32_t blocks)
+{
+    key(json, name);
+    part(json);
+    write_height(json->to, AS_JSON, 0, blocks);
+}
+
 /* The sides of a mask. */
 static void key_sides(struct json *json, const char *name, uint8_t mask)
 {
@@ -155,9 +163,7 @@ static void key_window(struct json *json, const struct entry *entry, uint8_t t)
     begin(json, '{');
     key_height(json, "from", soonest_block_of(position, t));
     key_height(json, "to", soonest_deadline_of(position, t));
-    key(json, "left");
-    part(json);
-    write_height(json->to, AS_JSON, 0, blocks_left(position, t));
+    key_blocks(json, "left", blocks_left(position, t));
     key_else(json, position, t);
     key_if(json, position, t);
     end(json, '}');
@@ -258,6 +264,7 @@ static void sound(struct json *json, const struct entry *entry)
     key_bool(json, "stealth", stealth_of(swap) != 0);
     key_number(json, "steps", position->steps);
     key_number(json, "mined", position->mined);
+    key_blocks(json, "base", entry->based ? entry->base : SWAP_NEVER);
     key_outage(json, &entry->outage);
     key(json, "transactions");
     begin(json, '[');
@@ -291,11 +298,9 @@ static void key_question(struct json *json, const struct question *question)
     begin(json, '{');
     key_string(json, "unit", question->in_days ? "day" : "block");
     key_number(json, "length", question->length);
-    key(json, "from");
-    part(json);
-    write_height(json->to, AS_JSON, 0, question->from > 0 ? question->from : SWAP_NEVER);
+    key_blocks(json, "in", question->from > 0 ? SWAP_NEVER : question->in);
+    key_blocks(json, "from", question->from > 0 ? question->from : SWAP_NEVER);
     key_number(json, "margin", question->margin);
-    key_number(json, "base", question->base);
     end(json, '}');
 }
 
@@ -312,7 +317,7 @@ static void key_totals(struct json *json, const struct totals *totals)
 
 void show_json(const struct question *question, const struct desk *desk, const struct totals *totals)
 {
-    struct json json = {stdout, question->base, false};
+    struct json json = {stdout, 0, false};
 
     begin(&json, '{');
     key_question(&json, question);
@@ -327,6 +332,7 @@ void show_json(const struct question *question, const struct desk *desk, const s
         line(&json);
         begin(&json, '{');
         key_string(&json, "name", entry->name);
+        json.base = entry->base;
         if (is_sound(entry)) {
             sound(&json, entry);
         } else {

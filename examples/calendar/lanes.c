@@ -118,16 +118,16 @@ static void write_bands(FILE *page, const struct axis *axis, const struct questi
 }
 
 /* The lane in words. */
-static void write_words(FILE *page, const struct question *question, const struct entry *entry, uint8_t t, bool warning)
+static void write_words(FILE *page, const struct entry *entry, uint8_t t, bool warning)
 {
     if (t == SWAP_NONE) {
         fputs("no window", page);
         return;
     }
     fputs("blocks ", page);
-    write_height(page, AS_HTML, question->base, soonest_block_of(&entry->position, t));
+    write_height(page, AS_HTML, entry->base, soonest_block_of(&entry->position, t));
     fputs(" to ", page);
-    write_height(page, AS_HTML, question->base, soonest_deadline_of(&entry->position, t));
+    write_height(page, AS_HTML, entry->base, soonest_deadline_of(&entry->position, t));
     fputs(warning ? ", covered by the outage" : "", page);
 }
 
@@ -137,7 +137,7 @@ void write_lane(FILE *page, const struct axis *axis, const struct question *ques
     const struct position *position = &entry->position;
 
     fputs("<svg role=\"img\" aria-label=\"", page);
-    write_words(page, question, entry, t, warning);
+    write_words(page, entry, t, warning);
     fprintf(page, "\"><use href=\"#grid-%lu\"/>", (unsigned long)axis->table);
     write_bands(page, axis, question, entry);
     if (t != SWAP_NONE) {

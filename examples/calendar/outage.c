@@ -5,14 +5,13 @@
 /* More blocks than any soonest deadline that is not "never", and fewer than that. */
 #define REACH_MOST 999999999u
 
-struct outage outage_of(const struct question *question, const struct position *position)
+struct outage outage_of(const struct question *question, const struct position *position, uint32_t base)
 {
     uint32_t days = question->in_days ? blocks_per_day_of(position->swap) : 1;
-    uint32_t first = question->from > 0 ? question->from - question->base : position->mined + 1;
+    uint32_t first = question->from > 0 ? question->from - base : position->mined + 1 + question->in;
     uint64_t end = (uint64_t)first - 1 + (uint64_t)question->length * days;
-    uint64_t reach = end + question->margin;
+    uint64_t reach = end + question->margin - position->mined;
 
-    reach = reach > position->mined ? reach - position->mined : 0;
     return (struct outage){
         .first = first,
         .last = (uint32_t)end,

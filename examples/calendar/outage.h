@@ -9,10 +9,11 @@
 struct outage {
     uint32_t first;
     uint32_t last;  /* first - 1 where it has no blocks */
-    uint32_t reach; /* the blocks from the next one to the end of outage and margin; 0 where that is mined */
+    uint32_t reach; /* the blocks from the next one to the end of outage and margin; 0 where that is none */
 };
 
-struct outage outage_of(const struct question *question, const struct position *position);
+/* Of a swap with this base; an outage from a height on lies ahead of it. */
+struct outage outage_of(const struct question *question, const struct position *position, uint32_t base);
 
 /* What the outage does to a transaction, for a side; the first is the only warning. */
 enum kind {

@@ -9,8 +9,10 @@ void print_question(FILE *to, const struct question *question)
     fprintf(to, "outage: %lu %s%s", length, question->in_days ? "day" : "block", length == 1 ? "" : "s");
     if (question->from > 0) {
         fprintf(to, " from block %lu", (unsigned long)question->from);
+    } else if (question->in > 1) {
+        fprintf(to, " after the next %lu blocks", (unsigned long)question->in);
     } else {
-        fprintf(to, " from the next block");
+        fprintf(to, question->in == 1 ? " after the next block" : " from the next block");
     }
     if (question->margin > 0) {
         fprintf(to, ", margin %lu", (unsigned long)question->margin);
@@ -24,11 +26,11 @@ static void print_after(FILE *to, const struct question *question, const struct 
 
     if (kind == WARNING && soonest_deadline_of(position, t) <= position->mined) {
         fprintf(to, "passed, a hand-in may save it, ");
-    } else if (question->from > 0 && kind != AHEAD) {
-        print_before(to, position, &entry->outage, t, question->base);
+    } else if (begins_later(question) && kind != AHEAD) {
+        print_before(to, position, &entry->outage, t, entry->base);
     }
-    print_else(to, position, t, question->base);
-    print_if(to, "", position, t, question->base);
+    print_else(to, position, t, entry->base);
+    print_if(to, "", position, t, entry->base);
 }
 
 void print_outlook(FILE *to, const struct question *question, const struct entry *entry, uint8_t t, uint8_t side)

@@ -101,11 +101,6 @@ static void write_head(FILE *page, const struct question *question, const struct
     write_text(page, AS_HTML, question->folder == NULL ? "embedded" : question->folder);
     fputs("</h1>\n<p class=\"question\">", page);
     print_question(page, question);
-    if (question->base > 0) {
-        fputs("; heights of the real chain, ", page);
-        write_number(page, question->base);
-        fputs(" before block 1", page);
-    }
     fputs("</p>\n<p class=\"totals\">", page);
     print_totals(page, totals);
     fputs("</p>\n", page);
@@ -171,16 +166,16 @@ static void write_window(FILE *page, const struct question *question, const stru
         return;
     }
     fprintf(page, "<td>%s</td><td class=\"n\">", transaction_label(position->swap, line->t).text);
-    write_height(page, AS_HTML, question->base, soonest_block_of(position, line->t));
+    write_height(page, AS_HTML, line->entry->base, soonest_block_of(position, line->t));
     fputs("</td><td class=\"n\">", page);
-    write_height(page, AS_HTML, question->base, soonest_deadline_of(position, line->t));
+    write_height(page, AS_HTML, line->entry->base, soonest_deadline_of(position, line->t));
     fprintf(page, "</td><td class=\"n\">%s</td><td class=\"lane\">",
             line->left == SWAP_NEVER ? "-" : height_label(0, line->left).text);
     write_lane(page, axis, question, line->entry, line->t,
-               line->urgency == OPEN_WARNING || line->urgency == LATE_WARNING);
+               line->urgency == WARNED);
     fputs("</td><td>", page);
     print_outlook(page, question, line->entry, line->t, line->side);
-    fputs("</td>", page);
+    fputs(line->own_blocks ? OWN_BLOCKS "</td>" : "</td>", page);
 }
 
 static void write_line(FILE *page, const struct question *question, const struct line *line, const struct axis *axis)

@@ -36,7 +36,7 @@ static unsigned urgency_of(const struct entry *entry, uint8_t t, uint8_t side)
 
     switch (kind_of(position, &entry->outage, t, side)) {
     case WARNING:
-        return blocks_left(position, t) > 0 ? OPEN_WARNING : LATE_WARNING;
+        return WARNED;
     case BEFORE:
         return DUE_BEFORE;
     case AHEAD:
@@ -56,7 +56,7 @@ static void consider(struct line *line, uint8_t t)
     unsigned urgency = urgency_of(line->entry, t, line->side);
     uint32_t left = blocks_left(&line->entry->position, t);
 
-    line->warnings += urgency == OPEN_WARNING || urgency == LATE_WARNING;
+    line->warnings += urgency == WARNED;
     if (urgency < line->urgency || (urgency < NO_DEADLINE && urgency == line->urgency && left < line->left)) {
         line->urgency = urgency;
         line->left = left;
@@ -64,8 +64,9 @@ static void consider(struct line *line, uint8_t t)
     }
 }
 
-static struct line line_of(const struct entry *entry, size_t place, uint8_t side)
+static struct line line_of(const struct desk *desk, bool mixed, size_t place, uint8_t side)
 {
+    const struct entry *entry = desk->entries[place];
     struct line line = {.entry = entry, .place = place, .side = side, .t = SWAP_NONE, .urgency = NO_DEADLINE};
 
     if (!is_sound(entry)) {
@@ -73,6 +74,7 @@ static struct line line_of(const struct entry *entry, size_t place, uint8_t side
         line.urgency = FAULTY;
         return line;
     }
+    line.own_blocks = mixed && !entry->based;
     for (uint8_t t = 0; t < count_of(&entry->swap); t++) {
         consider(&line, t);
     }
@@ -82,6 +84,7 @@ static struct line line_of(const struct entry *entry, size_t place, uint8_t side
 /* The lines of all swaps; a swap that is no good has one. */
 static size_t lines_of(const struct desk *desk, struct line *lines)
 {
+    bool mixed = is_mixed(desk);
     size_t count = 0;
 
     for (size_t i = 0; i < desk->count; i++) {
@@ -89,7 +92,7 @@ static size_t lines_of(const struct desk *desk, struct line *lines)
             const struct entry *entry = desk->entries[i];
 
             if (is_sound(entry) ? is_shown(entry, side) : side == SWAP_ALICE) {
-                lines[count++] = line_of(entry, i, side);
+                lines[count++] = line_of(desk, mixed, i, side);
             }
         }
     }
@@ -158,11 +161,11 @@ static void show_line(const struct question *question, const struct line *line)
         return;
     }
     printf("%-21s%8s%8s%7s  ", transaction_label(position->swap, line->t).text,
-           height_label(question->base, soonest_block_of(position, line->t)).text,
-           height_label(question->base, soonest_deadline_of(position, line->t)).text,
+           height_label(line->entry->base, soonest_block_of(position, line->t)).text,
+           height_label(line->entry->base, soonest_deadline_of(position, line->t)).text,
            line->left == SWAP_NEVER ? "-" : height_label(0, line->left).text);
     print_outlook(stdout, question, line->entry, line->t, line->side);
-    printf("\n");
+    printf("%s\n", line->own_blocks ? OWN_BLOCKS : "");
 }
 
 struct line *lines_by_urgency(const struct desk *desk, size_t *count)

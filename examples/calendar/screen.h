@@ -4,10 +4,10 @@
 
 #include "desk.h"
 
-/* The urgency of a transaction: a warning with its window open, one with only a hand-in left, what is due before the
- * outage or after it, what is sent, and what has no deadline ahead but a rival in the way. The last is that of no
- * transaction; the first that of a swap that is no good. */
-enum { FAULTY, OPEN_WARNING, LATE_WARNING, DUE_BEFORE, DUE_AFTER, UNDER_WAY, CONTESTED, NO_DEADLINE };
+/* The urgency of a transaction: a warning, what is due before the outage or after it, what is sent, and what has no
+ * deadline ahead but a rival in the way; of the same urgency the fewest blocks left come first, 0 where only a hand-in is
+ * left. The last is that of no transaction; the first that of a swap that is no good. */
+enum { FAULTY, WARNED, DUE_BEFORE, DUE_AFTER, UNDER_WAY, CONTESTED, NO_DEADLINE };
 
 /* A line: a swap that is no good, or the most urgent transaction of a side. */
 struct line {
@@ -18,7 +18,11 @@ struct line {
     unsigned urgency;  /* the less, the sooner */
     uint32_t left;     /* blocks until its window ends, or SWAP_NEVER */
     unsigned warnings; /* of this swap and side */
+    bool own_blocks;   /* its heights are the swap's own blocks, beside others that are the real chain's */
 };
+
+/* What is said of a line with blocks of its own. */
+#define OWN_BLOCKS "; blocks of its own, no base"
 
 /* The lines of all swaps, the most urgent first; NULL where there is no memory. */
 struct line *lines_by_urgency(const struct desk *desk, size_t *count);

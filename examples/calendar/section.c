@@ -14,7 +14,7 @@ static void write_fact(FILE *page, const char *name, uint64_t number)
     write_number(page, number);
 }
 
-static void write_facts(FILE *page, const struct question *question, const struct entry *entry)
+static void write_facts(FILE *page, const struct entry *entry)
 {
     const struct position *position = &entry->position;
     const struct swap *swap = &entry->swap;
@@ -24,11 +24,14 @@ static void write_facts(FILE *page, const struct question *question, const struc
     write_fact(page, "blocks per day", blocks_per_day_of(swap));
     write_fact(page, "steps accepted", position->steps);
     write_fact(page, "blocks mined", position->mined);
+    if (entry->based) {
+        write_fact(page, "height", (uint64_t)entry->base + position->mined);
+    }
     if (entry->outage.last >= entry->outage.first) {
         fputs("; outage in blocks ", page);
-        write_height(page, AS_HTML, question->base, entry->outage.first);
+        write_height(page, AS_HTML, entry->base, entry->outage.first);
         fputs(" to ", page);
-        write_height(page, AS_HTML, question->base, entry->outage.last);
+        write_height(page, AS_HTML, entry->base, entry->outage.last);
     } else {
         fputs("; no outage", page);
     }
@@ -36,7 +39,7 @@ static void write_facts(FILE *page, const struct question *question, const struc
 }
 
 /* The confirmed transactions with payee and block, and the dead ones. */
-static void write_settled(FILE *page, const struct question *question, const struct entry *entry)
+static void write_settled(FILE *page, const struct entry *entry)
 {
     const struct position *position = &entry->position;
 
@@ -46,7 +49,7 @@ static void write_settled(FILE *page, const struct question *question, const str
             fprintf(page, "<li>%s", transaction_label(&entry->swap, t).text);
             if (is_confirmed(position, t)) {
                 fputs(": block ", page);
-                write_height(page, AS_HTML, question->base, block_of(position, t));
+                write_height(page, AS_HTML, entry->base, block_of(position, t));
                 fprintf(page, ", to %s", destination_name(payee_of(position, t)));
             } else {
                 fputs(": dead", page);
@@ -109,7 +112,7 @@ static void write_row(FILE *page, const struct question *question, const struct 
 
     fprintf(page, "<tr class=\"%s\"><th>%s</th><td>%s</td><td>%s</td>", class, transaction_label(&entry->swap, t).text,
             payees_name(&entry->swap, can_pay(position, t)), status_label(status_of(position, t)).text);
-    write_heights(page, question->base, position, t);
+    write_heights(page, entry->base, position, t);
     fputs("<td class=\"lane\">", page);
     write_lane(page, axis, question, entry, t, warning);
     fputs("</td><td>", page);
@@ -142,7 +145,7 @@ static void write_title(FILE *page, const struct entry *entry)
 
 static void write_table(FILE *page, const struct question *question, const struct entry *entry, const struct axis *axis)
 {
-    uint32_t now = question->base + entry->position.mined;
+    uint32_t now = entry->base + entry->position.mined;
 
     fputs("<table>\n<thead><tr><th>transaction</th><th>pays</th><th>status</th><th class=\"n\">lock height</th>"
           "<th class=\"n\">deadline</th><th class=\"n\">from</th><th class=\"n\">to</th><th class=\"n\">left</th>"
@@ -169,8 +172,8 @@ void write_section(FILE *page, const struct question *question, const struct ent
     }
     fprintf(page, "<section id=\"swap-%lu\">\n", (unsigned long)number);
     write_title(page, entry);
-    write_facts(page, question, entry);
-    write_settled(page, question, entry);
+    write_facts(page, entry);
+    write_settled(page, entry);
     if (axis.span > 0) {
         write_table(page, question, entry, &axis);
     }

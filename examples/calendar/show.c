@@ -14,8 +14,9 @@ static const char *sheet_name(const struct swap *swap)
     return is_saswap(swap) ? "SASwap" : "other";
 }
 
-static void show_inputs(const struct position *position, uint32_t base)
+static void show_inputs(const struct entry *entry)
 {
+    const struct position *position = &entry->position;
     const struct swap *swap = position->swap;
 
     printf("  sheet: %s, transactions %u\n", sheet_name(swap), (unsigned)count_of(swap));
@@ -23,8 +24,8 @@ static void show_inputs(const struct position *position, uint32_t base)
            conduct_name(conduct_of(swap)), (unsigned)stealth_of(swap));
     printf("  journal: steps accepted %lu, blocks mined %lu", (unsigned long)position->steps,
            (unsigned long)position->mined);
-    if (base > 0) {
-        printf(", height %lu", (unsigned long)base + position->mined);
+    if (entry->based) {
+        printf(", height %lu", (unsigned long)entry->base + position->mined);
     }
     printf("\n");
 }
@@ -123,14 +124,14 @@ static void show_warning(const struct entry *entry, uint8_t t, const struct ques
     printf("WARNING: ");
     if (soonest_deadline_of(position, t) <= position->mined) {
         printf("block %s was the latest, a hand-in may save it, ",
-               height_label(question->base, soonest_deadline_of(position, t)).text);
-        print_else(stdout, position, t, question->base);
+               height_label(entry->base, soonest_deadline_of(position, t)).text);
+        print_else(stdout, position, t, entry->base);
         return;
     }
-    if (question->from > 0) {
-        print_before(stdout, position, &entry->outage, t, question->base);
+    if (begins_later(question)) {
+        print_before(stdout, position, &entry->outage, t, entry->base);
     }
-    show_window(position, t, question->base);
+    show_window(position, t, entry->base);
 }
 
 /* What the outage does to a transaction. */
@@ -142,16 +143,16 @@ static void show_kind(const struct entry *entry, uint8_t t, enum kind kind, cons
         break;
     case BEFORE:
         printf("due before the outage: ");
-        show_window(&entry->position, t, question->base);
+        show_window(&entry->position, t, entry->base);
         break;
     case AHEAD:
-        show_window(&entry->position, t, question->base);
+        show_window(&entry->position, t, entry->base);
         break;
     case SENT:
         printf("sent, box not needed");
         break;
     case FREE:
-        show_no_window(&entry->position, t, question->base);
+        show_no_window(&entry->position, t, entry->base);
         break;
     default:
         printf(parties_of(entry->position.swap) == 2 ? "the other side's" : "another side's");
@@ -186,8 +187,8 @@ static void show_outage(const struct entry *entry, uint8_t side, const struct qu
     if (outage->last < outage->first) {
         printf("no outage");
     } else {
-        printf("outage in blocks %s to %s", height_label(question->base, outage->first).text,
-               height_label(question->base, outage->last).text);
+        printf("outage in blocks %s to %s", height_label(entry->base, outage->first).text,
+               height_label(entry->base, outage->last).text);
     }
     if (question->margin > 0) {
         printf(", margin %lu", (unsigned long)question->margin);
@@ -210,7 +211,7 @@ static void show_deadlines(const struct entry *entry, uint8_t side, const struct
             printf("    %-22s%-8s", transaction_label(position->swap, t).text,
                    payees_name(position->swap, can_pay(position, t)));
             show_kind(entry, t, kind, question);
-            show_standing(position, t, side, question->base);
+            show_standing(position, t, side, entry->base);
             if (kind != OTHERS) {
                 print_in_the_way(stdout, position, t, side);
             }
@@ -254,15 +255,15 @@ static void show_position_of(const struct entry *entry, const struct question *q
 {
     const struct position *position = &entry->position;
 
-    show_inputs(position, question->base);
-    show_position(position, question->base);
+    show_inputs(entry);
+    show_position(position, entry->base);
     show_open_steps(position, SWAP_ALICE);
     show_open_steps(position, SWAP_BOB);
     if (parties_of(&entry->swap) == 3) {
         show_open_steps(position, SWAP_CAROL);
     }
     show_open_steps(position, SWAP_MINER);
-    show_payouts(position, question->base);
+    show_payouts(position, entry->base);
     for (uint8_t side = SWAP_ALICE; side <= SWAP_CAROL; side++) {
         if (is_shown(entry, side)) {
             show_deadlines(entry, side, question);

@@ -8,7 +8,7 @@ use swap_tests::samples;
 
 fn main() {
     let folder = std::env::args().nth(1).expect("usage: page FOLDER");
-    let [sheet, setup, journal, _] = samples::read(Path::new(&folder));
+    let [sheet, setup, journal, ..] = samples::read(Path::new(&folder));
     let [sheet, setup, journal] = [sheet, setup, journal].map(|file| file.expect("a file"));
     match page::text(&sheet, &setup, &journal) {
         Ok(text) => print!("{text}"),

@@ -26,6 +26,13 @@ pub enum Length {
     Blocks(u32),
 }
 
+/// When an outage begins: after so many blocks from now, or in the block of this height of the real chain.
+#[derive(Clone, Copy, Debug, PartialEq, Eq)]
+pub enum Start {
+    After(u32),
+    Height(u32),
+}
+
 /// What is asked of the calendar.
 #[derive(Clone, Copy, Debug, PartialEq, Eq)]
 pub struct Question {
@@ -33,10 +40,10 @@ pub struct Question {
     /// By each swap's folder where None.
     pub side: Option<u8>,
     pub length: Length,
-    /// The first block of the outage, the next one where None.
-    pub from: Option<u32>,
+    pub start: Start,
     pub margin: u32,
-    pub base: u32,
+    /// By each swap's folder where None.
+    pub base: Option<u32>,
 }
 
 impl Default for Question {
@@ -45,14 +52,42 @@ impl Default for Question {
             full: false,
             side: None,
             length: Length::Days(1),
-            from: None,
+            start: Start::After(0),
             margin: 0,
-            base: 0,
+            base: None,
         }
     }
 }
 
 impl Question {
+    /// Whether the outage begins later than with the next block.
+    pub fn is_later(&self) -> bool {
+        self.start != Start::After(0)
+    }
+
+    /// The arguments that ask it.
+    pub fn arguments(&self) -> Vec<String> {
+        let mut words = match self.length {
+            Length::Days(days) => format!("--days {days}"),
+            Length::Blocks(blocks) => format!("--blocks {blocks}"),
+        };
+        words += &match self.start {
+            Start::After(blocks) => format!(" --in {blocks}"),
+            Start::Height(from) => format!(" --from {from}"),
+        };
+        words += &format!(" --margin {}", self.margin);
+        if let Some(base) = self.base {
+            words += &format!(" --base {base}");
+        }
+        if let Some(side) = self.side {
+            words += [" --side alice", " --side bob", "", " --side carol"][usize::from(side)];
+        }
+        if self.full {
+            words += " --full";
+        }
+        words.split(' ').map(str::to_string).collect()
+    }
+
     /// The blocks of the outage.
     pub fn blocks(&self, setup: &Setup) -> u32 {
         match self.length {
@@ -90,12 +125,38 @@ pub enum Found {
     Faulty(&'static str, String),
 }
 
+/// The swaps of a desk, by name.
+fn found_all(swaps: &[(String, Files)], question: &Question) -> Vec<(String, Found)> {
+    let each = swaps.iter();
+    each.map(|(name, files)| (name.clone(), found(files, question)))
+        .collect()
+}
+
+/// Why the question does not fit the swaps: a line for each that has no base, or in whose past the outage begins.
+/// Nothing where it fits.
+pub fn complaints(swaps: &[(String, Files)], question: &Question) -> String {
+    let Start::Height(from) = question.start else {
+        return String::new();
+    };
+    let of = |(name, found): &(String, Found)| match found {
+        Found::Faulty(..) => None,
+        Found::Sound(view, _) => match view.base() {
+            None => Some(format!(
+                "calendar: {name}: no base, and --from is a height of the real chain\n"
+            )),
+            Some(base) if from > base + view.mined() => None,
+            Some(base) => Some(format!(
+                "calendar: {name}: --from {from} is in the past: the swap stands at height {}\n",
+                base + view.mined()
+            )),
+        },
+    };
+    found_all(swaps, question).iter().filter_map(of).collect()
+}
+
 /// The output for swaps by name, and its sums.
 pub fn text(swaps: &[(String, Files)], question: &Question) -> (String, Totals) {
-    let found: Vec<(String, Found)> = swaps
-        .iter()
-        .map(|(name, files)| (name.clone(), found(files, question)))
-        .collect();
+    let found = found_all(swaps, question);
     let totals = totals(&found, question);
     let mut text = match question.full {
         false => screen::text(&found, question),
@@ -150,19 +211,34 @@ fn sides(sheet: &[u8], file: &Option<Vec<u8>>) -> Result<Vec<u8>, &'static str> 
     }
 }
 
+/// The number in a file `base`: "0 to 499999999", up to nine digits and a line end.
+fn number(file: &[u8]) -> Result<u32, &'static str> {
+    let text = std::str::from_utf8(file).unwrap_or("");
+    let text = text.trim_end_matches(['\n', '\r']);
+    let digits = (1..=9).contains(&text.len()) && text.bytes().all(|b| b.is_ascii_digit());
+    match text.parse() {
+        Ok(base) if digits && base <= 499_999_999 => Ok(base),
+        _ => Err("not a number from 0 to 499999999"),
+    }
+}
+
 fn found(files: &Files, question: &Question) -> Found {
-    let [Some(sheet), Some(setup), Some(journal), side] = files else {
+    let [Some(sheet), Some(setup), Some(journal), side, base] = files else {
         return Found::Faulty("UNREADABLE", missing(files));
     };
     let sides = match sides(sheet, side) {
         Ok(sides) => sides,
         Err(reason) => return Found::Faulty("UNREADABLE", format!("side: {reason}")),
     };
+    let base = match base.as_deref().map(number).transpose() {
+        Ok(base) => question.base.or(base),
+        Err(reason) => return Found::Faulty("UNREADABLE", format!("base: {reason}")),
+    };
     match calls::outcome(sheet, setup, journal) {
         Ok(outcome) if outcome.refusal == 0 => {
             let mut sides = question.side.map_or(sides, |side| vec![side]);
             sides.retain(|&side| outcome.sheet.is_party(side));
-            Found::Sound(Box::new(View::new(sheet, outcome)), sides)
+            Found::Sound(Box::new(View::new(sheet, outcome, base)), sides)
         }
         _ => Found::Faulty(
             "REFUSED",
@@ -197,7 +273,7 @@ fn full(name: &str, found: &Found, files: &Files, question: &Question) -> String
 }
 
 fn refused(files: &Files, reason: &str) -> Vec<String> {
-    let [Some(sheet), Some(setup), Some(journal), _] = files else {
+    let [Some(sheet), Some(setup), Some(journal), ..] = files else {
         panic!("a refused swap is read")
     };
     let run = calls::run(sheet, setup, journal);

@@ -6,11 +6,11 @@ use crate::random::MINE;
 use std::fs;
 use std::path::Path;
 
-/// The names of a swap's files; the last need not be there.
-pub const FILES: [&str; 4] = ["sheet.bin", "setup.bin", "journal.bin", "side"];
+/// The names of a swap's files; the last two need not be there.
+pub const FILES: [&str; 5] = ["sheet.bin", "setup.bin", "journal.bin", "side", "base"];
 
 /// The bytes of a swap's files, in that order; None for one that is missing.
-pub type Files = [Option<Vec<u8>>; 4];
+pub type Files = [Option<Vec<u8>>; 5];
 
 /// Writes a swap's files to its folder, which is made.
 pub fn write(folder: &Path, files: &Files) -> std::io::Result<()> {
@@ -60,12 +60,19 @@ fn files(sheet: &[u8], setup: [u8; 4], steps: &[[u8; 4]]) -> Files {
         Some(setup.to_vec()),
         Some(steps.concat()),
         None,
+        None,
     ]
 }
 
 /// The swap, with this in its file `side`.
 fn with_side(mut files: Files, side: &str) -> Files {
     files[3] = Some(side.as_bytes().to_vec());
+    files
+}
+
+/// The swap, with this in its file `base`.
+pub fn with_base(mut files: Files, base: &str) -> Files {
+    files[4] = Some(base.as_bytes().to_vec());
     files
 }
 
@@ -194,7 +201,7 @@ fn ring_refunded() -> Files {
 
 /// P10's sheet and a setup, and a journal that is not there.
 fn missing_journal() -> Files {
-    [Some(P10.to_vec()), Some(vec![1, 0, 0, 0]), None, None]
+    [Some(P10.to_vec()), Some(vec![1, 0, 0, 0]), None, None, None]
 }
 
 /// 32 openings that pay either, the longest valid sheet, and a byte more.
@@ -207,8 +214,8 @@ fn long_sheet() -> Files {
 
 /// A valid setup and a byte more.
 fn long_setup() -> Files {
-    let [sheet, _, journal, side] = numbers();
-    [sheet, Some(vec![1, 0, 0, 0, 0]), journal, side]
+    let [sheet, _, journal, side, base] = numbers();
+    [sheet, Some(vec![1, 0, 0, 0, 0]), journal, side, base]
 }
 
 /// Success at 3 blocks, 3 a day: its deadline is reached.
@@ -219,8 +226,8 @@ fn late_step() -> Files {
 
 /// A journal of three bytes.
 fn short_journal() -> Files {
-    let [sheet, setup, _, side] = numbers();
-    [sheet, setup, Some(vec![3, 0, 0]), side]
+    let [sheet, setup, _, side, base] = numbers();
+    [sheet, setup, Some(vec![3, 0, 0]), side, base]
 }
 
 /// All samples: swaps that are accepted, and a folder with refused and unreadable ones and one that is accepted.
@@ -241,6 +248,11 @@ fn named() -> Vec<Sample> {
         ("swaps/revoked", revoked()),
         ("swaps/standing", with_side(standing(), "alice\n")),
         ("swaps/waiting", waiting()),
+        ("bases/revoked", with_base(revoked(), "800000\n")),
+        ("bases/standing", with_base(standing(), "800156")),
+        ("mixed/own", standing()),
+        ("mixed/revoked", with_base(revoked(), "0\r\n")),
+        ("refused/bad_base", with_base(numbers(), "500000000\n")),
         ("refused/bad_conduct", files(&P10, [3, 0, 3, 0], &[])),
         ("refused/bad_field", files(&P10, [1, 0, 0, 0], &[[0; 4]])),
         ("refused/bad_side", with_side(numbers(), "dave\n")),

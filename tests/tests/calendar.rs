@@ -6,7 +6,7 @@ use std::fs;
 use std::path::{Path, PathBuf};
 use std::process::Command;
 use swap_tests::calendar::rule::{Kind, Outage, Swap};
-use swap_tests::calendar::{self, Length, Question, Totals};
+use swap_tests::calendar::{self, Length, Question, Start, Totals};
 use swap_tests::compare::Game;
 use swap_tests::model::heights::NEVER;
 use swap_tests::model::journal::{Course, MOST_BYTES};
@@ -22,50 +22,31 @@ fn example() -> PathBuf {
     top().join("examples/calendar")
 }
 
-/// The arguments for a question.
-fn arguments(question: &Question) -> Vec<String> {
-    let mut words = match question.length {
-        Length::Days(days) => vec!["--days".to_string(), days.to_string()],
-        Length::Blocks(blocks) => vec!["--blocks".to_string(), blocks.to_string()],
-    };
-    let numbers = [
-        ("--from", question.from),
-        ("--margin", Some(question.margin)),
-        ("--base", Some(question.base)),
-    ];
-    for (name, number) in numbers {
-        words.extend(
-            number
-                .map(|n| [name.to_string(), n.to_string()])
-                .into_iter()
-                .flatten(),
-        );
-    }
-    if let Some(side) = question.side {
-        let name = ["alice", "bob", "", "carol"][usize::from(side)];
-        words.extend(["--side".to_string(), name.to_string()]);
-    }
-    words.extend(question.full.then(|| "--full".to_string()));
-    words
-}
-
-/// What the calendar prints to the standard output, and its exit status. One that waits for ever is ended.
-fn run(folder: &Path, question: &Question) -> (String, i32) {
+/// What the calendar prints to the standard output and to the standard error, and its exit status. One that waits for ever
+/// is ended.
+fn run(folder: &Path, question: &Question) -> (String, String, i32) {
     let output = Command::new("timeout")
         .arg("300")
         .arg(top().join("calendar"))
         .arg(folder)
-        .args(arguments(question))
+        .args(question.arguments())
         .output()
         .expect("the calendar runs");
-    let text = String::from_utf8(output.stdout).expect("text");
-    (text, output.status.code().expect("an exit status"))
+    let text = |bytes: Vec<u8>| String::from_utf8(bytes).expect("text");
+    let status = output.status.code().expect("an exit status");
+    (text(output.stdout), text(output.stderr), status)
 }
 
-/// The calendar over the swaps of a folder, held to the model.
+/// The calendar over the swaps of a folder, held to the model. Nothing is counted where the question does not fit.
 fn compare(folder: &Path, swaps: &[(String, Files)], question: &Question) -> Totals {
+    let told = calendar::complaints(swaps, question);
+    let (printed, said, status) = run(folder, question);
+    assert_eq!(said, told, "with {question:?}");
+    if !told.is_empty() {
+        assert_eq!((printed.as_str(), status), ("", 1), "with {question:?}");
+        return Totals::default();
+    }
     let (text, totals) = calendar::text(swaps, question);
-    let (printed, status) = run(folder, question);
     for (line, (printed, expected)) in printed.lines().zip(text.lines()).enumerate() {
         assert_eq!(printed, expected, "line {} with {question:?}", line + 1);
     }
@@ -166,7 +147,7 @@ fn examples_of_the_documents() {
 
 /// The numbers of blocks from the position of a swap to its soonest deadlines that are ahead.
 fn distances(files: &Files) -> Vec<u32> {
-    let [Some(sheet), Some(setup), Some(journal), _] = files else {
+    let [Some(sheet), Some(setup), Some(journal), ..] = files else {
         return Vec::new();
     };
     let outcome = calls::outcome(sheet, setup, journal).expect("a sound swap");
@@ -209,7 +190,7 @@ fn warns_of_refund_2(folder: &Path, deadline: u32, question: &Question) -> bool 
         side: Some(ALICE),
         ..*question
     };
-    let (text, status) = run(folder, &full);
+    let (text, _, status) = run(folder, &full);
     let mut lines = text
         .lines()
         .filter(|line| line.starts_with("    refund_2 "));
@@ -233,7 +214,7 @@ fn last_block_of_an_outage() {
         ..blocks(n)
     };
     let later = |from: u32, n: u32| Question {
-        from: Some(from),
+        start: Start::After(from - 445),
         ..blocks(n)
     };
     assert!(!warns(&blocks(588 - 444 - 1)));
@@ -251,7 +232,7 @@ fn deadline_of_a_parent_to_come() {
     let warns = |question: &Question| warns_of_refund_2(&folder, 577, question);
     assert!(!warns(&blocks(288)) && warns(&blocks(289)) && warns(&blocks(300)));
     let later = Question {
-        from: Some(600),
+        start: Start::After(600 - 289),
         ..blocks(1)
     };
     assert!(warns(&later), "revoke can come later, and its deadline too");
@@ -288,9 +269,24 @@ fn random_swaps(random: &mut Random, count: usize) -> Vec<(String, Files)> {
             Some("Bob\n"),
         ]);
         let side = side.map(|name| name.as_bytes().to_vec());
-        swaps.push((number(i), [Some(sheet), Some(setup), Some(journal), side]));
+        swaps.push((
+            number(i),
+            [Some(sheet), Some(setup), Some(journal), side, None],
+        ));
     }
     swaps
+}
+
+/// The height of the real chain at which the swaps with a base stand.
+const HEIGHT: u32 = 800_000;
+
+/// The swap with a base by which it stands at this height; a swap that is refused, with some base.
+fn standing_at(height: u32, mut files: Files) -> Files {
+    let mined = files[2].as_ref().map_or(0, |journal| {
+        journal.chunks(4).filter(|step| step[0] == 6).count()
+    });
+    files[4] = Some(format!("{}\n", height - mined as u32).into_bytes());
+    files
 }
 
 /// Questions of every sort.
@@ -314,18 +310,22 @@ fn questions() -> Vec<Question> {
             ..blocks(2)
         },
         Question {
-            from: Some(6),
+            start: Start::After(6),
             ..blocks(3)
         },
         Question {
-            from: Some(700_020),
-            base: 700_000,
+            start: Start::After(1),
+            length,
+            ..plain
+        },
+        Question {
+            start: Start::Height(HEIGHT + 20),
             length,
             ..plain
         },
         Question {
             length: Length::Days(999_999),
-            from: Some(3),
+            start: Start::After(999_999_999),
             margin: 999_999_999,
             ..plain
         },
@@ -337,19 +337,68 @@ fn questions() -> Vec<Question> {
 fn random_swaps_as_by_the_model() {
     let mut random = Random::new(41);
     let swaps = random_swaps(&mut random, 400);
+    let based =
+        |(name, files): &(String, Files)| (name.clone(), standing_at(HEIGHT, files.clone()));
+    let swaps: Vec<(String, Files)> = swaps.iter().map(based).collect();
     let folder = written("calendar_random", &swaps);
     let mut sums = [0; 3];
     for question in questions() {
         let totals = compare_both(&folder, &swaps, &question);
         println!("{question:?}: {totals:?}");
         assert_eq!(totals.warnings == 0, question.length == Length::Blocks(0));
-        assert!(totals.before == 0 || question.from.is_some());
+        assert!(totals.before == 0 || question.is_later());
         let counts = [totals.warnings, totals.before, totals.refused];
         for (sum, count) in sums.iter_mut().zip(counts) {
             *sum += count;
         }
     }
     assert!(sums.iter().all(|&sum| sum > 100), "{sums:?}");
+}
+
+/// Swaps with a base, without one and with a wrong one: heights are each swap's own or the real chain's; an outage from a
+/// height on is refused by name where a base is missing, and in the past of a swap, by one block too.
+#[test]
+fn bases() {
+    let mut random = Random::new(44);
+    let swaps = random_swaps(&mut random, 60);
+    let mixed = |(i, (name, files)): (usize, &(String, Files))| {
+        let mut files = files.clone();
+        files[4] = match i % 5 {
+            0 | 1 => None,
+            2 => Some(
+                random
+                    .pick(&["", "x\n", "-1", "500000000", "0000000001", "1\n2"])
+                    .into(),
+            ),
+            _ => standing_at(HEIGHT + i as u32, files.clone())[4].take(),
+        };
+        (name.clone(), files)
+    };
+    let swaps: Vec<(String, Files)> = swaps.iter().enumerate().map(mixed).collect();
+    let based: Vec<(String, Files)> = swaps
+        .iter()
+        .filter(|(_, f)| f[4].is_some())
+        .cloned()
+        .collect();
+    let from = |height: u32| Question {
+        start: Start::Height(height),
+        ..blocks(3)
+    };
+    let (some, all) = (
+        written("calendar_mixed", &swaps),
+        written("calendar_based", &based),
+    );
+    assert!(compare_both(&some, &swaps, &blocks(3)).refused > 10);
+    for height in [1, HEIGHT, HEIGHT + 30, HEIGHT + 59, HEIGHT + 60] {
+        assert_eq!(
+            compare_both(&some, &swaps, &from(height)),
+            Totals::default()
+        );
+        let shown = compare_both(&all, &based, &from(height)).swaps > 0;
+        assert_eq!(shown, height == HEIGHT + 60);
+        let told = calendar::complaints(&based, &from(height));
+        assert_eq!(told.lines().count() > 5, height <= HEIGHT + 30);
+    }
 }
 
 /// Over a hundred swaps on each of two sheets, more than one bundle takes, some with a setup or a journal that is refused.
@@ -368,7 +417,7 @@ fn swaps_on_two_sheets(random: &mut Random) -> Vec<(String, Files)> {
         }
         (
             format!("{i:03}"),
-            [Some(sheet), Some(setup), Some(journal), None],
+            [Some(sheet), Some(setup), Some(journal), None, None],
         )
     };
     (0..260).map(swap).collect()
@@ -413,10 +462,10 @@ fn later_outages() {
         let (now, then) = now_and_then(&mut random, &game);
         let (mined, length) = (then.position.mined, random.below(20) as u32 + 1);
         let question = Question {
-            from: Some(mined + 1),
+            start: Start::After(mined - now.position.mined),
             ..blocks(length)
         };
-        let before = Outage::of(&question, &game.setup, now.position.mined);
+        let before = Outage::of(&question, &game.setup, now.position.mined, None);
         let begun = Outage::next(mined, length);
         let parties = game.sheet.parties.iter();
         for (t, &side) in parties.flat_map(|side| (0..game.sheet.count()).map(move |t| (t, side))) {
@@ -438,7 +487,7 @@ fn refused_swap(random: &mut Random, number: u32) -> Files {
     let mut tries = (0..10_000).map(|_| random::led_case(random, 60, number));
     let refused = |case: &Case| calls::run(&case.0, &case.1, &case.2).refusal == number;
     let (sheet, setup, journal) = tries.find(refused).expect("such a swap");
-    [Some(sheet), Some(setup), Some(journal), None]
+    [Some(sheet), Some(setup), Some(journal), None, None]
 }
 
 /// Each refusal but 23, which needs a long journal.
@@ -450,7 +499,7 @@ fn every_refusal() {
         .map(|number| (format!("{number:02}"), refused_swap(&mut random, number)))
         .collect();
     let (sheet, setup, journal) = random::led_ring_case(&mut random, 60, 32);
-    let ring = [Some(sheet), Some(setup), Some(journal), None];
+    let ring = [Some(sheet), Some(setup), Some(journal), None, None];
     swaps.push(("32".to_string(), ring));
     let folder = written("calendar_refusals", &swaps);
     assert_eq!(
@@ -471,7 +520,7 @@ fn names_of_swaps() {
     std::os::unix::fs::symlink("nowhere", folder.join("link")).expect("a broken link");
     let mut shown = swaps.to_vec();
     shown[3].0 = "a?b".to_string();
-    shown.insert(5, ("link".to_string(), [None, None, None, None]));
+    shown.insert(5, ("link".to_string(), [None, None, None, None, None]));
     let totals = compare_both(&folder, &shown, &Question::default());
     assert_eq!((totals.swaps, totals.refused), (8, 1));
 }
@@ -496,7 +545,7 @@ fn put(kind: &str, path: &Path) -> &'static str {
 fn no_plain_files() {
     let sound = samples::in_folder("swaps/standing").remove(0).1;
     let kinds = ["device", "folder", "link", "pipe"];
-    let places = [("journal.bin", 2), ("side", 3)];
+    let places = [("journal.bin", 2), ("side", 3), ("base", 4)];
     let mut expected = Vec::new();
     let folder = written("calendar_no_files", &[]);
     for (file, place) in places {
@@ -508,10 +557,10 @@ fn no_plain_files() {
             expected.push(format!("UNREADABLE {name:<16} {file}: {reason}"));
         }
     }
-    let (text, status) = run(&folder, &Question::default());
-    let lines: Vec<&str> = text.lines().skip(2).take(8).collect();
+    let (text, _, status) = run(&folder, &Question::default());
+    let lines: Vec<&str> = text.lines().skip(2).take(12).collect();
     assert_eq!((lines.join("\n"), status), (expected.join("\n"), 1));
-    let (text, status) = run(&folder.join("2_pipe/journal.bin"), &Question::default());
+    let (text, _, status) = run(&folder.join("2_pipe/journal.bin"), &Question::default());
     assert_eq!((text.as_str(), status), ("", 1));
 }
 
@@ -529,18 +578,25 @@ fn long_files() {
             Some(vec![3, 0, 0, 0]),
             Some(journal),
             None,
+            None,
         ];
         swaps.push((format!("journal_{length:06}"), files));
     }
     for setup in [vec![3, 0, 0, 0, 0], vec![3, 0, 0, 0, 0, 0, 0, 0]] {
         let name = format!("setup_{}", setup.len());
-        let files = [Some(sheet.clone()), Some(setup), Some(vec![]), None];
+        let files = [Some(sheet.clone()), Some(setup), Some(vec![]), None, None];
         swaps.push((name, files));
     }
     for length in [95, 96, 197, 198, 300] {
         let mut longer = sheet.clone();
         longer.resize(length, 0);
-        let files = [Some(longer), Some(vec![3, 0, 0, 0]), Some(vec![]), None];
+        let files = [
+            Some(longer),
+            Some(vec![3, 0, 0, 0]),
+            Some(vec![]),
+            None,
+            None,
+        ];
         swaps.push((format!("sheet_{length:03}"), files));
     }
     let folder = written("calendar_lengths", &swaps);

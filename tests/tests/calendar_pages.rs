@@ -8,7 +8,7 @@ use std::os::unix::ffi::{OsStrExt, OsStringExt};
 use std::path::{Path, PathBuf};
 use std::process::{Command, Output};
 use std::sync::OnceLock;
-use swap_tests::calendar::{self, data, page, Length, Question};
+use swap_tests::calendar::{self, data, page, Length, Question, Start};
 use swap_tests::json::{self, Value};
 use swap_tests::markup;
 use swap_tests::model::{ALICE, BOB, CAROL};
@@ -56,22 +56,6 @@ fn run<S: AsRef<OsStr>>(from: &Path, arguments: &[S]) -> Output {
         .expect("the calendar runs")
 }
 
-fn arguments(question: &Question) -> Vec<String> {
-    let mut words = match question.length {
-        Length::Days(days) => format!("--days {days}"),
-        Length::Blocks(blocks) => format!("--blocks {blocks}"),
-    };
-    words += &format!(" --margin {} --base {}", question.margin, question.base);
-    if let Some(from) = question.from {
-        words += &format!(" --from {from}");
-    }
-    if let Some(side) = question.side {
-        let name = ["alice", "bob", "", "carol"][usize::from(side)];
-        words += &format!(" --side {name}");
-    }
-    words.split(' ').map(str::to_string).collect()
-}
-
 /// The page and the JSON of the swaps in a folder, held to the model; the counts of bars by name.
 fn compare(
     folder: &Path,
@@ -79,7 +63,7 @@ fn compare(
     question: &Question,
 ) -> BTreeMap<String, usize> {
     let file = folder.with_extension("html");
-    let mut words = arguments(question);
+    let mut words = question.arguments();
     words.extend(["--json", "--html"].map(str::to_string));
     words.push(file.to_str().expect("a name").to_string());
     words.push(folder.to_str().expect("a name").to_string());
@@ -137,7 +121,7 @@ fn questions() -> Vec<Question> {
             ..blocks(2)
         },
         Question {
-            from: Some(6),
+            start: Start::After(6),
             side: Some(BOB),
             ..blocks(3)
         },
@@ -146,8 +130,7 @@ fn questions() -> Vec<Question> {
             ..blocks(7)
         },
         Question {
-            from: Some(700_020),
-            base: 700_000,
+            start: Start::After(20),
             margin: 7,
             ..blocks(5)
         },
@@ -224,9 +207,10 @@ fn random_swaps(random: &mut Random, count: usize) -> Vec<(String, Files)> {
             Some("Bob\n"),
         ]);
         let side = side.map(|name| name.as_bytes().to_vec());
+        let base = random.percent(50).then(|| b"700000".to_vec());
         (
             format!("{i:03}"),
-            [Some(sheet), Some(setup), Some(journal), side],
+            [Some(sheet), Some(setup), Some(journal), side, base],
         )
     };
     (0..count).map(swap).collect()

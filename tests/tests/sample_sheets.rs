@@ -68,7 +68,7 @@ fn text_of(name: &str) -> String {
 
 /// The swap after its journal; the engine accepts that whole, and so does the model.
 fn outcome(files: &Files) -> Outcome {
-    let [Some(sheet), Some(setup), Some(journal), None] = files else {
+    let [Some(sheet), Some(setup), Some(journal), None, None] = files else {
         panic!("three files")
     };
     let outcome = calls::outcome(sheet, setup, journal).expect("a sound swap");
@@ -93,7 +93,7 @@ fn texts_are_the_stored_bytes() {
             "{name}"
         );
         assert!(outcome(&stored).course.position.mined > 0);
-        let [Some(sheet), Some(setup), Some(journal), _] = stored else {
+        let [Some(sheet), Some(setup), Some(journal), ..] = stored else {
             panic!("three files")
         };
         let (text, status) = run("swapfile", &[Path::new("decode"), &all().join(&name)]);

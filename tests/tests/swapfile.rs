@@ -62,6 +62,7 @@ fn files((sheet, setup, journal): &Case, side: Option<&str>) -> Files {
         Some(setup.clone()),
         Some(journal.clone()),
         side,
+        None,
     ]
 }
 
@@ -156,7 +157,7 @@ fn stored_and_longest() {
     ring.extend([255, 7, 255, 1].repeat(32));
     ring.extend([1, 255].repeat(32));
     there_and_back(&program, &folder, &(ring, vec![232, 3, 0, 1], vec![]), None);
-    let [sheet, setup, journal, _] = samples::revoked().map(Option::unwrap_or_default);
+    let [sheet, setup, journal, ..] = samples::revoked().map(Option::unwrap_or_default);
     let blocks = random::MINE.repeat(10_000 - 444);
     let long = (sheet, setup, [journal, blocks].concat());
     there_and_back(&program, &folder, &long, None);
@@ -165,7 +166,7 @@ fn stored_and_longest() {
             let side = files[3]
                 .clone()
                 .map(|side| String::from_utf8(side).expect("text"));
-            let [sheet, setup, journal, _] = files.map(Option::unwrap_or_default);
+            let [sheet, setup, journal, ..] = files.map(Option::unwrap_or_default);
             let case = (sheet, setup, journal);
             there_and_back(&program, &folder, &case, side.as_deref().map(str::trim));
         }
@@ -211,7 +212,7 @@ fn damaged_texts() {
         let output = encode(&program, &text, &to);
         let message = String::from_utf8_lossy(&output.stderr).into_owned();
         if output.status.code() == Some(0) {
-            let [sheet, setup, journal, _] = samples::read(&to).map(Option::unwrap_or_default);
+            let [sheet, setup, journal, ..] = samples::read(&to).map(Option::unwrap_or_default);
             let count = (journal.len() / 4) as u32;
             assert_eq!(engine::run(&sheet, &setup, &journal), count);
             fs::remove_dir_all(&to).expect("the folder is removed");
@@ -334,7 +335,7 @@ fn worked_example() {
     let program = built("swapfile", &["-O2"]);
     let output = encode(&program, &text, &folder);
     assert!(output.status.success(), "{output:?}");
-    let [sheet, setup, journal, _] = samples::read(&folder).map(Option::unwrap_or_default);
+    let [sheet, setup, journal, ..] = samples::read(&folder).map(Option::unwrap_or_default);
     let half = &journal[..12];
     let bundle = [
         &[2][..],

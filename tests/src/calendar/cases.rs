@@ -1,6 +1,6 @@
 //! The cases of `examples/calendar/cases.txt`.
 
-use super::{text, Length, Question};
+use super::{complaints, text, Length, Question, Start};
 use crate::model::{ALICE, BOB, CAROL};
 use crate::samples;
 use std::path::Path;
@@ -47,9 +47,10 @@ impl Case {
                 "--full" => question.full = true,
                 "--blocks" => question.length = Length::Blocks(words.next()?.parse().ok()?),
                 "--days" => question.length = Length::Days(words.next()?.parse().ok()?),
-                "--from" => question.from = Some(words.next()?.parse().ok()?),
+                "--in" => question.start = Start::After(words.next()?.parse().ok()?),
+                "--from" => question.start = Start::Height(words.next()?.parse().ok()?),
                 "--margin" => question.margin = words.next()?.parse().ok()?,
-                "--base" => question.base = words.next()?.parse().ok()?,
+                "--base" => question.base = Some(words.next()?.parse().ok()?),
                 "--side" => question.side = Some(side(words.next()?)?),
                 "--help" => return None,
                 place => places.push(Some(place).filter(|&place| place != "-")),
@@ -76,8 +77,16 @@ impl Case {
             None => vec![("embedded".to_string(), samples::revoked())],
             Some(folder) => samples::in_folder(folder.strip_prefix("samples/")?),
         };
-        let (text, totals) = text(&swaps, &question);
-        (totals.swaps > 0).then_some((text, totals.status()))
+        if question.base.is_some() && swaps.len() != 1 {
+            return None;
+        }
+        match complaints(&swaps, &question) {
+            told if !told.is_empty() => Some((told, 1)),
+            _ => {
+                let (text, totals) = text(&swaps, &question);
+                (totals.swaps > 0).then_some((text, totals.status()))
+            }
+        }
     }
 }
 

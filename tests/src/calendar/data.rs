@@ -4,7 +4,7 @@ use super::after::After;
 use super::rule::Kind;
 use super::view::View;
 use super::words::{destination_name, party_name};
-use super::{found, totals, Found, Length, Question};
+use super::{found, found_all, totals, Found, Length, Question, Start};
 use crate::json::Value;
 use crate::model::calls;
 use crate::model::heights::{self, NEVER};
@@ -15,10 +15,7 @@ use crate::samples::Files;
 
 /// "one object a swap", with what is asked and the totals before them.
 pub fn json(swaps: &[(String, Files)], question: &Question) -> Value {
-    let found: Vec<(String, Found)> = swaps
-        .iter()
-        .map(|(name, files)| (name.clone(), found(files, question)))
-        .collect();
+    let found = found_all(swaps, question);
     let totals = totals(&found, question);
     let totals = Value::object([
         ("swaps", Value::number(totals.swaps)),
@@ -42,12 +39,16 @@ fn asked(question: &Question) -> Value {
         Length::Days(days) => ("day", days),
         Length::Blocks(blocks) => ("block", blocks),
     };
+    let (after, from) = match question.start {
+        Start::After(blocks) => (Value::number(blocks), Value::Null),
+        Start::Height(height) => (Value::Null, Value::number(height)),
+    };
     Value::object([
         ("unit", Value::text(unit)),
         ("length", Value::number(length)),
-        ("from", question.from.map_or(Value::Null, Value::number)),
+        ("in", after),
+        ("from", from),
         ("margin", Value::number(question.margin)),
-        ("base", Value::number(question.base)),
     ])
 }
 
@@ -75,7 +76,7 @@ fn unreadable(reason: &str) -> Value {
 
 /// The reason is "NAME (NUMBER), WORDS".
 fn refused(reason: &str, files: &Files) -> Value {
-    let [Some(sheet), Some(setup), Some(journal), _] = files else {
+    let [Some(sheet), Some(setup), Some(journal), ..] = files else {
         panic!("a refused swap is read")
     };
     let run = calls::run(sheet, setup, journal);
@@ -116,6 +117,7 @@ fn payees(mask: u8) -> Value {
 fn sound(view: &View, sides: &[u8], question: &Question) -> Value {
     let outcome = view.outcome();
     let outage = view.outage(question);
+    let base = view.base().unwrap_or(0);
     let conduct = match outcome.setup.conduct {
         Conduct::Open => "open",
         Conduct::Loose => "loose",
@@ -124,8 +126,8 @@ fn sound(view: &View, sides: &[u8], question: &Question) -> Value {
     let blocks = match outage.last < outage.first {
         true => Value::Null,
         false => Value::object([
-            ("first", height(question.base, outage.first)),
-            ("last", height(question.base, outage.last)),
+            ("first", height(base, outage.first)),
+            ("last", height(base, outage.last)),
         ]),
     };
     let all = 0..outcome.sheet.count();
@@ -140,20 +142,21 @@ fn sound(view: &View, sides: &[u8], question: &Question) -> Value {
         ("conduct", Value::text(conduct)),
         ("stealth", Value::Bool(outcome.setup.stealth)),
         ("steps", Value::number(outcome.course.accepted.len())),
-        ("mined", Value::number(outcome.course.position.mined)),
+        ("mined", Value::number(view.mined())),
+        ("base", view.base().map_or(Value::Null, Value::number)),
         ("outage", blocks),
         ("transactions", Value::List(transactions.collect())),
     ])
 }
 
 fn transaction(view: &View, sides: &[u8], question: &Question, t: u8) -> Value {
-    let after = view.after(question.base);
+    let after = view.after();
     let (sheet, setup, position) = (after.swap.sheet, after.swap.setup, after.swap.position);
     let (payee, block) = match position.confirmed.get(&t) {
         None => (Value::Null, Value::Null),
         Some(confirmation) => (
             Value::text(destination_name(confirmation.destination)),
-            height(question.base, confirmation.block),
+            height(after.base, confirmation.block),
         ),
     };
     let lock_height = heights::lock_height(sheet, setup, position, t);
@@ -165,8 +168,8 @@ fn transaction(view: &View, sides: &[u8], question: &Question, t: u8) -> Value {
         ("status", status(report::status(sheet, position, t))),
         ("payee", payee),
         ("block", block),
-        ("lock_height", height(question.base, lock_height)),
-        ("deadline", height(question.base, after.swap.deadline(t))),
+        ("lock_height", height(after.base, lock_height)),
+        ("deadline", height(after.base, after.swap.deadline(t))),
         ("pays", payees(after.swap.can_pay(t))),
         (
             "window",
@@ -258,12 +261,12 @@ pub fn words(files: &Files, question: &Question, t: u8) -> Vec<String> {
 }
 
 fn side_words(view: &View, question: &Question, t: u8, side: u8) -> String {
-    let after = view.after(question.base);
+    let after = view.after();
     let outage = view.outage(question);
     let otherwise = || after.otherwise(t) + &after.hangs_on("", t);
-    let before = || match question.from {
-        None => String::new(),
-        Some(_) => after.before(&outage, t),
+    let before = || match question.is_later() {
+        false => String::new(),
+        true => after.before(&outage, t),
     };
     let passed = after.swap.soonest_deadline(t) <= after.swap.position.mined;
     let mut words = match after.swap.kind(&outage, t, side) {

@@ -1,7 +1,7 @@
 //! What a page of the calendar must show, read off its elements.
 
 use super::data;
-use super::{text, Length, Question};
+use super::{text, Length, Question, Start};
 use crate::json::Value;
 use crate::markup::Element;
 use crate::samples::Files;
@@ -153,7 +153,7 @@ fn check_section(section: &Element, swap: &Value, files: &Files, question: &Ques
     for body in bodies {
         let rows = body.named("tr");
         assert_eq!(rows.len(), open.len());
-        let axis = check_axis(section, swap, question);
+        let axis = check_axis(section, swap);
         for (row, transaction) in rows.iter().zip(&open) {
             check_row(row, transaction, files, question);
             let warning = is(transaction, "warning").any(|is| is);
@@ -175,6 +175,11 @@ fn height(value: &Value) -> String {
     number.map_or("never".to_string(), |number| number.to_string())
 }
 
+/// The base of a swap; 0 where it has none.
+fn base(swap: &Value) -> u64 {
+    swap.get("base").as_number().unwrap_or(0)
+}
+
 fn facts(swap: &Value) -> String {
     let outage = match swap.get("outage") {
         Value::Null => "no outage".to_string(),
@@ -187,9 +192,13 @@ fn facts(swap: &Value) -> String {
         ["blocks_per_day", "steps", "mined"].map(|name| height(swap.get(name)));
     let conduct = swap.get("conduct").as_text();
     let stealth = u8::from(*swap.get("stealth") == Value::Bool(true));
+    let chain = match (swap.get("base"), swap.get("mined").as_number()) {
+        (Value::Null, _) => String::new(),
+        (_, mined) => format!("height {}; ", base(swap) + mined.expect("a number")),
+    };
     format!(
         "conduct {conduct}; stealth {stealth}; blocks per day {blocks}; steps accepted {steps}; \
-         blocks mined {mined}; {outage}"
+         blocks mined {mined}; {chain}{outage}"
     )
 }
 
@@ -261,10 +270,10 @@ fn check_row(row: &Element, transaction: &Value, files: &Files, question: &Quest
 }
 
 /// The blocks that the lanes show and a share of them; each label stands at its block.
-fn check_axis(section: &Element, swap: &Value, question: &Question) -> u64 {
+fn check_axis(section: &Element, swap: &Value) -> u64 {
     let axis = with_class(section, "svg", "axis")[0];
     let span: u64 = axis.get("data-span").parse().expect("a number");
-    let now = swap.get("mined").as_number().expect("a number") + u64::from(question.base);
+    let now = swap.get("mined").as_number().expect("a number") + base(swap);
     assert_eq!(axis.named("text")[0].text(), format!("now {now}"));
     for label in with_class(axis, "text", "label") {
         let block: u64 = label.text().parse().expect("a block");
@@ -297,10 +306,11 @@ fn bars(
         Length::Days(count) => u64::from(count) * days,
         Length::Blocks(blocks) => blocks.into(),
     };
-    let base = u64::from(question.base);
-    let first = question
-        .from
-        .map_or(mined + 1, |from| u64::from(from) - base);
+    let base = base(swap);
+    let first = match question.start {
+        Start::After(blocks) => mined + 1 + u64::from(blocks),
+        Start::Height(from) => u64::from(from) - base,
+    };
     let last = first + length - 1;
     let end = last + u64::from(question.margin);
     let mut bars = vec![

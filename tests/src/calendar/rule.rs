@@ -1,6 +1,6 @@
 //! The calendar's rule: what an outage does to a side's transactions, and which rivals are named beside it.
 
-use super::Question;
+use super::{Question, Start};
 use crate::compare::Game;
 use crate::model::heights::{self, NEVER};
 use crate::model::journal::Course;
@@ -23,11 +23,14 @@ pub struct Outage {
 }
 
 impl Outage {
-    pub fn of(question: &Question, setup: &Setup, mined: u32) -> Outage {
+    pub fn of(question: &Question, setup: &Setup, mined: u32, base: Option<u32>) -> Outage {
         let length = question.blocks(setup);
-        let first = question.from.map_or(mined + 1, |from| from - question.base);
+        let first = match question.start {
+            Start::After(blocks) => mined + 1 + blocks,
+            Start::Height(from) => from - base.expect("a base"),
+        };
         let last = first + length - 1;
-        let end = (last + question.margin).max(mined);
+        let end = last + question.margin;
         Outage {
             first,
             last,

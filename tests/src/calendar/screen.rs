@@ -4,16 +4,18 @@ use super::after::After;
 use super::rule::{Kind, Outage};
 use super::view::View;
 use super::words::party_name;
-use super::{Found, Length, Question};
+use super::{Found, Length, Question, Start};
 use crate::model::heights::NEVER;
+use std::collections::BTreeSet;
 
-/// The lines in their order: faulty swaps, open warnings, warnings with only a hand-in left, what is due before the
-/// outage, what is due after it, what is sent, what a rival contests, the rest; then by blocks left, swap and side.
+/// The lines in their order: faulty swaps, warnings, what is due before the outage, what is due after it, what is sent,
+/// what a rival contests, the rest; then by blocks left, swap and side.
 type Key = (u32, u32, usize, u8);
 
 /// What the calendar prints before the totals.
 pub fn text(swaps: &[(String, Found)], question: &Question) -> String {
     let mut lines: Vec<(Key, String)> = Vec::new();
+    let mixed = is_mixed(swaps);
     for (place, (name, found)) in swaps.iter().enumerate() {
         match found {
             Found::Faulty(mark, reason) => {
@@ -22,7 +24,10 @@ pub fn text(swaps: &[(String, Found)], question: &Question) -> String {
             }
             Found::Sound(view, sides) => {
                 for &side in sides {
-                    let ((urgency, left), text) = line(name, view, question, side);
+                    let ((urgency, left), mut text) = line(name, view, question, side);
+                    if mixed && view.base().is_none() && urgency < 6 {
+                        text += "; blocks of its own, no base";
+                    }
                     lines.push(((urgency, left, place, side), text));
                 }
             }
@@ -34,6 +39,15 @@ pub fn text(swaps: &[(String, Found)], question: &Question) -> String {
     let lines = lines.into_iter().map(|(_, text)| text);
     let all: Vec<String> = [asked(question), head].into_iter().chain(lines).collect();
     all.join("\n") + "\n"
+}
+
+/// Whether some swaps have a base and others none.
+fn is_mixed(swaps: &[(String, Found)]) -> bool {
+    let sound = swaps.iter().filter_map(|(_, found)| match found {
+        Found::Sound(view, _) => Some(view.base().is_some()),
+        Found::Faulty(..) => None,
+    });
+    sound.collect::<BTreeSet<bool>>().len() == 2
 }
 
 fn cells(mark: &str, name: &str, side: &str, transaction: &str) -> String {
@@ -48,26 +62,28 @@ fn asked(question: &Question) -> String {
         Length::Blocks(1) => "1 block".to_string(),
         Length::Blocks(blocks) => format!("{blocks} blocks"),
     };
-    let from = match question.from {
-        None => "the next block".to_string(),
-        Some(block) => format!("block {block}"),
+    let start = match question.start {
+        Start::After(0) => "from the next block".to_string(),
+        Start::After(1) => "after the next block".to_string(),
+        Start::After(blocks) => format!("after the next {blocks} blocks"),
+        Start::Height(block) => format!("from block {block}"),
     };
     let margin = match question.margin {
         0 => String::new(),
         blocks => format!(", margin {blocks}"),
     };
-    format!("outage: {length} from {from}{margin}")
+    format!("outage: {length} {start}{margin}")
 }
 
 /// The line of a side of a swap, with its urgency and the blocks left.
 fn line(name: &str, view: &View, question: &Question, side: u8) -> ((u32, u32), String) {
-    let after = view.after(question.base);
+    let after = view.after();
     let outage = view.outage(question);
     let all = 0..after.swap.sheet.count();
     let ranked: Vec<((u32, u32), u8)> = all
         .filter_map(|t| Some((rank(&after, &outage, t, side)?, t)))
         .collect();
-    let warnings = ranked.iter().filter(|((urgency, _), _)| *urgency <= 2);
+    let warnings = ranked.iter().filter(|((urgency, _), _)| *urgency == 1);
     let mark = match warnings.count() {
         0 => String::new(),
         1 => "WARNING".to_string(),
@@ -75,7 +91,7 @@ fn line(name: &str, view: &View, question: &Question, side: u8) -> ((u32, u32), 
     };
     let Some(&((urgency, left), t)) = ranked.iter().min() else {
         let text = cells(&mark, name, party_name(side), "no deadline ahead");
-        return ((7, 0), text.trim_end().to_string());
+        return ((6, 0), text.trim_end().to_string());
     };
     let start = cells(&mark, name, party_name(side), &view.names.transaction(t));
     let [from, to] = [after.swap.soonest_block(t), after.swap.soonest_deadline(t)];
@@ -84,7 +100,7 @@ fn line(name: &str, view: &View, question: &Question, side: u8) -> ((u32, u32), 
         NEVER => "-".to_string(),
         _ => left.to_string(),
     };
-    let last = last_column(&after, question, &outage, urgency, t);
+    let last = last_column(&after, question, &outage, (urgency, left), t);
     let last = last + &after.in_the_way(t, side);
     let text = format!("{start}{from:>8}{to:>8}{blocks:>7}  {last}");
     ((urgency, left), text)
@@ -98,24 +114,29 @@ fn rank(after: &After, outage: &Outage, t: u8, side: u8) -> Option<(u32, u32)> {
         deadline => deadline.saturating_sub(mined),
     };
     let urgency = match after.swap.kind(outage, t, side) {
-        Kind::Warning if left > 0 => 1,
-        Kind::Warning => 2,
-        Kind::Before => 3,
-        Kind::Ahead => 4,
-        Kind::Sent => 5,
-        Kind::Free if !after.in_the_way(t, side).is_empty() => 6,
+        Kind::Warning => 1,
+        Kind::Before => 2,
+        Kind::Ahead => 3,
+        Kind::Sent => 4,
+        Kind::Free if !after.in_the_way(t, side).is_empty() => 5,
         _ => return None,
     };
     Some((urgency, left))
 }
 
-fn last_column(after: &After, question: &Question, outage: &Outage, urgency: u32, t: u8) -> String {
+fn last_column(
+    after: &After,
+    question: &Question,
+    outage: &Outage,
+    rank: (u32, u32),
+    t: u8,
+) -> String {
     let otherwise = after.otherwise_if_any(t);
-    match urgency {
-        5 => "sent, box not needed".to_string(),
-        6 => "no deadline ahead".to_string(),
-        2 => format!("passed, a hand-in may save it, {otherwise}"),
-        1 | 3 if question.from.is_some() => after.before(outage, t) + &otherwise,
+    match rank {
+        (4, _) => "sent, box not needed".to_string(),
+        (5, _) => "no deadline ahead".to_string(),
+        (1, 0) => format!("passed, a hand-in may save it, {otherwise}"),
+        (1 | 2, _) if question.is_later() => after.before(outage, t) + &otherwise,
         _ => otherwise,
     }
 }

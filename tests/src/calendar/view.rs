@@ -14,16 +14,23 @@ pub struct View {
     pub names: Names,
     outcome: Outcome,
     open: Vec<[u8; 4]>,
+    /// "the real chain's height when its journal was empty", where it is known.
+    base: Option<u32>,
 }
 
 impl View {
-    pub fn new(sheet: &[u8], outcome: Outcome) -> View {
+    pub fn new(sheet: &[u8], outcome: Outcome, base: Option<u32>) -> View {
         let position = &outcome.course.position;
         View {
             names: Names::of(sheet, outcome.setup.blocks_per_day as u16),
             open: open::steps(&outcome.sheet, &outcome.setup, position),
             outcome,
+            base,
         }
+    }
+
+    pub fn base(&self) -> Option<u32> {
+        self.base
     }
 
     pub fn outcome(&self) -> &Outcome {
@@ -40,7 +47,7 @@ impl View {
         self.open.iter().any(sends)
     }
 
-    fn mined(&self) -> u32 {
+    pub fn mined(&self) -> u32 {
         self.outcome.course.position.mined
     }
 
@@ -52,33 +59,33 @@ impl View {
         }
     }
 
-    pub fn after(&self, base: u32) -> After<'_> {
+    pub fn after(&self) -> After<'_> {
         After {
             swap: self.swap(),
             names: &self.names,
             open: &self.open,
-            base,
+            base: self.base.unwrap_or(0),
         }
     }
 
     pub fn outage(&self, question: &Question) -> Outage {
-        Outage::of(question, &self.outcome.setup, self.mined())
+        Outage::of(question, &self.outcome.setup, self.mined(), self.base)
     }
 
     pub fn lines(&self, question: &Question, sides: &[u8]) -> Vec<String> {
-        let mut lines = self.inputs(question.base);
-        lines.extend(self.position(question.base));
+        let mut lines = self.inputs();
+        lines.extend(self.position());
         for party in open::actors(&self.outcome.sheet) {
             lines.extend(self.steps(party));
         }
-        lines.extend(self.payouts(question.base));
+        lines.extend(self.payouts());
         for &side in sides {
             lines.extend(self.deadlines(question, side));
         }
         lines
     }
 
-    fn inputs(&self, base: u32) -> Vec<String> {
+    fn inputs(&self) -> Vec<String> {
         let Outcome {
             sheet,
             setup,
@@ -97,9 +104,9 @@ impl View {
         };
         let (blocks_per_day, stealth) = (setup.blocks_per_day, u8::from(setup.stealth));
         let (steps, mined) = (course.accepted.len(), self.mined());
-        let height = match base {
-            0 => String::new(),
-            _ => format!(", height {}", base + mined),
+        let height = match self.base {
+            None => String::new(),
+            Some(base) => format!(", height {}", base + mined),
         };
         vec![
             format!("  sheet: {kind}, transactions {}", sheet.count()),
@@ -110,7 +117,7 @@ impl View {
         ]
     }
 
-    fn position(&self, base: u32) -> Vec<String> {
+    fn position(&self) -> Vec<String> {
         let head = [
             "transaction",
             "status",
@@ -121,12 +128,17 @@ impl View {
         ];
         let head = head.map(str::to_string);
         let mut lines = vec!["  position".to_string(), row(&head)];
-        lines.extend((0..self.outcome.sheet.count()).map(|t| row(&self.cells(t, base))));
+        lines.extend((0..self.outcome.sheet.count()).map(|t| row(&self.cells(t))));
         lines
     }
 
+    /// A height of the real chain, where the base is known.
+    fn height(&self, block: u32) -> String {
+        height(self.base.unwrap_or(0), block)
+    }
+
     /// A transaction's line of the position.
-    fn cells(&self, t: u8, base: u32) -> [String; 6] {
+    fn cells(&self, t: u8) -> [String; 6] {
         let Outcome {
             sheet,
             setup,
@@ -138,7 +150,7 @@ impl View {
             None => ("-".to_string(), "-".to_string()),
             Some(c) => (
                 destination_name(c.destination).to_string(),
-                height(base, c.block),
+                self.height(c.block),
             ),
         };
         [
@@ -146,8 +158,8 @@ impl View {
             status(report::status(sheet, position, t)),
             payee,
             block,
-            height(base, heights::lock_height(sheet, setup, position, t)),
-            height(base, heights::deadline(sheet, setup, position, t)),
+            self.height(heights::lock_height(sheet, setup, position, t)),
+            self.height(heights::deadline(sheet, setup, position, t)),
         ]
     }
 
@@ -158,7 +170,7 @@ impl View {
         or_none(lines, 1)
     }
 
-    fn payouts(&self, base: u32) -> Vec<String> {
+    fn payouts(&self) -> Vec<String> {
         let Outcome { sheet, course, .. } = &self.outcome;
         let holders = report::holders_from_position(sheet, &course.position);
         let payouts = report::payouts(&holders);
@@ -167,9 +179,9 @@ impl View {
             let name = self.names.transaction(coin);
             let words = match (holder, payouts.get(&coin)) {
                 (None, _) => "none, not opened yet".to_string(),
-                (Some(_), None) => format!("none, in the contract {}", self.last(coin, base)),
+                (Some(_), None) => format!("none, in the contract {}", self.last(coin)),
                 (_, Some(&party)) => {
-                    format!("paid to {} {}", party_name(party), self.last(coin, base))
+                    format!("paid to {} {}", party_name(party), self.last(coin))
                 }
             };
             lines.push(format!("    coin of {name}: {words}"));
@@ -179,7 +191,7 @@ impl View {
 
     /// The last confirmed transaction of a coin: the one in the latest block and, there, with the highest number,
     /// since a parent has a lower one.
-    fn last(&self, coin: u8, base: u32) -> String {
+    fn last(&self, coin: u8) -> String {
         let Outcome { sheet, course, .. } = &self.outcome;
         let confirmed = course.position.confirmed.iter();
         let of_coin = confirmed.filter(|(&t, _)| sheet.coin(t) == coin);
@@ -188,14 +200,14 @@ impl View {
         format!(
             "by {} in block {}",
             self.names.transaction(t),
-            height(base, confirmation.block)
+            self.height(confirmation.block)
         )
     }
 
     /// Every transaction that is neither confirmed nor dead.
     fn deadlines(&self, question: &Question, side: u8) -> Vec<String> {
         let outage = self.outage(question);
-        let blocks = [outage.first, outage.last].map(|block| height(question.base, block));
+        let blocks = [outage.first, outage.last].map(|block| self.height(block));
         let words = match outage.last < outage.first {
             true => "no outage".to_string(),
             false => format!("outage in blocks {} to {}", blocks[0], blocks[1]),
@@ -215,7 +227,7 @@ impl View {
     }
 
     fn deadline(&self, question: &Question, outage: &Outage, t: u8, side: u8) -> Option<String> {
-        let after = self.after(question.base);
+        let after = self.after();
         let kind = after.swap.kind(outage, t, side);
         let soonest = after.swap.soonest_deadline(t);
         let latest = after.height(soonest);
@@ -227,7 +239,7 @@ impl View {
                     "WARNING: block {latest} was the latest, a hand-in may save it, {otherwise}"
                 )
             }
-            Kind::Warning if question.from.is_some() => {
+            Kind::Warning if question.is_later() => {
                 format!("WARNING: {}{}", after.before(outage, t), window(&after, t))
             }
             Kind::Warning => format!("WARNING: {}", window(&after, t)),
@@ -239,7 +251,7 @@ impl View {
             Kind::Others if self.outcome.sheet.parties.len() == 2 => "the other side's".to_string(),
             Kind::Others => "another side's".to_string(),
         };
-        words += &self.standing(question.base, t, side);
+        words += &self.standing(t, side);
         if kind != Kind::Others {
             words += &after.in_the_way(t, side);
         }
@@ -251,11 +263,11 @@ impl View {
     }
 
     /// Where a transaction stands.
-    fn standing(&self, base: u32, t: u8, side: u8) -> String {
+    fn standing(&self, t: u8, side: u8) -> String {
         let position = &self.outcome.course.position;
         let sendable = self.can_send(t, side);
         let since = match sendable {
-            true => self.open_since(base, t),
+            true => self.open_since(t),
             false => String::new(),
         };
         let standing = [
@@ -268,7 +280,7 @@ impl View {
     }
 
     /// Since when it has been open, by Slip 9; nothing where it never was, as below a parent in the pool.
-    fn open_since(&self, base: u32, t: u8) -> String {
+    fn open_since(&self, t: u8) -> String {
         let Outcome {
             sheet,
             setup,
@@ -278,7 +290,7 @@ impl View {
         let along = first_open::positions(sheet, setup, &course.accepted);
         match first_open::count(sheet, setup, &along, t) {
             NEVER => String::new(),
-            blocks => format!(", open since block {}", height(base, blocks)),
+            blocks => format!(", open since block {}", self.height(blocks)),
         }
     }
 
