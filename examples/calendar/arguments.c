@@ -7,7 +7,8 @@
 
 const char usage[] = "usage: calendar [--full | --json] [--html FILE] [--blocks N | --days D]\n"
                      "                [--in N | --from HEIGHT] [--margin N] [--side SIDE]\n"
-                     "                [--base HEIGHT] [FOLDER]\n";
+                     "                [--base HEIGHT] [--slots N] [--height H --at TIME\n"
+                     "                [--minutes M] [--ics FILE]] [FOLDER]\n";
 
 const char help[] =
     "\n"
@@ -25,6 +26,15 @@ const char help[] =
     "--base HEIGHT  the real chain's height when the journal was empty, for one swap;\n"
     "               left out: what the file `base` in the swap's folder says. With a\n"
     "               base the swap's heights are the real chain's, else its own blocks\n"
+    "--slots N      the next stretches in which an outage of N blocks, or of days as 2d,\n"
+    "               costs a side nothing, over all its swaps\n"
+    "--height H     the real chain stands at H, and so does each swap by its base: with\n"
+    "--at TIME      the time of that, as 2026-11-17T14:30Z, or without Z local, times\n"
+    "               are estimated, marked with ~, in brackets the hours in which so\n"
+    "               many blocks come in 5 and in 95 of 100 cases\n"
+    "--minutes M    of a block on average; left out: 10\n"
+    "--ics FILE     also writes an iCalendar file: the end of each window with what to\n"
+    "               do, and the stretches of --slots\n"
     "--full         for each swap the position, the steps that each party could take\n"
     "               now, the payouts so far and all that can still be confirmed\n"
     "--json         the position and the windows of each swap as JSON, for programs;\n"
@@ -40,12 +50,14 @@ const char help[] =
     "transaction or one below it can pay the side: with the box off, that payout can\n"
     "be lost. Where the outage begins later, a window that ends before it and cannot\n"
     "move is no warning; it is shown as due before the outage.\n"
+    "Last, for each side, the longest outage from now that costs nothing over all its\n"
+    "swaps, and which of them bounds it.\n"
     "\n"
     "Exit status: 0 no warning; 3 warnings; 1 a swap is refused or cannot be read,\n"
     "there is none, or the question does not fit it; 2 bad usage.\n";
 
 /* The arguments that have a value. The first three can stand by their place too. */
-enum { FOLDER, BLOCKS, SIDE, DAYS, IN, FROM, MARGIN, BASE, HTML, ARGUMENTS };
+enum { FOLDER, BLOCKS, SIDE, DAYS, IN, FROM, MARGIN, BASE, SLOTS, HEIGHT, AT, MINUTES, HTML, ICS, ARGUMENTS };
 
 static const struct {
     const char *name;
@@ -60,7 +72,12 @@ static const struct {
     [FROM] = {"--from", 1, 999999999},
     [MARGIN] = {"--margin", 0, 999999999},
     [BASE] = {"--base", 0, BASE_MOST},
+    [SLOTS] = {"--slots", 1, 999999},
+    [HEIGHT] = {"--height", 0, 999999999},
+    [AT] = {"--at", 0, 0},
+    [MINUTES] = {"--minutes", 1, 1440},
     [HTML] = {"--html", 0, 0},
+    [ICS] = {"--ics", 0, 0},
 };
 
 uint8_t side_named(const char *name)
@@ -131,6 +148,55 @@ static bool read_length(const char *const values[ARGUMENTS], struct question *qu
     return read_number(BLOCKS, values[BLOCKS], &question->length) && read_number(DAYS, values[DAYS], &question->length);
 }
 
+/* The length of the outage for which stretches are asked: blocks, or days with a d after them. */
+static bool read_slots(const char *text, struct question *question)
+{
+    char number[16] = "";
+    size_t length = text == NULL ? 0 : strlen(text);
+
+    if (text == NULL) {
+        return true;
+    }
+    question->slots_in_days = length > 0 && text[length - 1] == 'd';
+    if (length < sizeof number) {
+        memcpy(number, text, length - (question->slots_in_days ? 1 : 0));
+    }
+    return is_number_named(number, arguments[SLOTS].least, arguments[SLOTS].most, &question->slots) ||
+           wrong("--slots", text, "not a number from 1 to 999999, of blocks or, as 2d, of days");
+}
+
+/* The height of the chain and its time, both or neither. */
+static bool read_clock(const char *const values[ARGUMENTS], struct question *question)
+{
+    struct clock *clock = &question->clock;
+
+    clock->minutes = 10;
+    clock->set = values[AT] != NULL;
+    for (int argument = HEIGHT; argument <= ICS; argument++) {
+        if (argument != AT && argument != HTML && values[argument] != NULL && !clock->set) {
+            return wrong(arguments[argument].name, values[argument], "only beside --at");
+        }
+    }
+    if (clock->set && values[HEIGHT] == NULL) {
+        return wrong("--at", values[AT], "only beside --height");
+    }
+    if (clock->set && !read_time(values[AT], &clock->at)) {
+        return wrong("--at", values[AT], "not a time as 2026-11-17T14:30Z, or without Z a local one");
+    }
+    return read_number(HEIGHT, values[HEIGHT], &clock->height) && read_number(MINUTES, values[MINUTES], &clock->minutes);
+}
+
+/* The files to write, which are not the same. */
+static bool read_outputs(const char *const values[ARGUMENTS], struct question *question)
+{
+    question->html = values[HTML];
+    question->ics = values[ICS];
+    if (values[HTML] != NULL && values[ICS] != NULL && strcmp(values[HTML], values[ICS]) == 0) {
+        return wrong("--ics", values[ICS], "the file of --html");
+    }
+    return true;
+}
+
 /* When the outage begins. */
 static bool read_start(const char *const values[ARGUMENTS], struct question *question)
 {
@@ -144,13 +210,14 @@ static bool read_start(const char *const values[ARGUMENTS], struct question *que
 static bool read_values(const char *const values[ARGUMENTS], struct question *question)
 {
     question->folder = values[FOLDER];
-    question->html = values[HTML];
     question->based = values[BASE] != NULL;
     if (question->json && question->full) {
         return wrong("--json", NULL, "not beside --full");
     }
     if (!read_length(values, question) || !read_start(values, question) ||
-        !read_number(BASE, values[BASE], &question->base) || !read_number(MARGIN, values[MARGIN], &question->margin)) {
+        !read_slots(values[SLOTS], question) || !read_clock(values, question) || !read_outputs(values, question) ||
+        !read_number(BASE, values[BASE], &question->base) ||
+        !read_number(MARGIN, values[MARGIN], &question->margin)) {
         return false;
     }
     if (values[SIDE] != NULL) {

@@ -5,6 +5,8 @@
 #include <stdbool.h>
 #include <stdint.h>
 
+#include "../common/clock.h"
+
 struct question {
     bool help;
     bool full;          /* the whole position of each swap, and not one line */
@@ -17,6 +19,10 @@ struct question {
     uint32_t in;        /* blocks from now before it begins */
     uint32_t from;      /* or its first block, by the real chain's heights; 0: by the blocks from now */
     uint32_t margin;    /* blocks to spare after it */
+    bool slots_in_days; /* whether the length of another outage is in days */
+    uint32_t slots;     /* for which stretches are asked; 0: none are */
+    struct clock clock; /* for estimated times */
+    const char *ics;    /* the file of the iCalendar, or NULL */
     bool based;         /* whether the base is given: for one swap only */
     uint32_t base;      /* the real chain's height when the swap's journal was empty */
 };

@@ -10,7 +10,9 @@
 #include <string.h>
 
 #include "../common/output.h"
+#include "ics.h"
 #include "json.h"
+#include "outages.h"
 #include "page.h"
 #include "screen.h"
 #include "show.h"
@@ -26,22 +28,31 @@ static int fault(const char *of, const char *reason)
     return FAULT;
 }
 
-/* Writes the page to its file: NULL, or the reason why that cannot be. */
-static const char *store_page(const struct question *question, const struct desk *desk, const struct totals *totals,
-                              const struct target *target)
+/* A file beside what is printed: what writes it, and where; the path is NULL where it is not asked for. */
+struct file {
+    const char *path;
+    bool (*write)(FILE *, const struct question *, const struct desk *, const struct totals *);
+    struct target target;
+};
+
+enum { FILES = 2 };
+
+/* Writes a file: NULL, or the reason why that cannot be. */
+static const char *store(const struct file *file, const struct question *question, const struct desk *desk,
+                         const struct totals *totals)
 {
     char *bytes = NULL;
     size_t length = 0;
-    FILE *page = open_memstream(&bytes, &length);
+    FILE *to = open_memstream(&bytes, &length);
     const char *reason;
     bool sound;
 
-    if (page == NULL) {
+    if (to == NULL) {
         return strerror(errno);
     }
-    sound = write_page(page, question, desk, totals);
-    sound = fclose(page) == 0 && sound;
-    reason = sound ? write_target(target, bytes, length) : strerror(errno);
+    sound = file->write(to, question, desk, totals);
+    sound = fclose(to) == 0 && sound;
+    reason = sound ? write_target(&file->target, bytes, length) : strerror(errno);
     free(bytes);
     return reason;
 }
@@ -58,19 +69,25 @@ static bool show_form(const struct question *question, const struct desk *desk, 
     } else if (!show_screen(question, desk)) {
         return false;
     }
+    if (!print_outages(stdout, AS_TEXT, question, desk)) {
+        return false;
+    }
     print_totals(stdout, totals);
     printf("\n");
     return true;
 }
 
-/* Shows the swaps, and writes the page first where there is a target: the exit status. */
-static int show(const struct question *question, const struct desk *desk, const struct target *target)
+/* Writes the files that are asked for, then shows the swaps: the exit status. */
+static int show(const struct question *question, const struct desk *desk, const struct file files[FILES])
 {
     struct totals totals = totals_of(desk);
-    const char *reason = target == NULL ? NULL : store_page(question, desk, &totals, target);
 
-    if (reason != NULL) {
-        return fault(question->html, reason);
+    for (size_t i = 0; i < FILES; i++) {
+        const char *reason = files[i].path == NULL ? NULL : store(&files[i], question, desk, &totals);
+
+        if (reason != NULL) {
+            return fault(files[i].path, reason);
+        }
     }
     if (!show_form(question, desk, &totals)) {
         return fault("memory", strerror(errno));
@@ -82,14 +99,14 @@ static int show(const struct question *question, const struct desk *desk, const 
 }
 
 /* Asks about the outage and shows the swaps: the exit status. */
-static int show_outages(const struct question *question, struct desk *desk, const struct target *target)
+static int show_outages(const struct question *question, struct desk *desk, const struct file files[FILES])
 {
     ask_outages(question, desk);
-    return show(question, desk, target);
+    return show(question, desk, files);
 }
 
 /* Answers a question: the exit status. */
-static int answer(const struct question *question, const struct target *target)
+static int answer(const struct question *question, const struct file files[FILES])
 {
     struct desk desk = {0};
     int status;
@@ -100,24 +117,30 @@ static int answer(const struct question *question, const struct target *target)
         status = fault(question->folder, "no swap here");
     } else {
         ask_desk(question, &desk);
-        status = fits_desk(question, &desk) ? show_outages(question, &desk, target) : FAULT;
+        status = fits_desk(question, &desk) ? show_outages(question, &desk, files) : FAULT;
     }
     free_desk(&desk);
     return status;
 }
 
-/* The same, with the page's folder open first: the swaps are read from another one. */
-static int answer_with_page(const struct question *question)
+/* The same, with the files' folders open first: the swaps are read from another one. */
+static int answer_with_files(const struct question *question)
 {
-    struct target target;
-    const char *reason = open_target(question->html, &target);
+    struct file files[FILES] = {{.path = question->html, .write = write_page}, {.path = question->ics, .write = write_ics}};
+    const char *reason = NULL;
+    size_t opened = 0;
     int status;
 
-    if (reason != NULL) {
-        return fault(question->html, reason);
+    while (opened < FILES && reason == NULL) {
+        reason = files[opened].path == NULL ? NULL : open_target(files[opened].path, &files[opened].target);
+        opened++;
     }
-    status = answer(question, &target);
-    close_target(&target);
+    status = reason == NULL ? answer(question, files) : fault(files[opened - 1].path, reason);
+    for (size_t i = 0; i < opened; i++) {
+        if (files[i].path != NULL && (reason == NULL || i + 1 < opened)) {
+            close_target(&files[i].target);
+        }
+    }
     return status;
 }
 
@@ -134,7 +157,7 @@ static int act(int argc, char **argv)
         printf("%s%s", usage, help);
         return NO_WARNING;
     }
-    return question.html == NULL ? answer(&question, NULL) : answer_with_page(&question);
+    return answer_with_files(&question);
 }
 
 int main(int argc, char **argv)

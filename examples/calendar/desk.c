@@ -151,21 +151,28 @@ void ask_desk(const struct question *question, struct desk *desk)
     }
 }
 
-/* Whether an outage from a height on lies ahead of the swap. */
-static bool lies_ahead(const struct question *question, const struct entry *entry)
+/* Whether the heights of the real chain that the question names, if any, fit the swap. */
+static bool fits_entry(const struct question *question, const struct entry *entry)
 {
+    const struct clock *clock = &question->clock;
     unsigned long height = (unsigned long)entry->base + entry->position.mined;
-    char reason[96];
+    char reason[96] = "";
 
-    if (!entry->based) {
-        complain("calendar", entry->name, "", "no base, and --from is a height of the real chain");
-        return false;
-    }
-    if (question->from > height) {
+    if (question->from == 0 && !clock->set) {
         return true;
     }
-    snprintf(reason, sizeof reason, "--from %lu is in the past: the swap stands at height %lu",
-             (unsigned long)question->from, height);
+    if (!entry->based) {
+        snprintf(reason, sizeof reason, "no base, and %s is a height of the real chain",
+                 question->from > 0 ? "--from" : "--height");
+    } else if (clock->set && clock->height != height) {
+        snprintf(reason, sizeof reason, "stands at height %lu, and --height is %lu", height,
+                 (unsigned long)clock->height);
+    } else if (question->from > 0 && question->from <= height) {
+        snprintf(reason, sizeof reason, "--from %lu is in the past: the swap stands at height %lu",
+                 (unsigned long)question->from, height);
+    } else {
+        return true;
+    }
     complain("calendar", entry->name, "", reason);
     return false;
 }
@@ -178,8 +185,8 @@ bool fits_desk(const struct question *question, const struct desk *desk)
         complain("calendar", "--base", "", "for one swap; each of several has a file base in its folder");
         return false;
     }
-    for (size_t i = 0; i < desk->count && question->from > 0; i++) {
-        if (is_sound(desk->entries[i]) && !lies_ahead(question, desk->entries[i])) {
+    for (size_t i = 0; i < desk->count; i++) {
+        if (is_sound(desk->entries[i]) && !fits_entry(question, desk->entries[i])) {
             sound = false;
         }
     }
@@ -196,6 +203,25 @@ void ask_outages(const struct question *question, struct desk *desk)
             entry->answer = ask_outage(&entry->position, entry->outage.reach);
         }
     }
+}
+
+bool same_height(const struct desk *desk, uint32_t *height)
+{
+    bool found = false;
+
+    for (size_t i = 0; i < desk->count; i++) {
+        const struct entry *entry = desk->entries[i];
+        uint32_t own = entry->base + entry->position.mined;
+
+        if (is_sound(entry) && found && own != *height) {
+            return false;
+        }
+        if (is_sound(entry)) {
+            *height = own;
+            found = true;
+        }
+    }
+    return found && !is_mixed(desk);
 }
 
 bool is_mixed(const struct desk *desk)

@@ -41,12 +41,15 @@ bool read_desk(const struct question *question, struct desk *desk);
 /* Puts all swaps to the engine: their positions. */
 void ask_desk(const struct question *question, struct desk *desk);
 
-/* Whether the question fits the swaps: a base is given for one swap only, and an outage from a height on needs the base
- * of each and lies ahead of each. Where it does not, a message names each swap. */
+/* Whether the question fits the swaps: a base is given for one swap only, and a height of the real chain needs the base of
+ * each: an outage from a height on lies ahead of each, and each stands at the height of the clock. Where it does not, a message names each swap. */
 bool fits_desk(const struct question *question, const struct desk *desk);
 
 /* Then asks about the outage. */
 void ask_outages(const struct question *question, struct desk *desk);
+
+/* Whether all sound swaps stand at the same height, of the real chain or by their own blocks; then which. */
+bool same_height(const struct desk *desk, uint32_t *height);
 
 /* Whether some swaps have a base and others none, so that heights are of two sorts. */
 bool is_mixed(const struct desk *desk);

@@ -1,9 +1,14 @@
 #include "json.h"
 
+#include <stdlib.h>
+
+#include "../common/steps.h"
+#include "action.h"
 #include "markup.h"
 #include "rivals.h"
-#include "screen.h"
 #include "sides.h"
+#include "slack.h"
+#include "slots.h"
 #include "words.h"
 
 /* What is written, and whether a comma stands before the next part. */
@@ -96,6 +101,20 @@ static void key_blocks(struct json *json, const char *name, uint32_t blocks)
     key(json, name);
     part(json);
     write_height(json->to, AS_JSON, 0, blocks);
+}
+
+/* A time in UTC; null where there is none. */
+static void key_time(struct json *json, const char *name, bool is_set, int64_t time)
+{
+    if (!is_set) {
+        key_string(json, name, NULL);
+        return;
+    }
+    key(json, name);
+    part(json);
+    fputc('"', json->to);
+    print_iso(json->to, time);
+    fputc('"', json->to);
 }
 
 /* The sides of a mask. */
@@ -196,12 +215,58 @@ static void key_rivals(struct json *json, const struct position *position, uint8
     end(json, ']');
 }
 
+/* The estimated time of the last block that is safe: on average, and in 5 and in 95 of 100 cases. */
+static void key_by_time(struct json *json, const struct question *question, const struct entry *entry,
+                        const struct action *action)
+{
+    const struct clock *clock = &question->clock;
+    uint64_t blocks = action->by - entry->position.mined;
+
+    if (!clock->set || action->by == SWAP_NEVER || reason_of(action) != NULL) {
+        key_string(json, "time", NULL);
+        return;
+    }
+    key(json, "time");
+    begin(json, '{');
+    key_time(json, "about", true, mean_time(clock, blocks));
+    key_time(json, "early", true, early_time(clock, blocks));
+    key_time(json, "late", true, late_time(clock, blocks));
+    end(json, '}');
+}
+
+/* What the side can do about a transaction; null where there is nothing to be said of it. */
+static void key_action(struct json *json, const struct question *question, const struct entry *entry, uint8_t t,
+                       uint8_t side)
+{
+    struct action action;
+    const char *reason;
+
+    if (kind_of(&entry->position, &entry->outage, t, side) > SENT) {
+        key_string(json, "action", NULL);
+        return;
+    }
+    action = action_of(question, entry, t, side);
+    reason = reason_of(&action);
+    key(json, "action");
+    begin(json, '{');
+    key_string(json, "word", act_word(&action));
+    key_string(json, "step", reason == NULL ? step_words(&entry->swap, action.step).text : NULL);
+    key_string(json, "once", reason == NULL && action.once != SWAP_NONE
+                                 ? transaction_label(&entry->swap, action.once).text
+                                 : NULL);
+    key_height(json, "after", reason == NULL ? action.after : SWAP_NEVER);
+    key_height(json, "by", reason == NULL ? action.by : SWAP_NEVER);
+    key_by_time(json, question, entry, &action);
+    key_string(json, "reason", reason);
+    end(json, '}');
+}
+
 /* What the outage does to a transaction for each side that is shown. */
-static void key_verdicts(struct json *json, const struct entry *entry, uint8_t t)
+static void key_verdicts(struct json *json, const struct question *question, const struct entry *entry, uint8_t t)
 {
     static const char *const words[] = {
-        [WARNING] = "warning", [BEFORE] = "before", [AHEAD] = "ahead",     [SENT] = "sent",
-        [FREE] = "free",       [OTHERS] = "others", [SETTLED] = "settled",
+        [WARNING] = "warning", [BEFORE] = "before", [AHEAD] = "ahead",   [TAKEN] = "taken",
+        [SENT] = "sent",       [FREE] = "free",     [OTHERS] = "others", [SETTLED] = "settled",
     };
     const struct position *position = &entry->position;
 
@@ -213,6 +278,7 @@ static void key_verdicts(struct json *json, const struct entry *entry, uint8_t t
             key_string(json, "side", party_name(side));
             key_string(json, "outage", words[kind_of(position, &entry->outage, t, side)]);
             key_bool(json, "can_send", can_be_sent(position, side, t));
+            key_action(json, question, entry, t, side);
             key_rivals(json, position, t, side);
             end(json, '}');
         }
@@ -220,7 +286,7 @@ static void key_verdicts(struct json *json, const struct entry *entry, uint8_t t
     end(json, ']');
 }
 
-static void transaction(struct json *json, const struct entry *entry, uint8_t t)
+static void transaction(struct json *json, const struct question *question, const struct entry *entry, uint8_t t)
 {
     const struct position *position = &entry->position;
     bool confirmed = is_confirmed(position, t);
@@ -234,8 +300,82 @@ static void transaction(struct json *json, const struct entry *entry, uint8_t t)
     key_height(json, "deadline", deadline_of(position, t));
     key_sides(json, "pays", can_pay(position, t));
     key_window(json, entry, t);
-    key_verdicts(json, entry, t);
+    key_verdicts(json, question, entry, t);
     end(json, '}');
+}
+
+/* The longest outage from now that costs a side nothing: any, or so many blocks, null where there is none; and what bounds
+ * it. */
+static void slack(struct json *json, const struct slack *slack)
+{
+    bool bound = slack->reach != ANY;
+
+    key_bool(json, "any", !bound);
+    key_blocks(json, "blocks", slack->reach == SOME ? slack->blocks : SWAP_NEVER);
+    key_string(json, "swap", bound ? slack->entry->name : NULL);
+    key_string(json, "transaction", bound ? transaction_label(&slack->entry->swap, slack->t).text : NULL);
+}
+
+/* The same of each side of a swap. */
+static void key_longest(struct json *json, const struct question *question, const struct entry *entry)
+{
+    key(json, "longest");
+    begin(json, '[');
+    for (uint8_t side = SWAP_ALICE; side <= SWAP_CAROL; side++) {
+        if (is_shown(entry, side)) {
+            struct slack own = slack_of(question, entry, side);
+
+            begin(json, '{');
+            key_string(json, "side", party_name(side));
+            slack(json, &own);
+            end(json, '}');
+        }
+    }
+    end(json, ']');
+}
+
+/* The stretches in which an outage costs a side nothing, in blocks from now; null where they are not asked for. */
+static void key_slots(struct json *json, const struct question *question, const struct desk *desk, uint8_t side)
+{
+    struct slots slots;
+
+    if (question->slots == 0 || !slots_of(question, desk, side, &slots)) {
+        key_string(json, "slots", NULL);
+        return;
+    }
+    key(json, "slots");
+    begin(json, '[');
+    for (size_t i = 0; i < slots.count; i++) {
+        begin(json, '{');
+        key_number(json, "first", slots.slots[i].first);
+        if (slots.slots[i].last == SLOT_OPEN) {
+            key_string(json, "last", NULL);
+        } else {
+            key_number(json, "last", slots.slots[i].last);
+        }
+        end(json, '}');
+    }
+    end(json, ']');
+    free(slots.slots);
+}
+
+/* How long and when the box of each side can be off, over all its swaps. */
+static void key_outages(struct json *json, const struct question *question, const struct desk *desk)
+{
+    key(json, "outages");
+    begin(json, '[');
+    for (uint8_t side = SWAP_ALICE; side <= SWAP_CAROL; side++) {
+        if (has_side(desk, side)) {
+            struct slack least = desk_slack(question, desk, side);
+
+            begin(json, '{');
+            key_string(json, "side", party_name(side));
+            slack(json, &least);
+            key_slots(json, question, desk, side);
+            end(json, '}');
+        }
+    }
+    end(json, ']');
 }
 
 /* The blocks of the outage; null where it has none. */
@@ -252,7 +392,7 @@ static void key_outage(struct json *json, const struct outage *outage)
     end(json, '}');
 }
 
-static void sound(struct json *json, const struct entry *entry)
+static void sound(struct json *json, const struct question *question, const struct entry *entry)
 {
     const struct position *position = &entry->position;
     const struct swap *swap = &entry->swap;
@@ -266,10 +406,11 @@ static void sound(struct json *json, const struct entry *entry)
     key_number(json, "mined", position->mined);
     key_blocks(json, "base", entry->based ? entry->base : SWAP_NEVER);
     key_outage(json, &entry->outage);
+    key_longest(json, question, entry);
     key(json, "transactions");
     begin(json, '[');
     for (uint8_t t = 0; t < count_of(swap); t++) {
-        transaction(json, entry, t);
+        transaction(json, question, entry, t);
     }
     end(json, ']');
 }
@@ -301,6 +442,7 @@ static void key_question(struct json *json, const struct question *question)
     key_blocks(json, "in", question->from > 0 ? SWAP_NEVER : question->in);
     key_blocks(json, "from", question->from > 0 ? question->from : SWAP_NEVER);
     key_number(json, "margin", question->margin);
+    key_time(json, "at", question->clock.set, question->clock.at);
     end(json, '}');
 }
 
@@ -324,6 +466,8 @@ void show_json(const struct question *question, const struct desk *desk, const s
     line(&json);
     key_totals(&json, totals);
     line(&json);
+    key_outages(&json, question, desk);
+    line(&json);
     key(&json, "swaps");
     begin(&json, '[');
     for (size_t i = 0; i < desk->count; i++) {
@@ -334,7 +478,7 @@ void show_json(const struct question *question, const struct desk *desk, const s
         key_string(&json, "name", entry->name);
         json.base = entry->base;
         if (is_sound(entry)) {
-            sound(&json, entry);
+            sound(&json, question, entry);
         } else {
             faulty(&json, entry);
         }

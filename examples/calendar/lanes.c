@@ -1,7 +1,6 @@
 #include "lanes.h"
 
 #include "markup.h"
-#include "screen.h"
 #include "words.h"
 
 /* Labels on an axis, at most. */

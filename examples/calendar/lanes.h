@@ -10,6 +10,7 @@
 struct axis {
     size_t table;
     uint64_t span;
+    bool from_now; /* whether its numbers are blocks from now, and not heights */
 };
 
 /* Widens an axis to show the transaction's window and the outage; what lies further than four times the outage, and

@@ -37,8 +37,23 @@ static void write_json(FILE *to, const char *text, size_t length)
     }
 }
 
+/* The same in iCalendar. */
+static void write_escaped(FILE *to, const char *text, size_t length)
+{
+    if (is_control(text)) {
+        fputc('?', to);
+    } else {
+        fputs(strchr("\\;,", *text) != NULL ? "\\" : "", to);
+        fwrite(text, 1, length, to);
+    }
+}
+
 void write_text(FILE *to, enum markup markup, const char *text)
 {
+    if (markup == AS_TEXT) {
+        print_visible(to, text);
+        return;
+    }
     while (*text != '\0') {
         size_t length = character(text);
 
@@ -46,6 +61,8 @@ void write_text(FILE *to, enum markup markup, const char *text)
             fputs(replacement, to);
         } else if (markup == AS_HTML) {
             write_html(to, text, length);
+        } else if (markup == AS_ICS) {
+            write_escaped(to, text, length);
         } else {
             write_json(to, text, length);
         }

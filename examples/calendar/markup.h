@@ -1,14 +1,18 @@
-/* Text and numbers inside HTML and JSON. */
+/* Text and numbers inside HTML, JSON and iCalendar, and in plain lines. */
 #ifndef MARKUP_H
 #define MARKUP_H
 
 #include <stdint.h>
 #include <stdio.h>
 
-enum markup { AS_HTML, AS_JSON };
+/* The beginning of a table's cell with a number, to be printed with the column's name, which a narrow screen shows. */
+#define NUMBER "<td class=\"n\" data-name=\"%s\">"
+
+enum markup { AS_HTML, AS_JSON, AS_ICS, AS_TEXT };
 
 /* Writes a text so that it is read as such: what is special there is escaped, and a byte that is no UTF-8 becomes the
- * replacement character. Control characters are question marks in HTML. */
+ * replacement character. Control characters are question marks in HTML and iCalendar; in
+ * plain lines these bytes are too. */
 void write_text(FILE *to, enum markup markup, const char *text);
 
 /* Writes a number in decimal. */

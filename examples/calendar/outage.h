@@ -20,6 +20,7 @@ enum kind {
     WARNING, /* it can pay the side, or one below it can, and the outage covers its soonest deadline */
     BEFORE,  /* the same, but it is due before the outage begins: the box is on until then */
     AHEAD,   /* its deadline comes after the outage */
+    TAKEN,   /* it is in the pool and pays another party */
     SENT,    /* it is safe in the pool: the box is not needed */
     FREE,    /* it has no deadline, or one that is passed, with nothing left to lose by it */
     OTHERS,  /* neither it nor one below it can pay the side */
@@ -33,6 +34,10 @@ enum kind {
  * and cannot be sent after it: it is due before the outage.
  */
 enum kind kind_of(const struct position *position, const struct outage *outage, uint8_t t, uint8_t side);
+
+/* Whether the window of a transaction, which is open, ends for good: its soonest deadline is the report's too, so it cannot
+ * move any more, and nothing can be sent after it. */
+bool ends_for_good(const struct position *position, uint8_t t);
 
 /* Who can be paid by it or by one below it, as payees are. */
 uint8_t can_pay(const struct position *position, uint8_t t);

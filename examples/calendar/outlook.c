@@ -1,6 +1,8 @@
 #include "outlook.h"
 
+#include "action.h"
 #include "after.h"
+#include "words.h"
 
 void print_question(FILE *to, const struct question *question)
 {
@@ -17,6 +19,22 @@ void print_question(FILE *to, const struct question *question)
     if (question->margin > 0) {
         fprintf(to, ", margin %lu", (unsigned long)question->margin);
     }
+    if (question->clock.set) {
+        fprintf(to, "; height %lu at ", (unsigned long)question->clock.height);
+        print_local(to, question->clock.at);
+        fprintf(to, ", ~ is an estimate by %lu minutes a block, with the hours of 5 and 95 in 100 cases",
+                (unsigned long)question->clock.minutes);
+    }
+}
+
+void print_what_to_do(FILE *to, const struct question *question, const struct entry *entry, uint8_t t, uint8_t side)
+{
+    struct action action = action_of(question, entry, t, side);
+
+    if (action.act == DO && action.payee != SWAP_NONE) {
+        fprintf(to, "sent, pays %s; ", destination_name(action.payee));
+    }
+    print_action(to, question, entry, &action);
 }
 
 /* What can be confirmed after its window. */
@@ -41,10 +59,13 @@ void print_outlook(FILE *to, const struct question *question, const struct entry
     case WARNING:
     case BEFORE:
     case AHEAD:
+        print_what_to_do(to, question, entry, t, side);
+        fprintf(to, "; ");
         print_after(to, question, entry, t, kind);
         break;
+    case TAKEN:
     case SENT:
-        fprintf(to, "sent, box not needed");
+        print_what_to_do(to, question, entry, t, side);
         break;
     case FREE:
         fprintf(to, "no deadline ahead");

@@ -1,9 +1,11 @@
 #include "page.h"
 
 #include <stdlib.h>
+#include <time.h>
 
 #include "lanes.h"
 #include "markup.h"
+#include "outages.h"
 #include "outlook.h"
 #include "screen.h"
 #include "section.h"
@@ -12,16 +14,28 @@
 static const char *const head[] = {
     "<!DOCTYPE html>\n<html lang=\"en\">\n<head>\n<meta charset=\"utf-8\"/>\n",
     "<meta name=\"viewport\" content=\"width=device-width, initial-scale=1\"/>\n",
+    "<meta name=\"color-scheme\" content=\"light dark\"/>\n",
     "<style>\n",
-    "body { font: 14px/1.35 sans-serif; color: #111; background: #fff; margin: 16px; }\n",
+    ":root { --ink: #111; --paper: #fff; --faint: #555; --rule: #ddd; --line: #ccc; --alarm: #b00020;\n",
+    "--band: #e2e2e2; --dot: #777; --pale: #f6f6f6; --pale-dot: #aaa; --hatch: #ffb3b3; --edge: #8b0000;\n",
+    "--bar: #bcd4ee; --bar-edge: #1f4e86; }\n",
+    "@media screen and (prefers-color-scheme: dark) {\n",
+    ":root { --ink: #e8e8e8; --paper: #16181c; --faint: #a8a8a8; --rule: #3a3d42; --line: #44484e; --alarm: #ff8a94;\n",
+    "--band: #2f3238; --dot: #8a8f98; --pale: #22252a; --pale-dot: #666b73; --hatch: #5c1f28; --edge: #ff8a94;\n",
+    "--bar: #274a70; --bar-edge: #9cc4f0; }\n",
+    "}\n",
+    "body { font: 14px/1.35 sans-serif; color: var(--ink); background: var(--paper); margin: 16px; }\n",
+    "body { overflow-wrap: anywhere; }\n",
     "h1 { font-size: 20px; margin: 0 0 4px; }\n",
-    "h2 { font-size: 16px; margin: 22px 0 2px; border-top: 1px solid #999; padding-top: 8px; }\n",
+    "h2 { font-size: 16px; margin: 0; display: inline; }\n",
+    "section { border-top: 1px solid var(--faint); padding: 8px 0; }\n",
+    "summary { cursor: pointer; }\n",
     "p { margin: 2px 0 6px; max-width: 110em; }\n",
     "a { color: inherit; }\n",
     "table { border-collapse: collapse; width: 100%; font-variant-numeric: tabular-nums; }\n",
     "th, td { text-align: left; padding: 1px 8px 1px 0; vertical-align: middle; font-weight: normal; }\n",
-    "thead th { border-bottom: 1px solid #111; font-weight: bold; vertical-align: bottom; }\n",
-    "tbody tr { border-bottom: 1px solid #ddd; }\n",
+    "thead th { border-bottom: 1px solid var(--ink); font-weight: bold; vertical-align: bottom; }\n",
+    "tbody tr { border-bottom: 1px solid var(--rule); }\n",
     "section tbody th, .n { white-space: nowrap; }\n",
     ".n { text-align: right; }\n",
     ".lane { width: 32%; min-width: 180px; }\n",
@@ -29,36 +43,57 @@ static const char *const head[] = {
     "section .lane { width: 27%; }\n",
     ".name bdi { display: inline-block; max-width: 12em; overflow-wrap: break-word; }\n",
     "ul.settled { margin: 2px 0 6px; padding: 0; }\n",
-    ".settled li { display: inline; white-space: nowrap; }\n",
-    ".settled li + li::before { content: \"; \"; white-space: normal; }\n",
+    ".settled li { display: inline; }\n",
+    ".settled li + li::before { content: \"; \"; }\n",
     ".mark { font-weight: bold; white-space: nowrap; }\n",
-    ".warning .mark, .faulty .mark, b { color: #b00020; }\n",
-    ".others { color: #555; }\n",
+    ".warning .mark, .faulty .mark, b { color: var(--alarm); }\n",
+    ".others { color: var(--faint); }\n",
     "svg { display: block; width: 100%; height: 20px; overflow: hidden; }\n",
-    "svg.axis { height: 14px; overflow: visible; font-size: 11px; font-weight: normal; }\n",
+    "svg.axis { height: 14px; overflow: visible; font-size: 11px; font-weight: normal; fill: var(--ink); }\n",
     ".legend span { display: inline-block; margin-right: 14px; }\n",
     "svg.sample { display: inline-block; width: 44px; vertical-align: middle; margin-right: 4px; }\n",
     "svg.patterns { position: absolute; width: 0; height: 0; }\n",
     ".label { text-anchor: middle; }\n",
-    ".grid line { stroke: #ccc; }\n",
-    "rect.outage, rect.margin { stroke: #555; stroke-dasharray: 3 2; }\n",
+    ".grid line { stroke: var(--line); }\n",
+    "#outage rect { fill: var(--band); }\n",
+    "#outage circle { fill: var(--dot); }\n",
+    "#margin rect { fill: var(--pale); }\n",
+    "#margin circle { fill: var(--pale-dot); }\n",
+    "#covered rect { fill: var(--hatch); }\n",
+    "#covered rect.stripe { fill: var(--alarm); }\n",
+    "rect.outage, rect.margin { stroke: var(--faint); stroke-dasharray: 3 2; }\n",
     "rect.outage { fill: url(#outage); }\n",
     "rect.margin { fill: url(#margin); }\n",
     "rect.window, rect.covered { stroke-width: 1.5; }\n",
-    "rect.window { fill: #bcd4ee; stroke: #1f4e86; }\n",
-    ".others rect.window { fill: #fff; stroke: #777; }\n",
-    "rect.covered { fill: url(#covered); stroke: #8b0000; stroke-width: 2; }\n",
+    "rect.window { fill: var(--bar); stroke: var(--bar-edge); }\n",
+    ".others rect.window { fill: var(--paper); stroke: var(--dot); }\n",
+    "rect.covered { fill: url(#covered); stroke: var(--edge); stroke-width: 2; }\n",
+    "@media screen and (max-width: 800px) {\n",
+    "body { margin: 8px; }\n",
+    "table, thead, tbody, tr, th, td { display: block; width: auto; min-width: 0; }\n",
+    "thead th { display: none; }\n",
+    "thead th.lane { display: block; }\n",
+    ".lane, section .lane { width: auto; min-width: 0; padding: 2px 0; }\n",
+    "tbody tr { padding: 4px 0; }\n",
+    ".mark, .name, .name + td { display: inline-block; }\n",
+    ".mark:empty { display: none; }\n",
+    ".name bdi { max-width: none; }\n",
+    ".n { display: inline-block; text-align: left; }\n",
+    ".n[data-name]::before { content: attr(data-name) \" \"; color: var(--faint); }\n",
+    "}\n",
     "@media print {\n",
     "@page { size: landscape; margin: 10mm; }\n",
-    "body { margin: 0; font-size: 7.5pt; line-height: 1.2; }\n",
+    "body { margin: 0; font-size: 10pt; line-height: 1.2; }\n",
     "body { print-color-adjust: exact; -webkit-print-color-adjust: exact; }\n",
-    "section, tr { break-inside: avoid; }\n",
+    "section.calm { display: none; }\n",
+    "tr, h2, .facts { break-inside: avoid; }\n",
+    "thead { display: table-header-group; }\n",
     "th, td { padding: 0 6px 0 0; }\n",
     "svg { height: 14px; }\n",
     "svg.axis { font-size: 9px; }\n",
     "rect.window, rect.covered { y: 3px; height: 8px; }\n",
-    "h2 { font-size: 10pt; margin-top: 8px; padding-top: 4px; }\n",
-    "h2 { break-after: avoid; }\n",
+    "h2 { font-size: 11pt; }\n",
+    "summary { break-after: avoid; list-style: none; }\n",
     "a { text-decoration: none; }\n",
     "}\n</style>\n",
 };
@@ -67,11 +102,11 @@ static const char *const head[] = {
 static const char *const legend[] = {
     "<svg class=\"patterns\"><defs>",
     "<pattern id=\"outage\" width=\"6\" height=\"6\" patternUnits=\"userSpaceOnUse\">",
-    "<rect width=\"6\" height=\"6\" fill=\"#e2e2e2\"/><circle cx=\"2\" cy=\"2\" r=\"0.9\" fill=\"#777\"/></pattern>",
+    "<rect width=\"6\" height=\"6\"/><circle cx=\"2\" cy=\"2\" r=\"0.9\"/></pattern>",
     "<pattern id=\"margin\" width=\"6\" height=\"6\" patternUnits=\"userSpaceOnUse\">",
-    "<rect width=\"6\" height=\"6\" fill=\"#f6f6f6\"/><circle cx=\"2\" cy=\"2\" r=\"0.7\" fill=\"#aaa\"/></pattern>",
+    "<rect width=\"6\" height=\"6\"/><circle cx=\"2\" cy=\"2\" r=\"0.7\"/></pattern>",
     "<pattern id=\"covered\" width=\"6\" height=\"6\" patternUnits=\"userSpaceOnUse\" patternTransform=\"rotate(45)\">",
-    "<rect width=\"6\" height=\"6\" fill=\"#ffb3b3\"/><rect width=\"3\" height=\"6\" fill=\"#b00020\"/></pattern>",
+    "<rect width=\"6\" height=\"6\"/><rect class=\"stripe\" width=\"3\" height=\"6\"/></pattern>",
     "</defs></svg>\n",
     "<p class=\"legend\">",
     "<span><svg class=\"sample\"><rect class=\"window\" x=\"2\" y=\"5\" width=\"40\" height=\"10\"/></svg>",
@@ -99,7 +134,9 @@ static void write_head(FILE *page, const struct question *question, const struct
     write_text(page, AS_HTML, question->folder == NULL ? "embedded" : question->folder);
     fputs("</title>\n</head>\n<body>\n<h1>Calendar: ", page);
     write_text(page, AS_HTML, question->folder == NULL ? "embedded" : question->folder);
-    fputs("</h1>\n<p class=\"question\">", page);
+    fputs("</h1>\n<p class=\"written\">written ", page);
+    print_local(page, question->clock.set ? question->clock.at : (int64_t)time(NULL));
+    fputs("</p>\n<p class=\"question\">", page);
     print_question(page, question);
     fputs("</p>\n<p class=\"totals\">", page);
     print_totals(page, totals);
@@ -142,7 +179,7 @@ static void write_fault(FILE *page, const struct entry *entry)
 
     fputs("<th class=\"name\"><bdi>", page);
     write_text(page, AS_HTML, entry->name);
-    fputs("</bdi></th><td class=\"reason\" colspan=\"7\">", page);
+    fputs("</bdi></th><td class=\"reason\" colspan=\"8\">", page);
     if (entry->fault.file != NULL) {
         fprintf(page, "%s: ", entry->fault.file);
         write_text(page, AS_HTML, entry->fault.reason);
@@ -154,23 +191,37 @@ static void write_fault(FILE *page, const struct entry *entry)
     fputs("</td>", page);
 }
 
+/* The block of a line, in the numbers of the axis: a height, or blocks from now. */
+static void write_block(FILE *page, const char *name, const struct line *line, uint32_t block, bool from_now)
+{
+    fprintf(page, NUMBER, name);
+    if (from_now && block != SWAP_NEVER) {
+        uint32_t mined = line->entry->position.mined;
+
+        fputc(block < mined ? '-' : '+', page);
+        write_number(page, block < mined ? mined - block : block - mined);
+    } else {
+        write_height(page, AS_HTML, line->entry->base, block);
+    }
+    fputs("</td>", page);
+}
+
 /* The numbers of a line and its bar. */
 static void write_window(FILE *page, const struct question *question, const struct line *line, const struct axis *axis)
 {
     const struct position *position = &line->entry->position;
 
     if (line->t == SWAP_NONE) {
-        fputs("<td colspan=\"4\">no deadline ahead</td><td class=\"lane\">", page);
+        fputs("<td colspan=\"5\">no deadline ahead</td><td class=\"lane\">", page);
         write_lane(page, axis, question, line->entry, SWAP_NONE, false);
         fputs("</td><td></td>", page);
         return;
     }
-    fprintf(page, "<td>%s</td><td class=\"n\">", transaction_label(position->swap, line->t).text);
-    write_height(page, AS_HTML, line->entry->base, soonest_block_of(position, line->t));
-    fputs("</td><td class=\"n\">", page);
-    write_height(page, AS_HTML, line->entry->base, soonest_deadline_of(position, line->t));
-    fprintf(page, "</td><td class=\"n\">%s</td><td class=\"lane\">",
-            line->left == SWAP_NEVER ? "-" : height_label(0, line->left).text);
+    fprintf(page, "<td>%s</td>", transaction_label(position->swap, line->t).text);
+    write_block(page, "from", line, soonest_block_of(position, line->t), axis->from_now);
+    write_block(page, "to", line, soonest_deadline_of(position, line->t), axis->from_now);
+    fprintf(page, NUMBER "%s</td>" NUMBER "%s</td><td class=\"lane\">", "left",
+            line->left == SWAP_NEVER ? "-" : height_label(0, line->left).text, "free", slack_label(&line->slack).text);
     write_lane(page, axis, question, line->entry, line->t,
                line->urgency == WARNED);
     fputs("</td><td>", page);
@@ -197,14 +248,19 @@ static void write_line(FILE *page, const struct question *question, const struct
 }
 
 /* The first screen, with bars: a line for each swap and side. */
-static void write_overview(FILE *page, const struct question *question, const struct line *lines, size_t count)
+static void write_overview(FILE *page, const struct question *question, const struct desk *desk,
+                           const struct line *lines, size_t count)
 {
     struct axis axis = axis_of(lines, count);
+    uint32_t now = 0;
 
+    axis.from_now = !same_height(desk, &now);
     fputs("<table id=\"overview\">\n<thead><tr><th></th><th>swap</th><th>side</th><th>transaction</th>"
-          "<th class=\"n\">from</th><th class=\"n\">to</th><th class=\"n\">left</th><th class=\"lane\">blocks from now",
+          "<th class=\"n\">from</th><th class=\"n\">to</th><th class=\"n\">left</th><th class=\"n\">free</th>"
+          "<th class=\"lane\">",
           page);
-    write_axis(page, &axis, NULL);
+    fputs(axis.from_now ? "blocks from now" : "blocks", page);
+    write_axis(page, &axis, axis.from_now ? NULL : &now);
     fputs("</th><th class=\"after\">after that</th></tr></thead>\n<tbody>\n", page);
     for (size_t i = 0; i < count; i++) {
         write_line(page, question, &lines[i], &axis);
@@ -212,9 +268,13 @@ static void write_overview(FILE *page, const struct question *question, const st
     fputs("</tbody>\n</table>\n", page);
 }
 
-/* Each swap once, in the order of its first line. */
-static void write_sections(FILE *page, const struct question *question, const struct line *lines, size_t count)
+/* Each swap once, in the order of its first line, which has its warnings if any side has some; open is one with warnings
+ * or alone. */
+static void write_sections(FILE *page, const struct question *question, const struct desk *desk,
+                           const struct line *lines, size_t count)
 {
+    bool alone = desk->count == 1;
+
     for (size_t i = 0; i < count; i++) {
         size_t first = 0;
 
@@ -222,7 +282,7 @@ static void write_sections(FILE *page, const struct question *question, const st
             first++;
         }
         if (first == i && lines[i].urgency != FAULTY) {
-            write_section(page, question, lines[i].entry, lines[i].place + 1);
+            write_section(page, question, lines[i].entry, lines[i].place + 1, lines[i].warnings > 0 || alone);
         }
     }
 }
@@ -230,15 +290,17 @@ static void write_sections(FILE *page, const struct question *question, const st
 bool write_page(FILE *page, const struct question *question, const struct desk *desk, const struct totals *totals)
 {
     size_t count;
-    struct line *lines = lines_by_urgency(desk, &count);
+    struct line *lines = lines_by_urgency(question, desk, &count);
+    bool sound;
 
     if (lines == NULL) {
         return false;
     }
     write_head(page, question, totals);
-    write_overview(page, question, lines, count);
-    write_sections(page, question, lines, count);
+    write_overview(page, question, desk, lines, count);
+    sound = print_outages(page, AS_HTML, question, desk);
+    write_sections(page, question, desk, lines, count);
     fputs("</body>\n</html>\n", page);
     free(lines);
-    return true;
+    return sound;
 }

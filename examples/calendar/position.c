@@ -1,5 +1,7 @@
 #include "position.h"
 
+#include <string.h>
+
 /* The kind 6 steps of a journal. */
 static uint32_t blocks_mined(const struct swap *swap)
 {
@@ -96,9 +98,52 @@ uint32_t soonest_deadline_of(const struct position *position, uint8_t t)
     return swap_number(position->outage + SWAP_OUTAGE_ROW * t + SWAP_OUTAGE_SOONEST_DEADLINE);
 }
 
+uint32_t blocks_left(const struct position *position, uint8_t t)
+{
+    uint32_t deadline = soonest_deadline_of(position, t);
+
+    if (deadline == SWAP_NEVER) {
+        return SWAP_NEVER;
+    }
+    return deadline > position->mined ? deadline - position->mined : 0;
+}
+
 bool is_confirmed(const struct position *position, uint8_t t)
 {
     return (status_of(position, t) & SWAP_CONFIRMED) != 0;
+}
+
+/* The destinations of a transaction's last entries in the pool and in the block, by the steps that put it there. */
+static void last_entries(const struct swap *swap, uint8_t t, uint8_t *pool, uint8_t *block)
+{
+    for (size_t at = 0; at < swap->journal_length; at += 4) {
+        const uint8_t *step = swap->journal + at;
+
+        if (step[0] < SWAP_SEND || step[2] != t) {
+            continue;
+        }
+        if (step[0] == SWAP_SEND) {
+            *pool = step[3];
+        } else {
+            *block = step[0] == SWAP_HAND_IN ? step[3] : *pool;
+        }
+    }
+}
+
+uint8_t sent_to(const struct position *position, uint8_t t)
+{
+    uint8_t status = status_of(position, t);
+    uint8_t pool = SWAP_NONE;
+    uint8_t block = SWAP_NONE;
+
+    if ((status & (SWAP_IN_POOL | SWAP_IN_BLOCK)) == 0) {
+        return SWAP_NONE;
+    }
+    if (payees_of(position->swap, t) == 0) {
+        return SWAP_CONTRACT;
+    }
+    last_entries(position->swap, t, &pool, &block);
+    return (status & SWAP_IN_BLOCK) != 0 ? block : pool;
 }
 
 /* The confirmed child of a transaction, or SWAP_NONE. */
@@ -122,6 +167,16 @@ uint8_t last_confirmed(const struct position *position, uint8_t opening)
         next = confirmed_child(position, last);
     }
     return last;
+}
+
+bool is_open(const struct position *position, const uint8_t step[4])
+{
+    for (uint32_t i = 0; i < position->open_count; i++) {
+        if (memcmp(position->open + 4 * i, step, 4) == 0) {
+            return true;
+        }
+    }
+    return false;
 }
 
 /* Whether an open step sends the transaction: the party's, or another's. */

@@ -37,11 +37,21 @@ uint8_t payees_below(const struct position *position, uint8_t t);
 uint32_t soonest_block_of(const struct position *position, uint8_t t);
 uint32_t soonest_deadline_of(const struct position *position, uint8_t t);
 
+/* Blocks until the window of a transaction ends, 0 where it is passed; or SWAP_NEVER. */
+uint32_t blocks_left(const struct position *position, uint8_t t);
+
 bool is_confirmed(const struct position *position, uint8_t t);
+
+/* Where the next block sends a transaction that is in it, or else in the pool: SWAP_CONTRACT or a party. SWAP_NONE where it
+ * is in neither. */
+uint8_t sent_to(const struct position *position, uint8_t t);
 
 /* The transaction whose payee holds the coin of this opening: the confirmed one, the opening or below it, that has no
  * confirmed child. SWAP_NONE where the opening is not confirmed. */
 uint8_t last_confirmed(const struct position *position, uint8_t opening);
+
+/* Whether the step is open. */
+bool is_open(const struct position *position, const uint8_t step[4]);
 
 /* Whether the party has an open step that sends the transaction, to the pool or to the miner. */
 bool can_be_sent(const struct position *position, uint8_t party, uint8_t t);

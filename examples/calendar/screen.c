@@ -3,22 +3,13 @@
 #include <stdio.h>
 #include <stdlib.h>
 
+#include "outages.h"
 #include "outlook.h"
 #include "rivals.h"
 #include "words.h"
 
 /* The names of swaps and transactions, and the marks before them. */
 enum { MARK_WIDTH = 11, NAME_WIDTH = 16 };
-
-uint32_t blocks_left(const struct position *position, uint8_t t)
-{
-    uint32_t deadline = soonest_deadline_of(position, t);
-
-    if (deadline == SWAP_NEVER) {
-        return SWAP_NEVER;
-    }
-    return deadline > position->mined ? deadline - position->mined : 0;
-}
 
 static bool is_contested(const struct position *position, uint8_t t, uint8_t side)
 {
@@ -41,6 +32,8 @@ static unsigned urgency_of(const struct entry *entry, uint8_t t, uint8_t side)
         return DUE_BEFORE;
     case AHEAD:
         return DUE_AFTER;
+    case TAKEN:
+        return AWAY;
     case SENT:
         return UNDER_WAY;
     case FREE:
@@ -82,7 +75,7 @@ static struct line line_of(const struct desk *desk, bool mixed, size_t place, ui
 }
 
 /* The lines of all swaps; a swap that is no good has one. */
-static size_t lines_of(const struct desk *desk, struct line *lines)
+static size_t lines_of(const struct question *question, const struct desk *desk, struct line *lines)
 {
     bool mixed = is_mixed(desk);
     size_t count = 0;
@@ -91,7 +84,10 @@ static size_t lines_of(const struct desk *desk, struct line *lines)
         for (uint8_t side = SWAP_ALICE; side <= SWAP_CAROL; side++) {
             const struct entry *entry = desk->entries[i];
 
-            if (is_sound(entry) ? is_shown(entry, side) : side == SWAP_ALICE) {
+            if (is_sound(entry) && is_shown(entry, side)) {
+                lines[count] = line_of(desk, mixed, i, side);
+                lines[count++].slack = slack_of(question, entry, side);
+            } else if (!is_sound(entry) && side == SWAP_ALICE) {
                 lines[count++] = line_of(desk, mixed, i, side);
             }
         }
@@ -160,20 +156,20 @@ static void show_line(const struct question *question, const struct line *line)
         printf("no deadline ahead\n");
         return;
     }
-    printf("%-21s%8s%8s%7s  ", transaction_label(position->swap, line->t).text,
+    printf("%-21s%8s%8s%7s%7s  ", transaction_label(position->swap, line->t).text,
            height_label(line->entry->base, soonest_block_of(position, line->t)).text,
            height_label(line->entry->base, soonest_deadline_of(position, line->t)).text,
-           line->left == SWAP_NEVER ? "-" : height_label(0, line->left).text);
+           line->left == SWAP_NEVER ? "-" : height_label(0, line->left).text, slack_label(&line->slack).text);
     print_outlook(stdout, question, line->entry, line->t, line->side);
     printf("%s\n", line->own_blocks ? OWN_BLOCKS : "");
 }
 
-struct line *lines_by_urgency(const struct desk *desk, size_t *count)
+struct line *lines_by_urgency(const struct question *question, const struct desk *desk, size_t *count)
 {
     struct line *lines = malloc((SWAP_PARTIES * desk->count + 1) * sizeof *lines);
 
     if (lines != NULL) {
-        *count = lines_of(desk, lines);
+        *count = lines_of(question, desk, lines);
         qsort(lines, *count, sizeof *lines, by_urgency);
     }
     return lines;
@@ -182,15 +178,15 @@ struct line *lines_by_urgency(const struct desk *desk, size_t *count)
 bool show_screen(const struct question *question, const struct desk *desk)
 {
     size_t count;
-    struct line *lines = lines_by_urgency(desk, &count);
+    struct line *lines = lines_by_urgency(question, desk, &count);
 
     if (lines == NULL) {
         return false;
     }
     print_question(stdout, question);
     printf("\n");
-    printf("%-*s%-*s %-6s%-21s%8s%8s%7s  %s\n", MARK_WIDTH, "", NAME_WIDTH, "swap", "side", "transaction", "from", "to",
-           "left", "after that");
+    printf("%-*s%-*s %-6s%-21s%8s%8s%7s%7s  %s\n", MARK_WIDTH, "", NAME_WIDTH, "swap", "side", "transaction", "from",
+           "to", "left", "free", "after that");
     for (size_t i = 0; i < count; i++) {
         show_line(question, &lines[i]);
     }

@@ -2,12 +2,12 @@
 #ifndef SCREEN_H
 #define SCREEN_H
 
-#include "desk.h"
+#include "slack.h"
 
-/* The urgency of a transaction: a warning, what is due before the outage or after it, what is sent, and what has no
- * deadline ahead but a rival in the way; of the same urgency the fewest blocks left come first, 0 where only a hand-in is
- * left. The last is that of no transaction; the first that of a swap that is no good. */
-enum { FAULTY, WARNED, DUE_BEFORE, DUE_AFTER, UNDER_WAY, CONTESTED, NO_DEADLINE };
+/* The urgency of a transaction: a warning, what is due before the outage or after it, what is sent for another party, what
+ * is sent, and what has no deadline ahead but a rival in the way; of the same urgency the fewest blocks left come first,
+ * 0 where only a hand-in is left. The last is that of no transaction; the first that of a swap that is no good. */
+enum { FAULTY, WARNED, DUE_BEFORE, DUE_AFTER, AWAY, UNDER_WAY, CONTESTED, NO_DEADLINE };
 
 /* A line: a swap that is no good, or the most urgent transaction of a side. */
 struct line {
@@ -18,6 +18,7 @@ struct line {
     unsigned urgency;  /* the less, the sooner */
     uint32_t left;     /* blocks until its window ends, or SWAP_NEVER */
     unsigned warnings; /* of this swap and side */
+    struct slack slack;
     bool own_blocks;   /* its heights are the swap's own blocks, beside others that are the real chain's */
 };
 
@@ -25,10 +26,7 @@ struct line {
 #define OWN_BLOCKS "; blocks of its own, no base"
 
 /* The lines of all swaps, the most urgent first; NULL where there is no memory. */
-struct line *lines_by_urgency(const struct desk *desk, size_t *count);
-
-/* Blocks until the window of a transaction ends, 0 where it is passed; or SWAP_NEVER. */
-uint32_t blocks_left(const struct position *position, uint8_t t);
+struct line *lines_by_urgency(const struct question *question, const struct desk *desk, size_t *count);
 
 /* Prints it; false where there is no memory. */
 bool show_screen(const struct question *question, const struct desk *desk);

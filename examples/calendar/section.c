@@ -3,7 +3,6 @@
 #include "lanes.h"
 #include "markup.h"
 #include "outlook.h"
-#include "screen.h"
 #include "sides.h"
 #include "words.h"
 
@@ -91,16 +90,23 @@ static void write_side(FILE *page, const struct question *question, const struct
 
 static void write_heights(FILE *page, uint32_t base, const struct position *position, uint8_t t)
 {
-    const uint32_t heights[] = {lock_height_of(position, t), deadline_of(position, t), soonest_block_of(position, t),
-                                soonest_deadline_of(position, t)};
+    const struct {
+        const char *name;
+        uint32_t height;
+    } cells[] = {
+        {"lock height", lock_height_of(position, t)},
+        {"deadline", deadline_of(position, t)},
+        {"from", soonest_block_of(position, t)},
+        {"to", soonest_deadline_of(position, t)},
+    };
     uint32_t left = blocks_left(position, t);
 
-    for (size_t i = 0; i < sizeof heights / sizeof heights[0]; i++) {
-        fputs("<td class=\"n\">", page);
-        write_height(page, AS_HTML, base, heights[i]);
+    for (size_t i = 0; i < sizeof cells / sizeof cells[0]; i++) {
+        fprintf(page, NUMBER, cells[i].name);
+        write_height(page, AS_HTML, base, cells[i].height);
         fputs("</td>", page);
     }
-    fprintf(page, "<td class=\"n\">%s</td>", left == SWAP_NEVER ? "-" : height_label(0, left).text);
+    fprintf(page, NUMBER "%s</td>", "left", left == SWAP_NEVER ? "-" : height_label(0, left).text);
 }
 
 static void write_row(FILE *page, const struct question *question, const struct entry *entry, uint8_t t,
@@ -140,7 +146,7 @@ static void write_title(FILE *page, const struct entry *entry)
             }
         }
     }
-    fputs("</h2>\n", page);
+    fputs("</h2>", page);
 }
 
 static void write_table(FILE *page, const struct question *question, const struct entry *entry, const struct axis *axis)
@@ -161,21 +167,23 @@ static void write_table(FILE *page, const struct question *question, const struc
     fputs("</tbody>\n</table>\n", page);
 }
 
-void write_section(FILE *page, const struct question *question, const struct entry *entry, size_t number)
+void write_section(FILE *page, const struct question *question, const struct entry *entry, size_t number, bool open)
 {
-    struct axis axis = {.table = number, .span = 0};
+    struct axis axis = {.table = number};
 
     for (uint8_t t = 0; t < count_of(&entry->swap); t++) {
         if (!is_settled(entry, t)) {
             widen(&axis, entry, t);
         }
     }
-    fprintf(page, "<section id=\"swap-%lu\">\n", (unsigned long)number);
+    fprintf(page, "<section id=\"swap-%lu\" class=\"%s\">\n<details%s>\n<summary>", (unsigned long)number,
+            open ? "open" : "calm", open ? " open=\"\"" : "");
     write_title(page, entry);
+    fputs("</summary>\n", page);
     write_facts(page, entry);
     write_settled(page, entry);
     if (axis.span > 0) {
         write_table(page, question, entry, &axis);
     }
-    fputs("</section>\n", page);
+    fputs("</details>\n</section>\n", page);
 }

@@ -6,7 +6,7 @@
 
 #include "desk.h"
 
-/* Writes it for a swap that is sound; the number is that of its table. */
-void write_section(FILE *page, const struct question *question, const struct entry *entry, size_t number);
+/* Writes it for a swap that is sound; the number is that of its table. One that is not open is folded, and not printed. */
+void write_section(FILE *page, const struct question *question, const struct entry *entry, size_t number, bool open);
 
 #endif

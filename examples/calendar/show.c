@@ -2,7 +2,10 @@
 
 #include <stdio.h>
 
+#include "../common/steps.h"
 #include "after.h"
+#include "outages.h"
+#include "outlook.h"
 #include "saswap.h"
 #include "words.h"
 
@@ -55,9 +58,7 @@ static void show_open_steps(const struct position *position, uint8_t party)
         const uint8_t *step = position->open + 4 * i;
 
         if (step[1] == party) {
-            printf("    ");
-            print_step(position->swap, step);
-            printf("\n");
+            printf("    %s\n", step_words(position->swap, step).text);
             shown++;
         }
     }
@@ -116,12 +117,29 @@ static void show_no_window(const struct position *position, uint8_t t, uint32_t 
     }
 }
 
+/* What the side can do about a transaction, before what can happen to it. */
+static void show_action(const struct entry *entry, uint8_t t, uint8_t side, const struct question *question)
+{
+    enum kind kind = kind_of(&entry->position, &entry->outage, t, side);
+
+    if (kind == WARNING) {
+        printf("WARNING: ");
+    } else if (kind == BEFORE) {
+        printf("due before the outage: ");
+    }
+    if (kind <= SENT) {
+        print_what_to_do(stdout, question, entry, t, side);
+    }
+    if (kind < TAKEN) {
+        printf("; ");
+    }
+}
+
 /* A transaction that the outage covers. */
 static void show_warning(const struct entry *entry, uint8_t t, const struct question *question)
 {
     const struct position *position = &entry->position;
 
-    printf("WARNING: ");
     if (soonest_deadline_of(position, t) <= position->mined) {
         printf("block %s was the latest, a hand-in may save it, ",
                height_label(entry->base, soonest_deadline_of(position, t)).text);
@@ -142,14 +160,11 @@ static void show_kind(const struct entry *entry, uint8_t t, enum kind kind, cons
         show_warning(entry, t, question);
         break;
     case BEFORE:
-        printf("due before the outage: ");
-        show_window(&entry->position, t, entry->base);
-        break;
     case AHEAD:
         show_window(&entry->position, t, entry->base);
         break;
+    case TAKEN:
     case SENT:
-        printf("sent, box not needed");
         break;
     case FREE:
         show_no_window(&entry->position, t, entry->base);
@@ -164,12 +179,16 @@ static void show_kind(const struct entry *entry, uint8_t t, enum kind kind, cons
 static void show_standing(const struct position *position, uint8_t t, uint8_t side, uint32_t base)
 {
     uint8_t status = status_of(position, t);
+    uint8_t payee = sent_to(position, t);
 
     if ((status & SWAP_IN_POOL) != 0) {
         printf("; in the pool");
     }
     if ((status & SWAP_IN_BLOCK) != 0) {
         printf("; in the block being filled");
+    }
+    if (payee != SWAP_NONE && payee != SWAP_CONTRACT) {
+        printf(", paying %s", party_name(payee));
     }
     if (can_be_sent(position, side, t)) {
         printf("; can be sent now");
@@ -210,6 +229,7 @@ static void show_deadlines(const struct entry *entry, uint8_t side, const struct
         if (kind != SETTLED) {
             printf("    %-22s%-8s", transaction_label(position->swap, t).text,
                    payees_name(position->swap, can_pay(position, t)));
+            show_action(entry, t, side, question);
             show_kind(entry, t, kind, question);
             show_standing(position, t, side, entry->base);
             if (kind != OTHERS) {
@@ -224,6 +244,16 @@ static void show_deadlines(const struct entry *entry, uint8_t side, const struct
     }
 }
 
+/* The longest outage from now that costs the side nothing, and what bounds it. */
+static void show_longest(const struct entry *entry, uint8_t side, const struct question *question)
+{
+    struct slack slack = slack_of(question, entry, side);
+
+    printf("  longest outage from now that costs %s nothing: %s%s%s\n", party_name(side), slack_label(&slack).text,
+           slack.reach == ANY ? "" : ", bounded by ",
+           slack.reach == ANY ? "" : transaction_label(&entry->swap, slack.t).text);
+}
+
 /* The refused step, in words where its fields are in range. */
 static void show_refused_step(const struct swap *swap, uint32_t refusal, uint32_t accepted)
 {
@@ -232,11 +262,8 @@ static void show_refused_step(const struct swap *swap, uint32_t refusal, uint32_
     printf("  refused step: %lu of %lu, bytes %u %u %u %u", (unsigned long)accepted + 1,
            (unsigned long)(swap->journal_length / 4), (unsigned)step[0], (unsigned)step[1], (unsigned)step[2],
            (unsigned)step[3]);
-    if (refusal != SWAP_STEP_FIELD) {
-        printf(", %s: ", party_name(step[1]));
-        print_step(swap, step);
-    }
-    printf("\n");
+    printf("%s%s\n", refusal != SWAP_STEP_FIELD ? ", " : "",
+           refusal != SWAP_STEP_FIELD ? step_words(swap, step).text : "");
 }
 
 static void show_refusal(const struct swap *swap, uint32_t answer)
@@ -267,6 +294,7 @@ static void show_position_of(const struct entry *entry, const struct question *q
     for (uint8_t side = SWAP_ALICE; side <= SWAP_CAROL; side++) {
         if (is_shown(entry, side)) {
             show_deadlines(entry, side, question);
+            show_longest(entry, side, question);
         }
     }
 }

@@ -1,8 +1,12 @@
 //! What the calendar of `examples/calendar` prints, written a second time over the model.
 
+mod action;
 mod after;
 mod cases;
+pub mod clock;
 pub mod data;
+pub mod ics;
+pub mod outages;
 pub mod page;
 pub mod rule;
 mod screen;
@@ -16,14 +20,35 @@ use crate::model::setup::Setup;
 use crate::model::sheet::Head;
 use crate::model::{ALICE, BOB, CAROL};
 use crate::samples::{Files, FILES};
+use crate::swapfile;
+use clock::Clock;
 use view::View;
-use words::{party_name, Names};
+use words::Names;
 
 /// The length of an outage.
 #[derive(Clone, Copy, Debug, PartialEq, Eq)]
 pub enum Length {
     Days(u32),
     Blocks(u32),
+}
+
+impl Length {
+    pub fn blocks(self, setup: &Setup) -> u32 {
+        match self {
+            Length::Days(days) => days * setup.blocks_per_day,
+            Length::Blocks(blocks) => blocks,
+        }
+    }
+
+    /// "1 day", "3 blocks".
+    pub fn words(self) -> String {
+        match self {
+            Length::Days(1) => "1 day".to_string(),
+            Length::Days(days) => format!("{days} days"),
+            Length::Blocks(1) => "1 block".to_string(),
+            Length::Blocks(blocks) => format!("{blocks} blocks"),
+        }
+    }
 }
 
 /// When an outage begins: after so many blocks from now, or in the block of this height of the real chain.
@@ -42,8 +67,11 @@ pub struct Question {
     pub length: Length,
     pub start: Start,
     pub margin: u32,
+    /// The length of an outage for which stretches are asked.
+    pub slots: Option<Length>,
     /// By each swap's folder where None.
     pub base: Option<u32>,
+    pub clock: Option<Clock>,
 }
 
 impl Default for Question {
@@ -54,7 +82,9 @@ impl Default for Question {
             length: Length::Days(1),
             start: Start::After(0),
             margin: 0,
+            slots: None,
             base: None,
+            clock: None,
         }
     }
 }
@@ -76,8 +106,17 @@ impl Question {
             Start::Height(from) => format!(" --from {from}"),
         };
         words += &format!(" --margin {}", self.margin);
+        words += &match self.slots {
+            None => String::new(),
+            Some(Length::Blocks(blocks)) => format!(" --slots {blocks}"),
+            Some(Length::Days(days)) => format!(" --slots {days}d"),
+        };
         if let Some(base) = self.base {
             words += &format!(" --base {base}");
+        }
+        if let Some(clock) = self.clock {
+            let (height, at, minutes) = (clock.height, clock::iso(clock.at), clock.minutes);
+            words += &format!(" --height {height} --at {at} --minutes {minutes}");
         }
         if let Some(side) = self.side {
             words += [" --side alice", " --side bob", "", " --side carol"][usize::from(side)];
@@ -90,10 +129,7 @@ impl Question {
 
     /// The blocks of the outage.
     pub fn blocks(&self, setup: &Setup) -> u32 {
-        match self.length {
-            Length::Days(days) => days * setup.blocks_per_day,
-            Length::Blocks(blocks) => blocks,
-        }
+        self.length.blocks(setup)
     }
 }
 
@@ -132,26 +168,59 @@ fn found_all(swaps: &[(String, Files)], question: &Question) -> Vec<(String, Fou
         .collect()
 }
 
-/// Why the question does not fit the swaps: a line for each that has no base, or in whose past the outage begins.
+/// Why the question does not fit the swaps: a line for each that has no base where one is needed, in whose past the outage
+/// begins, or that stands at another height than the clock.
 /// Nothing where it fits.
 pub fn complaints(swaps: &[(String, Files)], question: &Question) -> String {
-    let Start::Height(from) = question.start else {
-        return String::new();
-    };
     let of = |(name, found): &(String, Found)| match found {
-        Found::Faulty(..) => None,
-        Found::Sound(view, _) => match view.base() {
-            None => Some(format!(
-                "calendar: {name}: no base, and --from is a height of the real chain\n"
-            )),
-            Some(base) if from > base + view.mined() => None,
-            Some(base) => Some(format!(
-                "calendar: {name}: --from {from} is in the past: the swap stands at height {}\n",
-                base + view.mined()
-            )),
+        Found::Faulty(..) => String::new(),
+        Found::Sound(view, _) => match complaint(view, question) {
+            None => String::new(),
+            Some(reason) => format!("calendar: {name}: {reason}\n"),
         },
     };
-    found_all(swaps, question).iter().filter_map(of).collect()
+    found_all(swaps, question).iter().map(of).collect()
+}
+
+/// How long and when the box of a side can be off: whether for any number of blocks, the most blocks else, and the
+/// stretches for an outage of this length.
+#[derive(Clone, Debug, PartialEq, Eq)]
+pub struct HowLong {
+    pub any: bool,
+    pub blocks: Option<u32>,
+    pub slots: Vec<(u32, Option<u32>)>,
+}
+
+pub fn how_long(swaps: &[(String, Files)], length: Length, margin: u32, side: u8) -> HowLong {
+    let found = found_all(swaps, &Question::default());
+    let longest = outages::longest(&found, margin, side);
+    HowLong {
+        any: longest.bound.is_none(),
+        blocks: longest.blocks(),
+        slots: outages::slots(&found, length, margin, side),
+    }
+}
+
+/// Of one swap.
+fn complaint(view: &View, question: &Question) -> Option<String> {
+    let stands = view.base().map(|base| base + view.mined());
+    match (question.start, question.clock, stands) {
+        (Start::After(_), None, _) => None,
+        (Start::Height(_), _, None) => {
+            Some("no base, and --from is a height of the real chain".to_string())
+        }
+        (_, Some(_), None) => {
+            Some("no base, and --height is a height of the real chain".to_string())
+        }
+        (_, Some(clock), Some(height)) if clock.height != height => Some(format!(
+            "stands at height {height}, and --height is {}",
+            clock.height
+        )),
+        (Start::Height(from), _, Some(height)) if from <= height => Some(format!(
+            "--from {from} is in the past: the swap stands at height {height}"
+        )),
+        _ => None,
+    }
 }
 
 /// The output for swaps by name, and its sums.
@@ -164,6 +233,9 @@ pub fn text(swaps: &[(String, Files)], question: &Question) -> (String, Totals) 
             .map(|((name, found), (_, files))| full(name, found, files, question))
             .collect(),
     };
+    for line in outages::lines(&found, question) {
+        text += &format!("{line}\n");
+    }
     let Totals {
         swaps,
         warnings,
@@ -262,7 +334,7 @@ fn refusal(number: u32) -> String {
 /// All of one swap.
 fn full(name: &str, found: &Found, files: &Files, question: &Question) -> String {
     let lines = match found {
-        Found::Sound(view, sides) => view.lines(question, sides),
+        Found::Sound(view, sides) => view.lines(name, question, sides),
         Found::Faulty("REFUSED", reason) => refused(files, reason),
         Found::Faulty(_, reason) => vec![
             format!("  unreadable: {reason}"),
@@ -293,7 +365,7 @@ fn refused_step(names: &Names, run: &Run, steps: usize) -> String {
     let [kind, party, t, destination] = step;
     let words = match run.refusal {
         11 => String::new(),
-        _ => format!(", {}: {}", party_name(party), names.step(&step)),
+        _ => format!(", {}", swapfile::step(names, &step)),
     };
     let number = run.accepted + 1;
     format!("  refused step: {number} of {steps}, bytes {kind} {party} {t} {destination}{words}")

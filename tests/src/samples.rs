@@ -83,6 +83,21 @@ fn saswap(setup: [u8; 3], steps: &[[u8; 4]]) -> Files {
     files(&sheet, [blocks_per_day, 0, conduct, stealth], steps)
 }
 
+/// Alice took refund_1, and Bob's spend_B waits in the pool: it could pay either, and pays him.
+fn taken() -> Files {
+    let refund_1 = confirmed(0, 3, 2, 1);
+    saswap(
+        [3, 2, 0],
+        &[both_locked(3), refund_1, vec![[3, 1, 8, 1]]].concat(),
+    )
+}
+
+/// Each has both secrets, and Bob's spend_B waits in the pool and pays him; with stealth Alice can hand in hers.
+fn taken_stealth() -> Files {
+    let spend_b = vec![[2, 1, 3, 0], [2, 0, 2, 1], [3, 1, 8, 1]];
+    saswap([3, 0, 1], &[&LOCK_A[..], &LOCK_B, &spend_b].concat())
+}
+
 /// Nothing done yet.
 fn fresh() -> Files {
     saswap([3, 2, 0], &[])
@@ -247,6 +262,8 @@ fn named() -> Vec<Sample> {
         ("swaps/refunded", refunded()),
         ("swaps/revoked", revoked()),
         ("swaps/standing", with_side(standing(), "alice\n")),
+        ("swaps/taken", taken()),
+        ("swaps/taken_stealth", taken_stealth()),
         ("swaps/waiting", waiting()),
         ("bases/revoked", with_base(revoked(), "800000\n")),
         ("bases/standing", with_base(standing(), "800156")),

@@ -78,14 +78,15 @@ fn sheet_lines(sheet: &Sheet) -> String {
     text
 }
 
-/// A step that mines no block.
-fn step(names: &Names, step: &[u8]) -> String {
+/// A step in words; a block that is mined stands alone.
+pub fn step(names: &Names, step: &[u8]) -> String {
     let (by, name) = (step[1], |t| names.transaction(t));
     let words = match (step[0], step[2]) {
-        (1, 255) => return format!("{} makes the first shares\n", party(by)),
+        (6, _) => return "mine the block".to_string(),
+        (1, 255) => return format!("{} makes the first shares", party(by)),
         (2, number) => {
             let (signature, to) = (names.signature(number), party(step[3]));
-            return format!("{} gives {signature} to {to}\n", party(by));
+            return format!("{} gives {signature} to {to}", party(by));
         }
         (1, t) => format!("{} shares signatures on {}", party(by), name(t)),
         (3, t) => format!("{} sends {} to the pool", party(by), name(t)),
@@ -94,8 +95,8 @@ fn step(names: &Names, step: &[u8]) -> String {
         (_, t) => format!("bump {} into the block", name(t)),
     };
     match step[3] {
-        CONTRACT => format!("{words}\n"),
-        payee => format!("{words}, paying {}\n", party(payee)),
+        CONTRACT => words,
+        payee => format!("{words}, paying {}", party(payee)),
     }
 }
 
@@ -106,7 +107,7 @@ fn journal_lines(names: &Names, journal: &[u8]) -> String {
     for row in steps.chunk_by(|a, b| *a == MINE && *b == MINE) {
         let first = mined + 1;
         match (row[0] == MINE, row.len()) {
-            (false, _) => text += &step(names, row[0]),
+            (false, _) => text += &format!("{}\n", step(names, row[0])),
             (true, 1) => text += &format!("mine the block # block {first}\n"),
             (true, n) => text += &format!("mine {n} blocks # blocks {first} to {}\n", mined + n),
         }

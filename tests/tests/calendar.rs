@@ -5,6 +5,7 @@ use std::collections::BTreeSet;
 use std::fs;
 use std::path::{Path, PathBuf};
 use std::process::Command;
+use swap_tests::calendar::clock::Clock;
 use swap_tests::calendar::rule::{Kind, Outage, Swap};
 use swap_tests::calendar::{self, Length, Question, Start, Totals};
 use swap_tests::compare::Game;
@@ -30,11 +31,22 @@ fn run(folder: &Path, question: &Question) -> (String, String, i32) {
         .arg(top().join("calendar"))
         .arg(folder)
         .args(question.arguments())
+        .env("TZ", zone(question))
         .output()
         .expect("the calendar runs");
     let text = |bytes: Vec<u8>| String::from_utf8(bytes).expect("text");
     let status = output.status.code().expect("an exit status");
-    (text(output.stdout), text(output.stderr), status)
+    let said = text(output.stderr);
+    let said = said.lines().filter(|line| line.starts_with("calendar: "));
+    let said = said.map(|line| format!("{line}\n")).collect();
+    (text(output.stdout), said, status)
+}
+
+/// The local time of a question, as POSIX writes it: the sign is that of UTC's distance from it.
+fn zone(question: &Question) -> String {
+    let minutes = question.clock.map_or(0, |clock| clock.zone);
+    let sign = if minutes > 0 { "-" } else { "+" };
+    format!("LOC{sign}{}:{:02}", minutes.abs() / 60, minutes.abs() % 60)
 }
 
 /// The calendar over the swaps of a folder, held to the model. Nothing is counted where the question does not fit.
@@ -289,6 +301,16 @@ fn standing_at(height: u32, mut files: Files) -> Files {
     files
 }
 
+/// The chain stands at this height on 2028-02-28 at 20:17 UTC, with 7 minutes a block.
+fn clock(height: u32, zone: i64) -> Clock {
+    Clock {
+        height,
+        at: 30_589_697,
+        minutes: 7,
+        zone,
+    }
+}
+
 /// Questions of every sort.
 fn questions() -> Vec<Question> {
     let lengths = [0, 1, 2, 3, 7, 400].map(blocks).to_vec();
@@ -303,7 +325,13 @@ fn questions() -> Vec<Question> {
         },
         Question {
             side: Some(CAROL),
+            slots: Some(Length::Days(1)),
             ..blocks(7)
+        },
+        Question {
+            slots: Some(Length::Blocks(2)),
+            margin: 1,
+            ..blocks(1)
         },
         Question {
             margin: 2,
@@ -321,6 +349,11 @@ fn questions() -> Vec<Question> {
         Question {
             start: Start::Height(HEIGHT + 20),
             length,
+            ..plain
+        },
+        Question {
+            slots: Some(Length::Blocks(3)),
+            clock: Some(clock(HEIGHT, 330)),
             ..plain
         },
         Question {
@@ -389,6 +422,13 @@ fn bases() {
         written("calendar_based", &based),
     );
     assert!(compare_both(&some, &swaps, &blocks(3)).refused > 10);
+    let timed = Question {
+        clock: Some(clock(HEIGHT + 3, -90)),
+        ..blocks(3)
+    };
+    for swaps in [(&some, &swaps), (&all, &based)] {
+        assert_eq!(compare_both(swaps.0, swaps.1, &timed), Totals::default());
+    }
     for height in [1, HEIGHT, HEIGHT + 30, HEIGHT + 59, HEIGHT + 60] {
         assert_eq!(
             compare_both(&some, &swaps, &from(height)),
@@ -480,6 +520,60 @@ fn later_outages() {
     let [told, found, before] = counts;
     println!("{told} warnings, {found} of them at the beginning, {before} due before it");
     assert!(counts.iter().all(|&count| count > 1_000), "{counts:?}");
+}
+
+/// How long and when on small desks: each stretch is what the rule leaves of all starts, tried one by one, and the longest
+/// outage is the last that the rule leaves.
+#[test]
+fn stretches_block_by_block() {
+    let mut random = Random::new(45);
+    let (mut ends, mut opens, mut longest) = (0, 0, 0);
+    for _ in 0..300 {
+        let swaps: Vec<(String, Files)> = (0..3)
+            .map(|i| {
+                let (sheet, setup) = random::game(&mut random);
+                let manner = random::manner(&mut random, 40);
+                let journal = random::journal(&mut random, &sheet, &setup, manner);
+                let files = [Some(sheet), Some(setup), Some(journal), None, None];
+                (format!("{i}"), files)
+            })
+            .collect();
+        let (length, margin) = (random.below(4) as u32 + 1, random.below(3) as u32);
+        let warns = |side: u8, wait: u32, blocks: u32| {
+            let question = Question {
+                side: Some(side),
+                start: Start::After(wait),
+                margin,
+                ..self::blocks(blocks)
+            };
+            calendar::text(&swaps, &question).1.warnings > 0
+        };
+        for side in [ALICE, BOB] {
+            let told = calendar::how_long(&swaps, Length::Blocks(length), margin, side);
+            let is_free = |wait: u32| {
+                let (first, last) = (wait + 1, wait + length);
+                let within =
+                    |&(a, b): &(u32, Option<u32>)| a <= first && b.is_none_or(|b| last <= b);
+                told.slots.iter().any(within)
+            };
+            for wait in 0..40 {
+                assert_eq!(
+                    is_free(wait),
+                    !warns(side, wait, length),
+                    "{told:?}, {wait}"
+                );
+            }
+            for blocks in 1..40 {
+                let kept = told.any || told.blocks.is_some_and(|most| blocks <= most);
+                assert_eq!(kept, !warns(side, 0, blocks), "{told:?}, {blocks}");
+            }
+            ends += told.slots.iter().filter(|(_, last)| last.is_some()).count();
+            opens += told.slots.iter().filter(|(_, last)| last.is_none()).count();
+            longest += usize::from(told.blocks.is_some_and(|blocks| blocks > 0));
+        }
+    }
+    println!("{ends} stretches with an end, {opens} without, {longest} longest outages");
+    assert!(ends > 50 && opens > 50 && longest > 50);
 }
 
 /// A swap that is refused with this number, 1 to 22 or 24.

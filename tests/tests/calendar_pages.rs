@@ -1,14 +1,15 @@
 //! The calendar's page and its JSON, by the program built with sanitizers: read by strict readers, and each number and word
 //! held to the model; names that would break out of the text; and files that must not be written.
 
-use std::collections::BTreeMap;
+use std::collections::{BTreeMap, BTreeSet};
 use std::ffi::{OsStr, OsString};
 use std::fs;
 use std::os::unix::ffi::{OsStrExt, OsStringExt};
 use std::path::{Path, PathBuf};
 use std::process::{Command, Output};
 use std::sync::OnceLock;
-use swap_tests::calendar::{self, data, page, Length, Question, Start};
+use swap_tests::calendar::clock::Clock;
+use swap_tests::calendar::{self, data, ics, page, Length, Question, Start};
 use swap_tests::json::{self, Value};
 use swap_tests::markup;
 use swap_tests::model::{ALICE, BOB, CAROL};
@@ -50,6 +51,7 @@ fn folder(name: &str) -> PathBuf {
 fn run<S: AsRef<OsStr>>(from: &Path, arguments: &[S]) -> Output {
     let mut command = Command::new("timeout");
     command.arg("300").arg(program()).args(arguments);
+    command.env("TZ", "UTC0");
     command
         .current_dir(from)
         .output()
@@ -127,7 +129,13 @@ fn questions() -> Vec<Question> {
         },
         Question {
             side: Some(CAROL),
+            slots: Some(Length::Days(1)),
             ..blocks(7)
+        },
+        Question {
+            slots: Some(Length::Blocks(2)),
+            margin: 1,
+            ..blocks(1)
         },
         Question {
             start: Start::After(20),
@@ -342,7 +350,27 @@ fn occupied(name: &str) -> PathBuf {
 }
 
 /// Exit status, arguments, and the message.
-const REFUSED: [(i32, &str, &str); 15] = [
+const REFUSED: [(i32, &str, &str); 19] = [
+    (
+        1,
+        "--html new.html --base 0 --from 444 swap",
+        "calendar: swap: --from 444 is in the past: the swap stands at height 444\n",
+    ),
+    (
+        1,
+        "--html new.html --base 0 --height 444 --at 2026-11-17T14:30Z --ics pipe swap",
+        "calendar: pipe: not a plain file\n",
+    ),
+    (
+        1,
+        "--html new.html --base 0 --height 443 --at 2026-11-17T14:30Z --ics new.ics swap",
+        "calendar: swap: stands at height 444, and --height is 443\n",
+    ),
+    (
+        2,
+        "--html new --base 0 --height 444 --at 2026-11-17T14:30Z --ics new swap",
+        "calendar: --ics new: the file of --html\n",
+    ),
     (1, "--html pipe swap", "calendar: pipe: not a plain file\n"),
     (
         1,
@@ -457,6 +485,73 @@ fn page_is_written_whole_or_not() {
     );
     let page = &after[OsStr::from_bytes(b"old.html")].1;
     markup::read(std::str::from_utf8(page).expect("UTF-8")).expect("a page");
+}
+
+/// The swap with a base by which it stands at this height.
+fn standing_at(height: u32, (name, mut files): (String, Files)) -> (String, Files) {
+    let journal = files[2].as_deref().unwrap_or_default();
+    let mined = journal.chunks(4).filter(|step| step[0] == 6).count();
+    files[4] = Some(format!("{}", height - mined as u32).into_bytes());
+    (name, files)
+}
+
+/// The iCalendar files of desks at one height: read by RFC 5545's rules, each event is the model's, and a second file has
+/// the same names for them.
+#[test]
+fn icalendar() {
+    let mut random = Random::new(72);
+    let names = ["swaps/fresh", "swaps/paid", "swaps", "desk", "rings"];
+    let mut desks: Vec<Vec<(String, Files)>> = names.map(samples::in_folder).to_vec();
+    desks.push(random_swaps(&mut random, 60));
+    let odd = "a;b,c\\\u{20ac}\u{20ac} the name of a swap that is longer than the line \u{1f512}";
+    let mut one = samples::in_folder("swaps/standing");
+    one[0].0 = odd.to_string();
+    desks.push(one);
+    let (mut windows, mut slots) = (0, 0);
+    for (number, swaps) in desks.into_iter().enumerate() {
+        let swaps = swaps.into_iter().map(|swap| standing_at(900_000, swap));
+        let swaps: Vec<(String, Files)> = swaps.collect();
+        let folder = written(&format!("pages_ics_{number}"), &swaps);
+        for later in [0, 1_000] {
+            let question = timed(900_000, 29_915_430 + later);
+            let file = folder.with_extension("ics");
+            let mut words = question.arguments();
+            words.extend(["--ics", file.to_str().expect("a name")].map(str::to_string));
+            words.push(folder.to_str().expect("a name").to_string());
+            let output = run(&top(), &words);
+            assert_eq!(
+                output.status.code(),
+                Some(calendar::text(&swaps, &question).1.status())
+            );
+            let events = ics::read(&fs::read_to_string(&file).expect("UTF-8"));
+            let expected = ics::events(&swaps, &question);
+            for (event, expected) in events.iter().zip(&expected) {
+                assert_eq!(event, expected);
+            }
+            assert_eq!(events.len(), expected.len());
+            let uids: BTreeSet<&String> = events.iter().map(|event| &event[1].1).collect();
+            assert_eq!(uids.len(), events.len());
+            windows += uids.iter().filter(|uid| uid.starts_with("window-")).count();
+            slots += uids.iter().filter(|uid| uid.starts_with("slot-")).count();
+        }
+    }
+    println!("{windows} ends of windows, {slots} stretches");
+    assert!(windows > 200 && slots > 10);
+}
+
+/// A day's outage asked for at this time, with stretches of three blocks and a margin of one.
+fn timed(height: u32, at: i64) -> Question {
+    Question {
+        margin: 1,
+        slots: Some(Length::Blocks(3)),
+        clock: Some(Clock {
+            height,
+            at,
+            minutes: 10,
+            zone: 0,
+        }),
+        ..Question::default()
+    }
 }
 
 /// The example of `docs/FORMATS.md`.

@@ -1,5 +1,6 @@
 //! The cases of `examples/calendar/cases.txt`.
 
+use super::clock::Clock;
 use super::{complaints, text, Length, Question, Start};
 use crate::model::{ALICE, BOB, CAROL};
 use crate::samples;
@@ -50,6 +51,8 @@ impl Case {
                 "--in" => question.start = Start::After(words.next()?.parse().ok()?),
                 "--from" => question.start = Start::Height(words.next()?.parse().ok()?),
                 "--margin" => question.margin = words.next()?.parse().ok()?,
+                "--height" | "--at" | "--minutes" => clock(&mut question, word, words.next()?)?,
+                "--slots" => question.slots = Some(slots(words.next()?)?),
                 "--base" => question.base = Some(words.next()?.parse().ok()?),
                 "--side" => question.side = Some(side(words.next()?)?),
                 "--help" => return None,
@@ -87,6 +90,33 @@ impl Case {
                 (totals.swaps > 0).then_some((text, totals.status()))
             }
         }
+    }
+}
+
+/// An argument of the clock; the times of the cases are this one.
+fn clock(question: &mut Question, name: &str, value: &str) -> Option<()> {
+    let clock = question.clock.get_or_insert(Clock {
+        height: 0,
+        at: AT.0,
+        minutes: 10,
+        zone: 0,
+    });
+    match name {
+        "--height" => clock.height = value.parse().ok()?,
+        "--minutes" => clock.minutes = value.parse().ok()?,
+        _ => return (value == AT.1).then_some(()),
+    }
+    Some(())
+}
+
+/// A time in minutes since 1970, and as it is written.
+const AT: (i64, &str) = (29_915_430, "2026-11-17T14:30Z");
+
+/// "N blocks, or of days as 2d".
+fn slots(word: &str) -> Option<Length> {
+    match word.strip_suffix('d') {
+        Some(days) => Some(Length::Days(days.parse().ok()?)),
+        None => Some(Length::Blocks(word.parse().ok()?)),
     }
 }
 

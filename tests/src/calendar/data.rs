@@ -1,6 +1,9 @@
 //! The calendar's JSON by the model, and its words for the page.
 
+use super::action::Action;
 use super::after::After;
+use super::clock::iso;
+use super::outages::{self, Longest};
 use super::rule::Kind;
 use super::view::View;
 use super::words::{destination_name, party_name};
@@ -30,8 +33,52 @@ pub fn json(swaps: &[(String, Files)], question: &Question) -> Value {
     Value::object([
         ("question", asked(question)),
         ("totals", totals),
+        ("outages", outages(&found, question)),
         ("swaps", Value::List(swaps.collect())),
     ])
+}
+
+/// How long and when the box of each side can be off.
+fn outages(found: &[(String, Found)], question: &Question) -> Value {
+    let of = |side: u8| {
+        let longest = outages::longest(found, question.margin, side);
+        let slots = question.slots.map_or(Value::Null, |length| {
+            let slots = outages::slots(found, length, question.margin, side).into_iter();
+            let slot = |(first, last): (u32, Option<u32>)| {
+                Value::object([
+                    ("first", Value::number(first)),
+                    ("last", last.map_or(Value::Null, Value::number)),
+                ])
+            };
+            Value::List(slots.map(slot).collect())
+        });
+        longest_of(&longest, side, vec![("slots".to_string(), slots)])
+    };
+    Value::List(outages::sides(found).into_iter().map(of).collect())
+}
+
+/// The longest outage that costs a side nothing, and further fields.
+fn longest_of(longest: &Longest, side: u8, more: Vec<(String, Value)>) -> Value {
+    let bound = longest.bound.as_ref();
+    let Value::Object(fields) = Value::object([
+        ("side", Value::text(party_name(side))),
+        ("any", Value::Bool(bound.is_none())),
+        (
+            "blocks",
+            longest.blocks().map_or(Value::Null, Value::number),
+        ),
+        (
+            "swap",
+            bound.map_or(Value::Null, |(_, name, _)| Value::text(name.as_str())),
+        ),
+        (
+            "transaction",
+            bound.map_or(Value::Null, |(_, _, t)| Value::text(t.as_str())),
+        ),
+    ]) else {
+        panic!("no object")
+    };
+    Value::Object([fields, more].concat())
 }
 
 fn asked(question: &Question) -> Value {
@@ -49,13 +96,17 @@ fn asked(question: &Question) -> Value {
         ("in", after),
         ("from", from),
         ("margin", Value::number(question.margin)),
+        (
+            "at",
+            (question.clock).map_or(Value::Null, |clock| Value::text(iso(clock.at))),
+        ),
     ])
 }
 
 /// A swap: its name, then what is to be told.
 fn swap(name: &str, found: &Found, files: &Files, question: &Question) -> Value {
     let Value::Object(fields) = (match found {
-        Found::Sound(view, sides) => sound(view, sides, question),
+        Found::Sound(view, sides) => sound(name, view, sides, question),
         Found::Faulty("UNREADABLE", reason) => unreadable(reason),
         Found::Faulty(_, reason) => refused(reason, files),
     }) else {
@@ -114,7 +165,7 @@ fn payees(mask: u8) -> Value {
     parties(&parties_of)
 }
 
-fn sound(view: &View, sides: &[u8], question: &Question) -> Value {
+fn sound(name: &str, view: &View, sides: &[u8], question: &Question) -> Value {
     let outcome = view.outcome();
     let outage = view.outage(question);
     let base = view.base().unwrap_or(0);
@@ -130,6 +181,9 @@ fn sound(view: &View, sides: &[u8], question: &Question) -> Value {
             ("last", height(base, outage.last)),
         ]),
     };
+    let longest = sides
+        .iter()
+        .map(|&side| longest_of(&view.longest(name, question.margin, side), side, vec![]));
     let all = 0..outcome.sheet.count();
     let transactions = all.map(|t| transaction(view, sides, question, t));
     Value::object([
@@ -145,6 +199,7 @@ fn sound(view: &View, sides: &[u8], question: &Question) -> Value {
         ("mined", Value::number(view.mined())),
         ("base", view.base().map_or(Value::Null, Value::number)),
         ("outage", blocks),
+        ("longest", Value::List(longest.collect())),
         ("transactions", Value::List(transactions.collect())),
     ])
 }
@@ -228,6 +283,7 @@ fn verdict(view: &View, question: &Question, t: u8, side: u8) -> Value {
         Kind::Warning => "warning",
         Kind::Before => "before",
         Kind::Ahead => "ahead",
+        Kind::Taken => "taken",
         Kind::Sent => "sent",
         Kind::Free => "free",
         Kind::Others => "others",
@@ -245,8 +301,74 @@ fn verdict(view: &View, question: &Question, t: u8, side: u8) -> Value {
         ("side", Value::text(party_name(side))),
         ("outage", Value::text(kind)),
         ("can_send", Value::Bool(view.can_send(t, side))),
+        (
+            "action",
+            match kind {
+                "free" | "others" | "settled" => Value::Null,
+                _ => action(view, question, t, side),
+            },
+        ),
         ("rivals", Value::List(rivals.collect())),
     ])
+}
+
+/// The estimated time of the last block that is safe.
+fn times(view: &View, question: &Question, by: Option<u32>) -> Value {
+    let (Some(clock), Some(by)) = (question.clock, by) else {
+        return Value::Null;
+    };
+    let blocks = u64::from(by - view.mined());
+    Value::object([
+        ("about", Value::text(iso(clock.mean(blocks)))),
+        ("early", Value::text(iso(clock.within(blocks, 5)))),
+        ("late", Value::text(iso(clock.within(blocks, 95)))),
+    ])
+}
+
+/// What the side can do about a transaction.
+fn action(view: &View, question: &Question, t: u8, side: u8) -> Value {
+    let base = view.base().unwrap_or(0);
+    let block = |block: Option<u32>| block.map_or(Value::Null, |block| height(base, block));
+    let object = |word: &str, step: Value, terms: [Value; 4], reason: Value| {
+        let [once, after, by, time] = terms;
+        Value::object([
+            ("word", Value::text(word)),
+            ("step", step),
+            ("once", once),
+            ("after", after),
+            ("by", by),
+            ("time", time),
+            ("reason", reason),
+        ])
+    };
+    let none = [Value::Null, Value::Null, Value::Null, Value::Null];
+    let name = |t: u8| Value::text(view.names.transaction(t));
+    match view.action(question.margin, t, side) {
+        Action::Do {
+            step,
+            once,
+            after,
+            by,
+            ..
+        } => object(
+            "do",
+            Value::text(step),
+            [
+                once.map_or(Value::Null, name),
+                block(after),
+                block(by),
+                times(view, question, by),
+            ],
+            Value::Null,
+        ),
+        Action::Sent => object("nothing to do", Value::Null, none, Value::text("sent")),
+        Action::Nothing(reason) => object(
+            "nothing can be done now",
+            Value::Null,
+            none,
+            Value::text(reason),
+        ),
+    }
 }
 
 /// The page's words for a transaction of a sound swap that is not settled, a text for each side.
@@ -260,7 +382,8 @@ pub fn words(files: &Files, question: &Question, t: u8) -> Vec<String> {
         .collect()
 }
 
-fn side_words(view: &View, question: &Question, t: u8, side: u8) -> String {
+/// What can happen to a transaction, for a side, after what to do.
+pub fn outlook(view: &View, question: &Question, t: u8, side: u8) -> String {
     let after = view.after();
     let outage = view.outage(question);
     let otherwise = || after.otherwise(t) + &after.hangs_on("", t);
@@ -269,25 +392,37 @@ fn side_words(view: &View, question: &Question, t: u8, side: u8) -> String {
         true => after.before(&outage, t),
     };
     let passed = after.swap.soonest_deadline(t) <= after.swap.position.mined;
-    let mut words = match after.swap.kind(&outage, t, side) {
+    let to_do = || view.what_to_do(question, t, side);
+    let kind = after.swap.kind(&outage, t, side);
+    let words = match kind {
         Kind::Warning if passed => {
             let otherwise = otherwise();
-            format!("WARNING, passed, a hand-in may save it, {otherwise}")
+            format!("{}; passed, a hand-in may save it, {otherwise}", to_do())
         }
-        Kind::Warning => format!("WARNING, {}{}", before(), otherwise()),
-        Kind::Before => format!("due before the outage, {}{}", before(), otherwise()),
-        Kind::Ahead => otherwise(),
-        Kind::Sent => "sent, box not needed".to_string(),
+        Kind::Warning | Kind::Before => format!("{}; {}{}", to_do(), before(), otherwise()),
+        Kind::Ahead => format!("{}; {}", to_do(), otherwise()),
+        Kind::Taken | Kind::Sent => to_do(),
         Kind::Free => "no deadline ahead".to_string(),
         Kind::Others if after.swap.sheet.parties.len() == 2 => "the other side's".to_string(),
         Kind::Others => "another side's".to_string(),
         Kind::Settled => panic!("transaction {t} is settled"),
     };
-    if after.swap.kind(&outage, t, side) != Kind::Others {
-        words += &after.in_the_way(t, side);
+    match kind {
+        Kind::Others => words,
+        _ => words + &after.in_the_way(t, side),
     }
-    if view.can_send(t, side) {
-        words += "; can be sent now";
-    }
-    format!("{}: {words}", party_name(side))
+}
+
+fn side_words(view: &View, question: &Question, t: u8, side: u8) -> String {
+    let mark = match view.swap().kind(&view.outage(question), t, side) {
+        Kind::Warning => "WARNING, ",
+        Kind::Before => "due before the outage, ",
+        _ => "",
+    };
+    let words = outlook(view, question, t, side);
+    let now = match view.can_send(t, side) {
+        true => "; can be sent now",
+        false => "",
+    };
+    format!("{}: {mark}{words}{now}", party_name(side))
 }

@@ -23,7 +23,15 @@ pub fn check_self_contained(page: &Element) {
             assert!(name != "href" || target == Some(true), "{name}={value}");
         }
     }
+    assert_eq!(with_class(page, "p", "written").len(), 1);
     let style = page.named("style")[0].text();
+    for part in [
+        "prefers-color-scheme: dark",
+        "max-width: 800px",
+        "@media print",
+    ] {
+        assert!(style.contains(part), "{part}");
+    }
     assert!(!style.contains("@import") && !style.contains("http"));
     let targets = style.split("url(").skip(1);
     let targets: Vec<&str> = targets
@@ -64,13 +72,18 @@ pub fn check_overview(
     let (screen, _) = text(swaps, &plain);
     let lines: Vec<String> = screen.lines().map(collapsed).collect();
     let (totals, lines) = lines.split_last().expect("totals");
+    let said = with_class(page, "p", "outages");
+    let (lines, outages) = lines.split_at(lines.len() - said.len());
+    let said: Vec<String> = said.iter().map(|p| collapsed(&p.text())).collect();
+    assert_eq!(said, outages);
     let asked = with_class(page, "p", "question")[0].text();
     assert!(asked.starts_with(&lines[0]), "{asked}");
     assert_eq!(with_class(page, "p", "totals")[0].text(), *totals);
     let tables = page.named("table");
     assert_eq!(tables[0].get("id"), "overview");
     let rows = tables[0].named("tbody")[0].named("tr");
-    let shown: Vec<String> = rows.iter().map(|row| overview_row(row)).collect();
+    let shown: Vec<String> = rows.iter().map(|row| overview_row(row, json)).collect();
+    check_overview_axis(tables[0], json);
     assert_eq!(shown.len(), lines.len() - 2);
     for (shown, line) in shown.iter().zip(&lines[2..]) {
         assert_eq!(shown, line);
@@ -87,12 +100,9 @@ fn check_overview_lane(row: &Element, json: &Value, question: &Question, span: u
     let cells = cells(row);
     let warns = cells[0].starts_with("WARNING");
     assert_eq!(row.get("class") == "warning", warns);
-    let links = row.named("a");
-    assert_eq!(links.is_empty(), row.get("class") == "faulty");
-    for link in links {
-        let number = link.get("href").strip_prefix("#swap-").expect("a swap");
-        let number: usize = number.parse().expect("a number");
-        let swap = &json.get("swaps").list()[number - 1];
+    let swap = swap_of(row, json);
+    assert_eq!(swap.is_none(), row.get("class") == "faulty");
+    if let Some(swap) = swap {
         let transactions = swap.get("transactions").list();
         let shown = transactions
             .iter()
@@ -102,11 +112,68 @@ fn check_overview_lane(row: &Element, json: &Value, question: &Question, span: u
     }
 }
 
+/// Where a swap stands: whether by its base, and the height.
+fn stands(swap: &Value) -> (bool, u64) {
+    let mined = swap.get("mined").as_number().expect("a number");
+    (*swap.get("base") != Value::Null, base(swap) + mined)
+}
+
+/// The height at which all sound swaps stand, if it is one.
+fn same_height(json: &Value) -> Option<u64> {
+    let swaps = json.get("swaps").list().iter();
+    let sound = swaps.filter(|swap| swap.get("state").as_text() == "sound");
+    let heights: BTreeSet<(bool, u64)> = sound.map(stands).collect();
+    let first = heights.first().map(|&(_, height)| height);
+    first.filter(|_| heights.len() == 1)
+}
+
+/// The axis has heights, as the columns have, where all swaps stand at the same one; else both count from now.
+fn check_overview_axis(table: &Element, json: &Value) {
+    let axis = with_class(table, "svg", "axis")[0];
+    let now = match same_height(json) {
+        None => "now".to_string(),
+        Some(height) => format!("now {height}"),
+    };
+    assert_eq!(axis.named("text")[0].text(), now);
+    for label in with_class(axis, "text", "label") {
+        let from_now = label.text().starts_with('+');
+        assert_eq!(from_now, same_height(json).is_none());
+    }
+}
+
+/// A block of a row, as the screen has it; from now where the swaps stand at several heights.
+fn overview_block(cell: &str, json: &Value, swap: &Value) -> String {
+    let (_, now) = stands(swap);
+    let block = match (cell.strip_prefix('+'), cell.strip_prefix('-')) {
+        (Some(ahead), _) => now + ahead.parse::<u64>().expect("a number"),
+        (_, Some(behind)) => now - behind.parse::<u64>().expect("a number"),
+        _ => {
+            assert!(cell == "never" || same_height(json).is_some());
+            return cell.to_string();
+        }
+    };
+    assert_eq!(same_height(json), None);
+    block.to_string()
+}
+
+/// The swap to whose section a row leads.
+fn swap_of<'a>(row: &Element, json: &'a Value) -> Option<&'a Value> {
+    let links = row.named("a");
+    let number = links.first()?.get("href").strip_prefix("#swap-");
+    let number: usize = number.expect("a swap").parse().expect("a number");
+    Some(&json.get("swaps").list()[number - 1])
+}
+
 /// A row as the screen has it, which marks nothing as due before the outage.
-fn overview_row(row: &Element) -> String {
+fn overview_row(row: &Element, json: &Value) -> String {
     let mut cells = cells(row);
     if cells[0] == "BEFORE" {
         cells[0].clear();
+    }
+    if let (Some(swap), 10) = (swap_of(row, json), cells.len()) {
+        for place in [4, 5] {
+            cells[place] = overview_block(&cells[place], json, swap);
+        }
     }
     collapsed(&cells.join(" "))
 }
@@ -127,11 +194,23 @@ pub fn check_sections(
         let shown = sound && !swap.get("sides").list().is_empty();
         assert_eq!(found.len(), usize::from(shown), "{id}");
         for section in found {
+            check_folded(section, swap, swaps.len() == 1);
             check_section(section, swap, files, question);
             checked += 1;
         }
     }
     assert_eq!(checked, sections.len());
+}
+
+/// A section is open where one side has a warning, or where it is the only one; else it is folded and not printed.
+fn check_folded(section: &Element, swap: &Value, alone: bool) {
+    let transactions = swap.get("transactions").list();
+    let warned = transactions.iter().any(|t| is(t, "warning").any(|is| is));
+    let open = warned || alone;
+    assert_eq!(section.get("class"), if open { "open" } else { "calm" });
+    let details = section.named("details")[0];
+    assert_eq!(details.attributes.contains_key("open"), open);
+    assert_eq!(section.named("summary").len(), 1);
 }
 
 fn is_settled(transaction: &Value) -> bool {

@@ -8,7 +8,7 @@ use crate::model::outage::{self, COVERED, SAFE_IN_POOL, SETTLED};
 use crate::model::position::{contains, Position};
 use crate::model::setup::{Conduct, Setup};
 use crate::model::sheet::{payee_bit, Lock, Sheet};
-use crate::model::BOB;
+use crate::model::{BOB, CONTRACT};
 
 /// The signature number of sigBob on the SASwap sheet.
 const SIG_BOB: u8 = 1;
@@ -56,7 +56,9 @@ pub enum Kind {
     Before,
     /// Its deadline comes after the outage.
     Ahead,
-    /// "sent, box not needed".
+    /// In the pool, and pays another party.
+    Taken,
+    /// In the pool: the box is not needed.
     Sent,
     /// No deadline, or a passed one: nothing at stake.
     Free,
@@ -99,6 +101,12 @@ impl Swap<'_> {
         heights::deadline(self.sheet, self.setup, self.position, t)
     }
 
+    /// Where the next block sends what is in it or, else, in the pool.
+    pub fn sent_to(&self, t: u8) -> Option<u8> {
+        let block = self.position.block.get(&t);
+        block.or(self.position.pool.get(&t)).copied()
+    }
+
     /// Who can be paid by the transaction or below it, as a mask. Under conduct sigBob is given by nobody and shared on
     /// contract transactions only, so a paying one that needs it is Bob's alone.
     pub fn can_pay(&self, t: u8) -> u8 {
@@ -122,7 +130,10 @@ impl Swap<'_> {
         } else if self.can_pay(t) & payee_bit(side) == 0 {
             Kind::Others
         } else if verdict == SAFE_IN_POOL {
-            Kind::Sent
+            match self.sent_to(t) {
+                Some(payee) if payee != CONTRACT && payee != side => Kind::Taken,
+                _ => Kind::Sent,
+            }
         } else if verdict & COVERED != 0 && outage.reach > 0 && soonest != NEVER {
             match !self.setup.stealth && soonest < outage.first && fixed {
                 true => Kind::Before,

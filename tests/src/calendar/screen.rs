@@ -4,12 +4,12 @@ use super::after::After;
 use super::rule::{Kind, Outage};
 use super::view::View;
 use super::words::party_name;
-use super::{Found, Length, Question, Start};
+use super::{Found, Question, Start};
 use crate::model::heights::NEVER;
 use std::collections::BTreeSet;
 
-/// The lines in their order: faulty swaps, warnings, what is due before the outage, what is due after it, what is sent,
-/// what a rival contests, the rest; then by blocks left, swap and side.
+/// The lines in their order: faulty swaps, warnings, what is due before the outage, what is due after it, what is sent
+/// for another party, what is sent, what a rival contests, the rest; then by blocks left, swap and side.
 type Key = (u32, u32, usize, u8);
 
 /// What the calendar prints before the totals.
@@ -25,7 +25,7 @@ pub fn text(swaps: &[(String, Found)], question: &Question) -> String {
             Found::Sound(view, sides) => {
                 for &side in sides {
                     let ((urgency, left), mut text) = line(name, view, question, side);
-                    if mixed && view.base().is_none() && urgency < 6 {
+                    if mixed && view.base().is_none() && urgency < 7 {
                         text += "; blocks of its own, no base";
                     }
                     lines.push(((urgency, left, place, side), text));
@@ -35,7 +35,10 @@ pub fn text(swaps: &[(String, Found)], question: &Question) -> String {
     }
     lines.sort();
     let head = cells("", "swap", "side", "transaction");
-    let head = format!("{head}{:>8}{:>8}{:>7}  after that", "from", "to", "left");
+    let head = format!(
+        "{head}{:>8}{:>8}{:>7}{:>7}  after that",
+        "from", "to", "left", "free"
+    );
     let lines = lines.into_iter().map(|(_, text)| text);
     let all: Vec<String> = [asked(question), head].into_iter().chain(lines).collect();
     all.join("\n") + "\n"
@@ -56,12 +59,7 @@ fn cells(mark: &str, name: &str, side: &str, transaction: &str) -> String {
 
 /// What is asked, in words.
 fn asked(question: &Question) -> String {
-    let length = match question.length {
-        Length::Days(1) => "1 day".to_string(),
-        Length::Days(days) => format!("{days} days"),
-        Length::Blocks(1) => "1 block".to_string(),
-        Length::Blocks(blocks) => format!("{blocks} blocks"),
-    };
+    let length = question.length.words();
     let start = match question.start {
         Start::After(0) => "from the next block".to_string(),
         Start::After(1) => "after the next block".to_string(),
@@ -72,7 +70,8 @@ fn asked(question: &Question) -> String {
         0 => String::new(),
         blocks => format!(", margin {blocks}"),
     };
-    format!("outage: {length} {start}{margin}")
+    let clock = question.clock.map_or(String::new(), |clock| clock.words());
+    format!("outage: {length} {start}{margin}{clock}")
 }
 
 /// The line of a side of a swap, with its urgency and the blocks left.
@@ -91,7 +90,7 @@ fn line(name: &str, view: &View, question: &Question, side: u8) -> ((u32, u32), 
     };
     let Some(&((urgency, left), t)) = ranked.iter().min() else {
         let text = cells(&mark, name, party_name(side), "no deadline ahead");
-        return ((6, 0), text.trim_end().to_string());
+        return ((7, 0), text.trim_end().to_string());
     };
     let start = cells(&mark, name, party_name(side), &view.names.transaction(t));
     let [from, to] = [after.swap.soonest_block(t), after.swap.soonest_deadline(t)];
@@ -100,9 +99,15 @@ fn line(name: &str, view: &View, question: &Question, side: u8) -> ((u32, u32), 
         NEVER => "-".to_string(),
         _ => left.to_string(),
     };
+    let action = match urgency {
+        6 => String::new(),
+        4 | 5 => view.what_to_do(question, t, side),
+        _ => view.what_to_do(question, t, side) + "; ",
+    };
     let last = last_column(&after, question, &outage, (urgency, left), t);
-    let last = last + &after.in_the_way(t, side);
-    let text = format!("{start}{from:>8}{to:>8}{blocks:>7}  {last}");
+    let last = action + &last + &after.in_the_way(t, side);
+    let free = view.longest(name, question.margin, side).label();
+    let text = format!("{start}{from:>8}{to:>8}{blocks:>7}{free:>7}  {last}");
     ((urgency, left), text)
 }
 
@@ -117,8 +122,9 @@ fn rank(after: &After, outage: &Outage, t: u8, side: u8) -> Option<(u32, u32)> {
         Kind::Warning => 1,
         Kind::Before => 2,
         Kind::Ahead => 3,
-        Kind::Sent => 4,
-        Kind::Free if !after.in_the_way(t, side).is_empty() => 5,
+        Kind::Taken => 4,
+        Kind::Sent => 5,
+        Kind::Free if !after.in_the_way(t, side).is_empty() => 6,
         _ => return None,
     };
     Some((urgency, left))
@@ -133,8 +139,8 @@ fn last_column(
 ) -> String {
     let otherwise = after.otherwise_if_any(t);
     match rank {
-        (4, _) => "sent, box not needed".to_string(),
-        (5, _) => "no deadline ahead".to_string(),
+        (4 | 5, _) => String::new(),
+        (6, _) => "no deadline ahead".to_string(),
         (1, 0) => format!("passed, a hand-in may save it, {otherwise}"),
         (1 | 2, _) if question.is_later() => after.before(outage, t) + &otherwise,
         _ => otherwise,

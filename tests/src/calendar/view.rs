@@ -7,7 +7,8 @@ use super::{Question, Totals};
 use crate::model::calls::Outcome;
 use crate::model::heights::{self, NEVER};
 use crate::model::setup::Conduct;
-use crate::model::{first_open, open, report};
+use crate::model::{first_open, open, report, CONTRACT};
+use crate::swapfile;
 
 /// A swap whose journal is accepted whole.
 pub struct View {
@@ -72,7 +73,7 @@ impl View {
         Outage::of(question, &self.outcome.setup, self.mined(), self.base)
     }
 
-    pub fn lines(&self, question: &Question, sides: &[u8]) -> Vec<String> {
+    pub fn lines(&self, name: &str, question: &Question, sides: &[u8]) -> Vec<String> {
         let mut lines = self.inputs();
         lines.extend(self.position());
         for party in open::actors(&self.outcome.sheet) {
@@ -81,6 +82,13 @@ impl View {
         lines.extend(self.payouts());
         for &side in sides {
             lines.extend(self.deadlines(question, side));
+            let longest = self.longest(name, question.margin, side);
+            let bound = longest.bound.as_ref();
+            let bound = bound.map_or(String::new(), |(_, _, t)| format!(", bounded by {t}"));
+            let (side, label) = (party_name(side), longest.label());
+            lines.push(format!(
+                "  longest outage from now that costs {side} nothing: {label}{bound}"
+            ));
         }
         lines
     }
@@ -133,7 +141,7 @@ impl View {
     }
 
     /// A height of the real chain, where the base is known.
-    fn height(&self, block: u32) -> String {
+    pub fn height(&self, block: u32) -> String {
         height(self.base.unwrap_or(0), block)
     }
 
@@ -166,7 +174,7 @@ impl View {
     fn steps(&self, party: u8) -> Vec<String> {
         let mut lines = vec![format!("  steps that {} could take now", party_name(party))];
         let open = self.open.iter().filter(|step| step[1] == party);
-        lines.extend(open.map(|step| format!("    {}", self.names.step(step))));
+        lines.extend(open.map(|step| format!("    {}", swapfile::step(&self.names, step))));
         or_none(lines, 1)
     }
 
@@ -231,21 +239,21 @@ impl View {
         let kind = after.swap.kind(outage, t, side);
         let soonest = after.swap.soonest_deadline(t);
         let latest = after.height(soonest);
+        let to_do = || self.what_to_do(question, t, side);
         let mut words = match kind {
             Kind::Settled => return None,
             Kind::Warning if soonest <= self.mined() => {
-                let otherwise = after.otherwise(t);
-                format!(
-                    "WARNING: block {latest} was the latest, a hand-in may save it, {otherwise}"
-                )
+                let (to_do, otherwise) = (to_do(), after.otherwise(t));
+                format!("WARNING: {to_do}; block {latest} was the latest, a hand-in may save it, {otherwise}")
             }
             Kind::Warning if question.is_later() => {
-                format!("WARNING: {}{}", after.before(outage, t), window(&after, t))
+                let before = after.before(outage, t);
+                format!("WARNING: {}; {before}{}", to_do(), window(&after, t))
             }
-            Kind::Warning => format!("WARNING: {}", window(&after, t)),
-            Kind::Before => format!("due before the outage: {}", window(&after, t)),
-            Kind::Ahead => window(&after, t),
-            Kind::Sent => "sent, box not needed".to_string(),
+            Kind::Warning => format!("WARNING: {}; {}", to_do(), window(&after, t)),
+            Kind::Before => format!("due before the outage: {}; {}", to_do(), window(&after, t)),
+            Kind::Ahead => format!("{}; {}", to_do(), window(&after, t)),
+            Kind::Taken | Kind::Sent => to_do(),
             Kind::Free if soonest == NEVER => "no deadline".to_string(),
             Kind::Free => format!("PASSED: block {latest} was the latest"),
             Kind::Others if self.outcome.sheet.parties.len() == 2 => "the other side's".to_string(),
@@ -270,9 +278,14 @@ impl View {
             true => self.open_since(t),
             false => String::new(),
         };
+        let paying = match self.swap().sent_to(t) {
+            None | Some(CONTRACT) => String::new(),
+            Some(payee) => format!(", paying {}", party_name(payee)),
+        };
         let standing = [
             ("; in the pool", position.in_pool(t)),
             ("; in the block being filled", position.in_block(t)),
+            (paying.as_str(), true),
             ("; can be sent now", sendable),
         ];
         let standing = standing.iter().filter(|(_, holds)| *holds);

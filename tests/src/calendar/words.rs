@@ -158,25 +158,4 @@ impl Names {
             false => format!("signature {number}"),
         }
     }
-
-    pub fn step(&self, step: &[u8; 4]) -> String {
-        let [kind, _, t, destination] = *step;
-        let words = match (kind, t) {
-            (2, number) => {
-                let to = party_name(destination);
-                return format!("give {} to {to}", self.signature(number));
-            }
-            (6, _) => return "mine the block".to_string(),
-            (1, 255) => return "make the first shares".to_string(),
-            (1, t) => format!("share signatures on {}", self.transaction(t)),
-            (3, t) => format!("send {} to the pool", self.transaction(t)),
-            (4, t) => format!("hand {} to the miner", self.transaction(t)),
-            (5, t) => format!("include {} in the block", self.transaction(t)),
-            (_, t) => format!("bump {} into the block", self.transaction(t)),
-        };
-        match destination {
-            CONTRACT => words,
-            payee => format!("{words}, paying {}", party_name(payee)),
-        }
-    }
 }

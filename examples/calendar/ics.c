@@ -1,0 +1,254 @@
+#define _POSIX_C_SOURCE 200809L
+
+#include "ics.h"
+
+#include <stdlib.h>
+#include <string.h>
+
+#include "../common/output.h"
+#include "action.h"
+#include "markup.h"
+#include "outlook.h"
+#include "slack.h"
+#include "slots.h"
+#include "words.h"
+
+/* The most bytes of a line, without its end. */
+#define LINE_MOST 75
+
+/* A text that is put together first. */
+struct text {
+    FILE *to;
+    char *bytes;
+    size_t length;
+};
+
+/* What is written, and whether there was memory for all of it. */
+struct ics {
+    FILE *to;
+    const struct question *question;
+    bool sound;
+    size_t events;
+};
+
+static bool open_text(struct ics *ics, struct text *text)
+{
+    text->bytes = NULL;
+    text->to = open_memstream(&text->bytes, &text->length);
+    ics->sound = ics->sound && text->to != NULL;
+    return text->to != NULL;
+}
+
+/* Writes a line folded: a line that goes on begins with a blank, and no character is cut. */
+static void fold(FILE *to, const char *line)
+{
+    size_t used = 0;
+
+    while (*line != '\0') {
+        size_t length = character(line);
+
+        if (used + length > LINE_MOST) {
+            fputs("\r\n ", to);
+            used = 1;
+        }
+        fwrite(line, 1, length, to);
+        used += length;
+        line += length;
+    }
+    fputs("\r\n", to);
+}
+
+/* Writes a property whose value is a text. */
+static void write_property(struct ics *ics, const char *name, const char *value)
+{
+    struct text line;
+
+    if (!open_text(ics, &line)) {
+        return;
+    }
+    fprintf(line.to, "%s:", name);
+    write_text(line.to, AS_ICS, value);
+    if (fclose(line.to) == 0) {
+        fold(ics->to, line.bytes);
+    } else {
+        ics->sound = false;
+    }
+    free(line.bytes);
+}
+
+/* The same of a text that is put together, which is given back. */
+static void write_made(struct ics *ics, const char *name, struct text *text)
+{
+    if (fclose(text->to) == 0) {
+        write_property(ics, name, text->bytes);
+    } else {
+        ics->sound = false;
+    }
+    free(text->bytes);
+}
+
+static void write_time(const struct ics *ics, const char *name, int64_t time)
+{
+    fprintf(ics->to, "%s:", name);
+    print_utc(ics->to, time);
+    fputs("\r\n", ics->to);
+}
+
+/* Begins an event; its name among all events comes next. */
+static bool begin_event(struct ics *ics, struct text *uid)
+{
+    if (!open_text(ics, uid)) {
+        return false;
+    }
+    ics->events++;
+    fputs("BEGIN:VEVENT\r\n", ics->to);
+    write_time(ics, "DTSTAMP", ics->question->clock.at);
+    return true;
+}
+
+static void end_event(struct ics *ics)
+{
+    fputs("END:VEVENT\r\n", ics->to);
+}
+
+/* The name of a window's end: the same in every file for the swap's name, the side and the transaction. */
+static void write_window_uid(struct ics *ics, struct text *uid, const struct entry *entry, uint8_t t, uint8_t side)
+{
+    fprintf(uid->to, "window-%s-%u-", party_name(side), (unsigned)t);
+    for (const char *byte = entry->name; *byte != '\0'; byte++) {
+        fprintf(uid->to, "%02x", (unsigned)(unsigned char)*byte);
+    }
+    fprintf(uid->to, "@swap-calendar");
+    write_made(ics, "UID", uid);
+}
+
+/* What the event of a window's end says: whose it is and the block; then what to do and what comes else. */
+static void write_window_words(struct ics *ics, const struct entry *entry, uint8_t t, uint8_t side, uint32_t by)
+{
+    struct text text;
+
+    if (open_text(ics, &text)) {
+        write_text(text.to, AS_TEXT, entry->name);
+        fprintf(text.to, ", %s: %s by block %s", party_name(side), transaction_label(&entry->swap, t).text,
+                height_label(entry->base, by).text);
+        write_made(ics, "SUMMARY", &text);
+    }
+    if (open_text(ics, &text)) {
+        print_outlook(text.to, ics->question, entry, t, side);
+        fprintf(text.to, "; an estimate: from the time of 5 to that of 95 in 100 cases");
+        write_made(ics, "DESCRIPTION", &text);
+    }
+}
+
+/* The end of a window. */
+static void write_window(struct ics *ics, const struct entry *entry, uint8_t t, uint8_t side)
+{
+    const struct clock *clock = &ics->question->clock;
+    struct action action = action_of(ics->question, entry, t, side);
+    uint32_t blocks = action.by - entry->position.mined;
+    struct text uid;
+
+    if (!begin_event(ics, &uid)) {
+        return;
+    }
+    write_window_uid(ics, &uid, entry, t, side);
+    write_time(ics, "DTSTART", early_time(clock, blocks));
+    write_time(ics, "DTEND", late_time(clock, blocks));
+    write_window_words(ics, entry, t, side, action.by);
+    end_event(ics);
+}
+
+static void write_windows(struct ics *ics, const struct entry *entry)
+{
+    for (uint8_t side = SWAP_ALICE; side <= SWAP_CAROL; side++) {
+        for (uint8_t t = 0; t < count_of(&entry->swap) && is_shown(entry, side); t++) {
+            if (kind_of(&entry->position, &entry->outage, t, side) < TAKEN) {
+                write_window(ics, entry, t, side);
+            }
+        }
+    }
+}
+
+/* A stretch, from its late beginning to its early end. */
+static void write_slot(struct ics *ics, const struct slot *slot, uint8_t side, size_t number)
+{
+    const struct question *question = ics->question;
+    struct text text;
+
+    if (!begin_event(ics, &text)) {
+        return;
+    }
+    fprintf(text.to, "slot-%s-%lu@swap-calendar", party_name(side), (unsigned long)number);
+    write_made(ics, "UID", &text);
+    write_time(ics, "DTSTART", late_time(&question->clock, slot->first - 1));
+    if (slot->last != SLOT_OPEN) {
+        write_time(ics, "DTEND", early_time(&question->clock, slot->last));
+    }
+    if (open_text(ics, &text)) {
+        fprintf(text.to, "%s: an outage of %lu %s%s costs nothing%s", party_name(side), (unsigned long)question->slots,
+                question->slots_in_days ? "day" : "block", question->slots == 1 ? "" : "s",
+                slot->last == SLOT_OPEN ? " from here on" : "");
+        write_made(ics, "SUMMARY", &text);
+    }
+    end_event(ics);
+}
+
+/* Whether the stretch is not over, as the estimate goes, before it begins. */
+static bool has_time(const struct clock *clock, const struct slot *slot)
+{
+    return slot->last == SLOT_OPEN || late_time(clock, slot->first - 1) < early_time(clock, slot->last);
+}
+
+static void write_slots(struct ics *ics, const struct desk *desk, uint8_t side)
+{
+    struct slots slots;
+
+    if (ics->question->slots == 0 || !has_side(desk, side)) {
+        return;
+    }
+    if (!slots_of(ics->question, desk, side, &slots)) {
+        ics->sound = false;
+        return;
+    }
+    for (size_t i = 0; i < slots.count; i++) {
+        if (has_time(&ics->question->clock, &slots.slots[i])) {
+            write_slot(ics, &slots.slots[i], side, i + 1);
+        }
+    }
+    free(slots.slots);
+}
+
+/* A calendar has an event at least. */
+static void write_nothing(struct ics *ics)
+{
+    struct text uid;
+
+    if (begin_event(ics, &uid)) {
+        fputs("none@swap-calendar", uid.to);
+        write_made(ics, "UID", &uid);
+        write_time(ics, "DTSTART", ics->question->clock.at);
+        write_property(ics, "SUMMARY", "no window ends");
+        end_event(ics);
+    }
+}
+
+bool write_ics(FILE *to, const struct question *question, const struct desk *desk, const struct totals *totals)
+{
+    struct ics ics = {to, question, true, 0};
+
+    (void)totals;
+    fputs("BEGIN:VCALENDAR\r\nVERSION:2.0\r\nPRODID:-//Nuldheben//swap calendar//EN\r\n", to);
+    for (size_t i = 0; i < desk->count; i++) {
+        if (is_sound(desk->entries[i])) {
+            write_windows(&ics, desk->entries[i]);
+        }
+    }
+    for (uint8_t side = SWAP_ALICE; side <= SWAP_CAROL; side++) {
+        write_slots(&ics, desk, side);
+    }
+    if (ics.events == 0) {
+        write_nothing(&ics);
+    }
+    fputs("END:VCALENDAR\r\n", to);
+    return ics.sound;
+}
