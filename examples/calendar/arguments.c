@@ -183,7 +183,8 @@ static bool read_clock(const char *const values[ARGUMENTS], struct question *que
     if (clock->set && !read_time(values[AT], &clock->at)) {
         return wrong("--at", values[AT], "not a time as 2026-11-17T14:30Z, or without Z a local one");
     }
-    return read_number(HEIGHT, values[HEIGHT], &clock->height) && read_number(MINUTES, values[MINUTES], &clock->minutes);
+    return read_number(HEIGHT, values[HEIGHT], &clock->height) &&
+           read_number(MINUTES, values[MINUTES], &clock->minutes);
 }
 
 /* The files to write, which are not the same. */

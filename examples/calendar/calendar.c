@@ -126,7 +126,10 @@ static int answer(const struct question *question, const struct file files[FILES
 /* The same, with the files' folders open first: the swaps are read from another one. */
 static int answer_with_files(const struct question *question)
 {
-    struct file files[FILES] = {{.path = question->html, .write = write_page}, {.path = question->ics, .write = write_ics}};
+    struct file files[FILES] = {
+        {.path = question->html, .write = write_page},
+        {.path = question->ics, .write = write_ics},
+    };
     const char *reason = NULL;
     size_t opened = 0;
     int status;

@@ -41,8 +41,9 @@ bool read_desk(const struct question *question, struct desk *desk);
 /* Puts all swaps to the engine: their positions. */
 void ask_desk(const struct question *question, struct desk *desk);
 
-/* Whether the question fits the swaps: a base is given for one swap only, and a height of the real chain needs the base of
- * each: an outage from a height on lies ahead of each, and each stands at the height of the clock. Where it does not, a message names each swap. */
+/* Whether the question fits the swaps: a base is given for one swap only, and a height of the real chain needs the base
+ * of each: an outage from a height on lies ahead of each, and each stands at the height of the clock. Where it does not,
+ * a message names each swap. */
 bool fits_desk(const struct question *question, const struct desk *desk);
 
 /* Then asks about the outage. */

@@ -495,7 +495,7 @@ fn standing_at(height: u32, (name, mut files): (String, Files)) -> (String, File
     (name, files)
 }
 
-/// The iCalendar files of desks at one height: read by RFC 5545's rules, each event is the model's, and a second file has
+/// The iCalendar files and the JSON of desks at one height: read by RFC 5545's rules, each event is the model's, and a second file has
 /// the same names for them.
 #[test]
 fn icalendar() {
@@ -516,13 +516,15 @@ fn icalendar() {
             let question = timed(900_000, 29_915_430 + later);
             let file = folder.with_extension("ics");
             let mut words = question.arguments();
-            words.extend(["--ics", file.to_str().expect("a name")].map(str::to_string));
+            words.extend(["--json", "--ics", file.to_str().expect("a name")].map(str::to_string));
             words.push(folder.to_str().expect("a name").to_string());
             let output = run(&top(), &words);
             assert_eq!(
                 output.status.code(),
                 Some(calendar::text(&swaps, &question).1.status())
             );
+            let printed = String::from_utf8(output.stdout).expect("UTF-8");
+            assert_eq!(json::read(&printed), Ok(data::json(&swaps, &question)));
             let events = ics::read(&fs::read_to_string(&file).expect("UTF-8"));
             let expected = ics::events(&swaps, &question);
             for (event, expected) in events.iter().zip(&expected) {
