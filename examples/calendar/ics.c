@@ -185,7 +185,7 @@ static void write_slot(struct ics *ics, const struct slot *slot, uint8_t side, s
         write_time(ics, "DTEND", early_time(&question->clock, slot->last));
     }
     if (open_text(ics, &text)) {
-        fprintf(text.to, "%s: an outage of %lu %s%s costs nothing%s", party_name(side), (unsigned long)question->slots,
+        fprintf(text.to, "%s: an outage of %lu %s%s has no warning%s", party_name(side), (unsigned long)question->slots,
                 question->slots_in_days ? "day" : "block", question->slots == 1 ? "" : "s",
                 slot->last == SLOT_OPEN ? " from here on" : "");
         write_made(ics, "SUMMARY", &text);

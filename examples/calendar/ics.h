@@ -1,5 +1,5 @@
-/* The desk as an iCalendar file (RFC 5545): the end of each window with what to do, and each stretch in which an outage costs
- * nothing, at estimated times. */
+/* The desk as an iCalendar file (RFC 5545): the end of each window with what to do, and each stretch in which an outage has
+ * no warning, at estimated times. */
 #ifndef ICS_H
 #define ICS_H
 

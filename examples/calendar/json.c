@@ -304,7 +304,7 @@ static void transaction(struct json *json, const struct question *question, cons
     end(json, '}');
 }
 
-/* The longest outage from now that costs a side nothing: any, or so many blocks, null where there is none; and what bounds
+/* The longest outage from now without a warning for a side: any, or so many blocks, null where there is none; and what bounds
  * it. */
 static void slack(struct json *json, const struct slack *slack)
 {
@@ -334,7 +334,7 @@ static void key_longest(struct json *json, const struct question *question, cons
     end(json, ']');
 }
 
-/* The stretches in which an outage costs a side nothing, in blocks from now; null where they are not asked for. */
+/* The stretches in which an outage has no warning for a side, in blocks from now; null where they are not asked for. */
 static void key_slots(struct json *json, const struct question *question, const struct desk *desk, uint8_t side)
 {
     struct slots slots;

@@ -29,11 +29,11 @@ static void end_line(FILE *to, enum markup markup, const struct desk *desk)
     fputs(after[markup], to);
 }
 
-/* "Alice: longest outage from now that costs nothing: 143 blocks, bounded by embedded, refund_2" */
+/* "Alice: longest outage from now without a warning: 143 blocks, bounded by embedded, refund_2" */
 static void print_longest(FILE *to, enum markup markup, const struct desk *desk, const struct slack *slack,
                           uint8_t side)
 {
-    fprintf(to, "%s%s: longest outage from now that costs nothing: %s", before[markup], party_name(side),
+    fprintf(to, "%s%s: longest outage from now without a warning: %s", before[markup], party_name(side),
             slack_label(slack).text);
     if (slack->reach == SOME) {
         fputs(slack->blocks == 1 ? " block" : " blocks", to);
@@ -74,7 +74,7 @@ static void print_slot(FILE *to, const struct question *question, const struct d
     }
 }
 
-/* "Alice: 100 blocks cost nothing in blocks 445 to 587, from 589 on" */
+/* "Alice: an outage of 100 blocks has no warning in blocks 445 to 587, from 589 on" */
 static bool print_slots(FILE *to, enum markup markup, const struct question *question, const struct desk *desk,
                         uint8_t side)
 {
@@ -85,7 +85,7 @@ static bool print_slots(FILE *to, enum markup markup, const struct question *que
     }
     fprintf(to, "%s%s: an outage of ", before[markup], party_name(side));
     write_number(to, question->slots);
-    fprintf(to, " %s%s costs nothing %s", question->slots_in_days ? "day" : "block", question->slots == 1 ? "" : "s",
+    fprintf(to, " %s%s has no warning %s", question->slots_in_days ? "day" : "block", question->slots == 1 ? "" : "s",
             slots.count == 0 ? "in no block" : "in blocks");
     for (size_t i = 0; i < slots.count; i++) {
         fputs(i > 0 ? "," : "", to);

@@ -9,7 +9,7 @@
 /* A slack in blocks: "143", "any" or "none". */
 struct label slack_label(const struct slack *slack);
 
-/* Prints for each side the longest outage from now that costs nothing and what bounds it, and, where they are asked for, the
+/* Prints for each side the longest outage from now without a warning and what bounds it, and, where they are asked for, the
  * stretches in which one can lie. False where there is no memory. */
 bool print_outages(FILE *to, enum markup markup, const struct question *question, const struct desk *desk);
 

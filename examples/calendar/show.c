@@ -244,12 +244,12 @@ static void show_deadlines(const struct entry *entry, uint8_t side, const struct
     }
 }
 
-/* The longest outage from now that costs the side nothing, and what bounds it. */
+/* The longest outage from now without a warning for the side, and what bounds it. */
 static void show_longest(const struct entry *entry, uint8_t side, const struct question *question)
 {
     struct slack slack = slack_of(question, entry, side);
 
-    printf("  longest outage from now that costs %s nothing: %s%s%s\n", party_name(side), slack_label(&slack).text,
+    printf("  longest outage from now without a warning for %s: %s%s%s\n", party_name(side), slack_label(&slack).text,
            slack.reach == ANY ? "" : ", bounded by ",
            slack.reach == ANY ? "" : transaction_label(&entry->swap, slack.t).text);
 }

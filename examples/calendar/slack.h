@@ -1,4 +1,4 @@
-/* For how many blocks from now a side's box can be off at no cost. It rests on the outage call, transaction by transaction;
+/* For how many blocks from now a side's box can be off without a warning. It rests on the outage call, transaction by transaction;
  * a call that answers it for a party can take the place of `threat_of`. */
 #ifndef SLACK_H
 #define SLACK_H

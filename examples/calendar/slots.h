@@ -1,4 +1,4 @@
-/* The stretches of blocks in which an outage of some length costs a side nothing, over all its swaps. */
+/* The stretches of blocks in which an outage of some length has no warning for a side, over all its swaps. */
 #ifndef SLOTS_H
 #define SLOTS_H
 

@@ -57,7 +57,7 @@ fn outages(found: &[(String, Found)], question: &Question) -> Value {
     Value::List(outages::sides(found).into_iter().map(of).collect())
 }
 
-/// The longest outage that costs a side nothing, and further fields.
+/// The longest outage without a warning for a side, and further fields.
 fn longest_of(longest: &Longest, side: u8, more: Vec<(String, Value)>) -> Value {
     let bound = longest.bound.as_ref();
     let Value::Object(fields) = Value::object([

@@ -152,7 +152,7 @@ fn slots(found: &[(String, Found)], question: &Question, side: u8) -> Vec<Event>
         }
         let (name, words) = (party_name(side), length.words());
         let on = if last.is_none() { " from here on" } else { "" };
-        let summary = format!("{name}: an outage of {words} costs nothing{on}");
+        let summary = format!("{name}: an outage of {words} has no warning{on}");
         let uid = format!("slot-{name}-{}", number + 1);
         events.push(event(clock.at, uid, start, end, [Some(summary), None]));
     }

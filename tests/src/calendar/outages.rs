@@ -10,7 +10,7 @@ use crate::model::heights::NEVER;
 use crate::model::{ALICE, BOB, CAROL};
 use std::collections::BTreeSet;
 
-/// The longest outage from now that costs nothing.
+/// The longest outage from now without a warning.
 #[derive(Clone, Debug, PartialEq, Eq)]
 pub struct Longest {
     /// The fewest blocks of outage and margin that are too many, and the swap and the transaction that make them so.
@@ -92,7 +92,7 @@ pub fn longest(swaps: &[(String, Found)], margin: u32, side: u8) -> Longest {
     })
 }
 
-/// The stretches in which an outage of this length costs the side nothing, in blocks from now; the last has no end.
+/// The stretches in which an outage of this length has no warning for the side, in blocks from now; the last has no end.
 pub fn slots(
     swaps: &[(String, Found)],
     length: Length,
@@ -170,13 +170,13 @@ pub fn lines(swaps: &[(String, Found)], question: &Question) -> Vec<String> {
             Some((_, swap, transaction)) => format!(", bounded by {swap}, {transaction}"),
         };
         lines.push(format!(
-            "{name}: longest outage from now that costs nothing: {blocks}{bound}{end}"
+            "{name}: longest outage from now without a warning: {blocks}{bound}{end}"
         ));
         if let Some(length) = question.slots {
             let slots = slots(swaps, length, question.margin, side);
             let stretches = stretches(&slots, same_height(swaps), question.clock);
             lines.push(format!(
-                "{name}: an outage of {} costs nothing {stretches}{end}",
+                "{name}: an outage of {} has no warning {stretches}{end}",
                 length.words()
             ));
         }

@@ -87,7 +87,7 @@ impl View {
             let bound = bound.map_or(String::new(), |(_, _, t)| format!(", bounded by {t}"));
             let (side, label) = (party_name(side), longest.label());
             lines.push(format!(
-                "  longest outage from now that costs {side} nothing: {label}{bound}"
+                "  longest outage from now without a warning for {side}: {label}{bound}"
             ));
         }
         lines
