@@ -1,19 +1,21 @@
 -- The table's rows for P6 and P7, by the laws for all sizes: their positions are places that these laws speak of.
 -- Assumes nothing.
-use Prim.Native.Nat.{ℕ, _+_}
+use Prim.Native.Nat.{ℕ, _+_, _≤_, _<_}
 use mathlib.Core.Path.{_≡_, refl, sym, _∙_}
-use mathlib.Core.Bool.{Bool, true, _&&_, false≢true}
+use mathlib.Core.Bool.{Bool, true, false, _&&_, false≢true}
 use mathlib.Core.List.{List, [], _∷_, _++_}
-use lib.Dec.{eqb, lit<, lit≤}
+use lib.Dec.{eqb, ltb, leb, lit<, lit≤}
 use lib.ListN.{getD, take, drop}
 use borrow.Author.Tests.{eq-eqb, eqb-true}
 use Rattle.laws.specs.Booleans.{split}
 use Rattle.laws.specs.Failing.{firstFailing}
 use Rattle.laws.specs.Gather.{every}
-use Rattle.sheet.specs.Refusal.{accepted}
-use Rattle.sheet.specs.Setup.{perDay}
+use Rattle.sheet.specs.Refusal.{accepted, stepLock, stepDeadline}
+use Rattle.sheet.specs.Setup.{perDay, stealth}
 use Rattle.sheet.specs.Saswap.{saswap}
+use Rattle.sheet.specs.LockHeight.{never}
 use Rattle.slots.specs.Destination.{alice, bob}
+use Rattle.slots.specs.declared.Destination.{Destination}
 use Rattle.slots.specs.declared.Destination.the-variants.{Contract}
 use Rattle.slots.specs.declared.Step.{Step}
 use Rattle.slots.specs.declared.Step.the-variants.{SendToPool, HandToMiner}
@@ -64,6 +66,37 @@ gets s u j send x h =
     rw (run-allowed s u (j ++ send) (h .longer), h .steps, row-append s u (journalSteps j) (bytes send ∷ []) 0 (start s) (rw r at (h .taken)), ← r)
     (one-step s u (bytes send) (run s u j .accepted) (run s u j .position)
     ∙ read-number s u (run s u j .position) (bytes send) x (h .read))
+
+-- ---- the laws for all sizes, below a height and from it on
+-- P6: success to the pool passes below refund_1's lock height
+success-below : (u : List ℕ) (p : Position) (party : ℕ) (to : Destination) → 0 < perDay u → perDay u ≤ 1000
+    → ReadyForPool (saswap (perDay u)) u p party success to
+    → ltb (p .mined) (refund1Height (perDay u)) ≡ true
+    → stepRefusal (saswap (perDay u)) u p (SendToPool party success to) ≡ accepted
+success-below u p party to h k r e = rw (success-to-pool u p party to h k r, e)
+
+-- and from there on gets 18, while a hand-in passes
+success-from : (u : List ℕ) (p : Position) (party : ℕ) (to : Destination) → 0 < perDay u → perDay u ≤ 1000 → stealth u ≡ 1
+    → ReadyForPool (saswap (perDay u)) u p party success to
+    → ReadyForMiner (saswap (perDay u)) u p party success to
+    → ltb (p .mined) (refund1Height (perDay u)) ≡ false
+    → (stepRefusal (saswap (perDay u)) u p (SendToPool party success to) ≡ stepDeadline)
+    × (stepRefusal (saswap (perDay u)) u p (HandToMiner party success to) ≡ accepted)
+success-from u p party to h k s r m e = (rw (success-to-pool u p party to h k r, e), success-to-miner u p party to s m)
+
+-- P7: revoke to the pool gets 17 below its lock height
+revoke-below : (u : List ℕ) (p : Position) (party : ℕ) (to : Destination) → p .mined < never
+    → ReadyForPool (saswap (perDay u)) u p party revoke to
+    → leb (revokeHeight (perDay u)) (p .mined) ≡ false
+    → stepRefusal (saswap (perDay u)) u p (SendToPool party revoke to) ≡ stepLock
+revoke-below u p party to l r e = rw (revoke-to-pool u p party to l r, e)
+
+-- and passes from there on
+revoke-from : (u : List ℕ) (p : Position) (party : ℕ) (to : Destination) → p .mined < never
+    → ReadyForPool (saswap (perDay u)) u p party revoke to
+    → leb (revokeHeight (perDay u)) (p .mined) ≡ true
+    → stepRefusal (saswap (perDay u)) u p (SendToPool party revoke to) ≡ accepted
+revoke-from u p party to l r e = rw (revoke-to-pool u p party to l r, e)
 
 -- ---- the rows
 abbrev sheet3 : List ℕ
@@ -130,21 +163,21 @@ unfolding opened passes sendPlace refund1Height
 success-passes =
     row successAt2 2 (3 ∷ 1 ∷ 2 ∷ 2 ∷ []) 0 (SendToPool bob success Contract) refl refl refl
     (record { allowed = refl; longer = refl; steps = refl; read = refl; taken = refl })
-    (success-to-pool setup3 (after successAt2) bob Contract (lit< tt) (lit≤ tt) pool-at-2)
+    (success-below setup3 (after successAt2) bob Contract (lit< tt) (lit≤ tt) pool-at-2 refl)
 
 success-late : holds (sendGets setup3 (successAt2 ++ mine) 3 (3 ∷ 1 ∷ 2 ∷ 2 ∷ []) 18) ≡ true
 unfolding opened passes sendPlace refund1Height
 success-late =
     row (successAt2 ++ mine) 3 (3 ∷ 1 ∷ 2 ∷ 2 ∷ []) 18 (SendToPool bob success Contract) refl refl refl
     (record { allowed = refl; longer = refl; steps = refl; read = refl; taken = refl })
-    (success-to-pool setup3 (after (successAt2 ++ mine)) bob Contract (lit< tt) (lit≤ tt) pool-at-3)
+    (success-from setup3 (after (successAt2 ++ mine)) bob Contract (lit< tt) (lit≤ tt) refl pool-at-3 miner-at-3 refl .0)
 
 success-handed : holds (sendGets setup3 (successAt2 ++ mine) 3 (4 ∷ 1 ∷ 2 ∷ 2 ∷ []) 0) ≡ true
-unfolding opened passes sendPlace
+unfolding opened passes sendPlace refund1Height
 success-handed =
     row (successAt2 ++ mine) 3 (4 ∷ 1 ∷ 2 ∷ 2 ∷ []) 0 (HandToMiner bob success Contract) refl refl refl
     (record { allowed = refl; longer = refl; steps = refl; read = refl; taken = refl })
-    (success-to-miner setup3 (after (successAt2 ++ mine)) bob Contract refl miner-at-3)
+    (success-from setup3 (after (successAt2 ++ mine)) bob Contract (lit< tt) (lit≤ tt) refl pool-at-3 miner-at-3 refl .1)
 
 -- P7's rows
 revoke-early : holds (sendGets setup3 revokeAt5 5 (3 ∷ 1 ∷ 4 ∷ 2 ∷ []) 17) ≡ true
@@ -152,14 +185,14 @@ unfolding opened passes sendPlace revokeHeight
 revoke-early =
     row revokeAt5 5 (3 ∷ 1 ∷ 4 ∷ 2 ∷ []) 17 (SendToPool bob revoke Contract) refl refl refl
     (record { allowed = refl; longer = refl; steps = refl; read = refl; taken = refl })
-    (revoke-to-pool setup3 (after revokeAt5) bob Contract (lit< tt) pool-at-5)
+    (revoke-below setup3 (after revokeAt5) bob Contract (lit< tt) pool-at-5 refl)
 
 revoke-passes : holds (sendGets setup3 (revokeAt5 ++ mine) 6 (3 ∷ 1 ∷ 4 ∷ 2 ∷ []) 0) ≡ true
 unfolding opened passes sendPlace revokeHeight
 revoke-passes =
     row (revokeAt5 ++ mine) 6 (3 ∷ 1 ∷ 4 ∷ 2 ∷ []) 0 (SendToPool bob revoke Contract) refl refl refl
     (record { allowed = refl; longer = refl; steps = refl; read = refl; taken = refl })
-    (revoke-to-pool setup3 (after (revokeAt5 ++ mine)) bob Contract (lit< tt) pool-at-6)
+    (revoke-from setup3 (after (revokeAt5 ++ mine)) bob Contract (lit< tt) pool-at-6 refl)
 
 all-five : (a b c d e : Bool) → a ≡ true → b ≡ true → c ≡ true → d ≡ true → e ≡ true → (a && (b && (c && (d && (e && true))))) ≡ true
 all-five a b c d e ha hb hc hd he = rw (ha, hb, hc, hd, he)
