@@ -3,6 +3,7 @@
 pub mod adversary;
 pub mod calendar;
 pub mod calls;
+pub mod clock;
 pub mod compare;
 mod cursor;
 pub mod engine;

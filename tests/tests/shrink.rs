@@ -6,7 +6,7 @@ use swap_tests::model::journal;
 use swap_tests::model::shrink::{self as model, MOST_STEPS};
 use swap_tests::model::{setup, sheet};
 use swap_tests::random::{self, Case, Random, MINE};
-use swap_tests::slow::slow;
+use swap_tests::slow::{slow, slowest};
 
 /// What a buffer holds before a call.
 const FILL: u8 = 170;
@@ -165,6 +165,10 @@ fn many_rounds() {
         assert_eq!(answers.rounds, usize::from(chain) + 1);
         assert_eq!(answers.steps - answers.left, usize::from(chain));
     }
+    // two for each of four that go, by whose shares blocks are apart, and two more
+    let mut answers = Answers::none();
+    answers.try_case(&slowest(8, 160));
+    assert_eq!(answers.rounds, 10);
     let (sheet, setup, journal) = slow(30, 927);
     let mut output = [FILL; 4 * MOST_STEPS];
     assert_eq!(journal.len(), 4 * 961);

@@ -7,13 +7,14 @@ use std::hint::black_box;
 use swap_tests::calls::FAST;
 use swap_tests::engine;
 use swap_tests::random::Case;
-use swap_tests::slow::{since_parent, slow, waiting};
+use swap_tests::slow::{since_parent, slow, slowest, waiting};
 
 /// How often a call is timed. The least processor time counts.
 const TURNS: usize = 2;
 
 /// The part that the rounds leave, by runs of the fast version, how many there are, and the steps that their tries take, each
-/// from the position before the step that is tried up to the first one that is refused.
+/// from the position before the step that is tried up to the first one that is refused. A step that stands beside the same one, which
+/// could not go, is not tried.
 fn tries((sheet, setup, journal): &Case) -> (Vec<u8>, usize, usize) {
     let whole = (FAST.run)(sheet, setup, journal);
     let number = whole >> 16 << 16;
@@ -23,12 +24,18 @@ fn tries((sheet, setup, journal): &Case) -> (Vec<u8>, usize, usize) {
         rounds += 1;
         let before = part.len();
         let mut at = 0;
+        let mut went = true;
         while at + 4 < part.len() {
+            if !went && part[at - 4..at] == part[at..at + 4] {
+                at += 4;
+                continue;
+            }
             let without = [&part[..at], &part[at + 4..]].concat();
             let answer = (FAST.run)(sheet, setup, &without);
             let accepted = 4 * (answer & 0xffff) as usize;
             tried += (accepted.min(without.len() - 4) - at) / 4 + 1;
-            match answer == number + (without.len() / 4 - 1) as u32 {
+            went = answer == number + (without.len() / 4 - 1) as u32;
+            match went {
                 true => part = without,
                 false => at += 4,
             }
@@ -68,7 +75,7 @@ fn all_go(steps: usize) -> Case {
 
 pub fn rates() {
     let columns = ["steps", "left", "rounds", "steps tried", "milliseconds"];
-    let unit = "Steps tried: by tries of every step, each up to the first refused one.";
+    let unit = "Steps tried: of each try, up to the first refused one.";
     head("Shrink", unit, &columns);
     for steps in [100, 400, 1_024] {
         shrink_row("SASwap careful, all can go", &all_go(steps));
@@ -83,5 +90,12 @@ pub fn rates() {
     for levels in [2, 4, 8] {
         let name = format!("{levels} waiting below far-locked rivals, and such a chain");
         shrink_row(&name, &waiting(levels, 8));
+    }
+    for steps in [384, 512, 1_024] {
+        shrink_row("the slowest of 32 transactions", &slowest(32, steps));
+    }
+    for transactions in [4, 8, 16] {
+        let name = format!("the same of {transactions}");
+        shrink_row(&name, &slowest(transactions, 1_024));
     }
 }
