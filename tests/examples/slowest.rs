@@ -13,7 +13,7 @@ use swap_tests::slow::apart;
 /// The most steps of a journal that is shrunk.
 const MOST: usize = 1_024;
 /// How many of 30 transactions wait, in the shapes that it begins with.
-const WAITING: [u8; 5] = [4, 8, 11, 13, 16];
+const WAITING: [u8; 5] = [10, 14, 18, 20, 22];
 
 /// A case that is changed: the sheet's head, its rows and locks, and the steps.
 #[derive(Clone)]

@@ -30,11 +30,14 @@ const ALICE: u8 = 0;
 const BOB: u8 = 1;
 const CAROL: u8 = 3;
 const CONTRACT: u8 = 2;
-/// Bob's signature and Carol's, as masks.
+/// The signatures on a sheet of three, as masks: the parties' own, Alice's secret, and those that are given.
 const BOBS: u8 = 1;
 const CAROLS: u8 = 2;
+const ALICES: u8 = 4;
+const SECRET: u8 = 8;
+const GIVEN: u8 = 240;
 
-/// A case in the making: the rows of a sheet, which need the first signature where nothing else is said, and steps.
+/// A case in the making: the rows of a sheet, and steps.
 #[derive(Default)]
 struct Draft {
     rows: Vec<[u8; 4]>,
@@ -43,9 +46,9 @@ struct Draft {
 }
 
 impl Draft {
-    /// One transaction more, by its parent and payees: its number.
-    fn add(&mut self, parent: u8, payees: u8, lock: [u8; 2]) -> u8 {
-        self.rows.push([parent, payees, 1, 0]);
+    /// One transaction more: its number.
+    fn add(&mut self, parent: u8, payees: u8, needs: u8, lock: [u8; 2]) -> u8 {
+        self.rows.push([parent, payees, needs, 0]);
         self.locks.push(lock);
         self.rows.len() as u8 - 1
     }
@@ -69,49 +72,58 @@ impl Draft {
         for left in (0..count).rev() {
             let payees = if left == 0 { 3 } else { 0 };
             let lock = if parent == 255 { [0, 0] } else { [2, 1] };
-            parent = self.add(parent, payees, lock);
+            parent = self.add(parent, payees, 1, lock);
             self.confirm(parent, if left == 0 { 0 } else { 2 }, blocks);
         }
     }
 
-    /// A chain of so many below a transaction, which Bob sends and which waits in the pool; its locks are reached. The last of it.
-    fn wait(&mut self, parent: u8, count: u8) -> u8 {
-        (0..count).fold(parent, |parent, _| {
-            let t = self.add(parent, 0, [1, 1]);
-            self.journal.extend([[3, BOB, t, CONTRACT], MINE]);
-            t
-        })
+    /// What two parties share for a transaction, each before a block.
+    fn share(&mut self, t: u8, to: u8, by: [u8; 2]) {
+        for party in by {
+            self.journal.extend([[1, party, t, to], MINE]);
+        }
     }
 
-    /// What Bob and Carol share for a transaction, each before a block.
-    fn share(&mut self, t: u8, to: u8) {
-        let steps = [[1, BOB, t, to], MINE, [1, CAROL, t, to], MINE];
-        self.journal.extend(steps);
-    }
-
-    /// Carol gives six signatures to Bob and he to Alice, each before a block: their mask.
-    fn give(&mut self) -> u8 {
-        for i in 2..8 {
+    /// Carol gives signatures to Bob and he to Alice, each before a block.
+    fn give(&mut self) {
+        for i in (0..8).filter(|i| GIVEN >> i & 1 == 1) {
             let steps = [[2, CAROL, i, BOB], MINE, [2, BOB, i, ALICE], MINE];
             self.journal.extend(steps);
         }
-        !(BOBS | CAROLS)
     }
 
-    /// A chain of so many that Alice confirms at the end with what is shared for it now, each but the first locked for a day since its
-    /// parent: the steps of the end.
-    fn shared_chain(&mut self, count: u8) -> Vec<[u8; 4]> {
-        let mut end = Draft::default();
+    /// A chain of so many, for which Bob and Carol share: Alice's sends, each before a block. They wait in the pool, their locks are
+    /// reached, and the last exposes the secret.
+    fn wait(&mut self, count: u8) -> Vec<[u8; 4]> {
+        let mut sent = vec![];
         let mut parent = 255;
         for left in (0..count).rev() {
-            let (payees, to) = if left == 0 { (1, ALICE) } else { (0, CONTRACT) };
-            let lock = if parent == 255 { [0, 0] } else { [2, 1] };
-            parent = self.add(parent, payees, lock);
-            self.rows[usize::from(parent)][2] = BOBS | CAROLS;
-            self.share(parent, to);
-            end.confirm(parent, to, DAY + 1);
+            let (payees, more, to) = if left == 0 {
+                (1, SECRET, ALICE)
+            } else {
+                (0, 0, CONTRACT)
+            };
+            parent = self.add(parent, payees, BOBS | CAROLS | more, [1, 1]);
+            self.share(parent, to, [BOB, CAROL]);
+            sent.extend([[3, ALICE, parent, to], MINE]);
         }
-        end.journal
+        sent
+    }
+
+    /// A chain of so many, for which Bob and Alice share, and which Carol can send once the secret is exposed, each but the first locked
+    /// for a day since its parent: the steps that confirm it.
+    fn shared_chain(&mut self, count: u8) -> Vec<[u8; 4]> {
+        let mut end = vec![];
+        let mut parent = 255;
+        for left in (0..count).rev() {
+            let (payees, to) = if left == 0 { (4, CAROL) } else { (0, CONTRACT) };
+            let lock = if parent == 255 { [0, 0] } else { [2, 1] };
+            parent = self.add(parent, payees, BOBS | ALICES | SECRET, lock);
+            self.share(parent, to, [BOB, ALICE]);
+            end.extend([[3, CAROL, parent, to], [5, 2, parent, 2]]);
+            end.extend([MINE; DAY + 1]);
+        }
+        end
     }
 
     /// Empty blocks up to 1,024 steps, and then the transaction.
@@ -139,8 +151,8 @@ impl Draft {
 /// the next.
 pub fn since_parent(blocks: usize) -> Case {
     let mut draft = Draft::default();
-    let opening = draft.add(255, 0, [0, 0]);
-    let locked = draft.add(opening, 3, [0, 0]);
+    let opening = draft.add(255, 0, 1, [0, 0]);
+    let locked = draft.add(opening, 3, 1, [0, 0]);
     draft.confirm(opening, 2, 1);
     draft.chain(30, blocks);
     draft.end(locked)
@@ -150,43 +162,45 @@ pub fn since_parent(blocks: usize) -> Case {
 /// each block asks for the deadlines of all; the rest of 32 transactions are the chain that is locked since the parent.
 pub fn waiting(levels: u8, blocks: usize) -> Case {
     let mut draft = Draft::default();
-    let first = draft.add(255, 3, [0, 0]);
+    let first = draft.add(255, 3, 1, [0, 0]);
     draft.confirm(first, 0, 1);
-    let mut parent = draft.add(255, 0, [0, 0]);
+    let mut parent = draft.add(255, 0, 1, [0, 0]);
     draft.send(parent, 2);
     for _ in 0..levels {
-        let child = draft.add(parent, 0, [0, 0]);
-        draft.add(parent, 3, [1, 255]);
+        let child = draft.add(parent, 0, 1, [0, 0]);
+        draft.add(parent, 3, 1, [1, 255]);
         draft.send(child, 2);
         parent = child;
     }
-    let locked = draft.add(parent, 3, [0, 0]);
+    let locked = draft.add(parent, 3, 1, [0, 0]);
     draft.chain(32 - draft.rows.len() as u8, blocks);
     draft.end(locked)
 }
 
 /// A journal on a sheet of three that takes long in every way known. Gifts and shares at its start keep blocks apart, and dropping
 /// one of these or of the blocks is refused only at the end. Each block asks for the deadlines of a chain of `waiting` transactions in
-/// the pool. Each round can drop a step or two of a chain of `going` others. It has at most so many steps, if these have room.
+/// the pool. A chain of `going` others needs a secret that the last of these exposes. So each round can drop a step or two of that chain
+/// and then of the first. It has at most so many steps, if these have room.
 pub fn apart(waiting: u8, going: u8, steps: usize) -> Case {
     let mut draft = Draft::default();
-    let first = draft.add(255, 0, [0, 0]);
+    let first = draft.add(255, 0, BOBS, [0, 0]);
     draft.journal = vec![[3, BOB, first, CONTRACT], [5, 2, first, 2]];
     draft.journal.extend([MINE; DAY]);
-    let parent = draft.wait(first, waiting);
-    let refused = draft.add(parent, 1, [0, 0]);
-    let given = draft.give();
-    draft.rows[usize::from(refused)][2] = BOBS | CAROLS | given;
-    draft.share(refused, ALICE);
+    let refused = draft.add(first, 1, BOBS | CAROLS | GIVEN, [0, 0]);
+    draft.give();
+    draft.share(refused, ALICE, [BOB, CAROL]);
+    let sent = draft.wait(waiting);
     let end = draft.shared_chain(going);
+    draft.journal.extend(sent);
     let before = (steps - 2).saturating_sub(end.len());
     draft.journal.resize(before.max(draft.journal.len()), MINE);
     draft.journal.extend(end);
-    draft.finish(refused, vec![128, 8, 0, 0, BOBS, CAROLS | given])
+    let masks = [ALICES | SECRET, BOBS, CAROLS | GIVEN];
+    draft.finish(refused, [vec![128, 8, SECRET], masks.to_vec()].concat())
 }
 
 /// The one of these that takes longest, of so many transactions.
 pub fn slowest(transactions: u8, steps: usize) -> Case {
-    let waiting = (transactions - 2) * 2 / 5;
+    let waiting = (transactions - 2) * 3 / 5;
     apart(waiting, transactions - 2 - waiting, steps)
 }

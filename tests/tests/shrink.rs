@@ -165,10 +165,10 @@ fn many_rounds() {
         assert_eq!(answers.rounds, usize::from(chain) + 1);
         assert_eq!(answers.steps - answers.left, usize::from(chain));
     }
-    // two for each of four that go, by whose shares blocks are apart, and two more
+    // on a sheet of three: two for each of three that are confirmed, one for each of three that wait, and two more
     let mut answers = Answers::none();
     answers.try_case(&slowest(8, 160));
-    assert_eq!(answers.rounds, 10);
+    assert_eq!(answers.rounds, 11);
     let (sheet, setup, journal) = slow(30, 927);
     let mut output = [FILL; 4 * MOST_STEPS];
     assert_eq!(journal.len(), 4 * 961);

@@ -91,7 +91,7 @@ pub fn rates() {
         let name = format!("{levels} waiting below far-locked rivals, and such a chain");
         shrink_row(&name, &waiting(levels, 8));
     }
-    for steps in [384, 512, 1_024] {
+    for steps in [512, 768, 1_024] {
         shrink_row("the slowest of 32 transactions", &slowest(32, steps));
     }
     for transactions in [4, 8, 16] {
