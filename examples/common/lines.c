@@ -84,6 +84,30 @@ bool next_line(char *text, size_t length, size_t *at, struct line *line)
     return true;
 }
 
+bool join(const char *program, char **arguments, int count, char text[ARGUMENTS_MOST])
+{
+    size_t length = 0;
+
+    for (int i = 0; i < count; i++) {
+        size_t more = strlen(arguments[i]);
+
+        if (more + 1 >= ARGUMENTS_MOST - length) {
+            complain(program, arguments[i], "", "too many words");
+            return false;
+        }
+        memcpy(text + length, arguments[i], more);
+        length += more;
+        text[length++] = ' ';
+    }
+    text[length] = '\0';
+    return true;
+}
+
+bool cut_words(char *text, struct line *line)
+{
+    return (is_text(text, strlen(text)) && cut(text, line)) || bad(line, "no text, or too many words");
+}
+
 bool bad(const struct line *line, const char *format, ...)
 {
     char *words = NULL;

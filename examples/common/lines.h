@@ -30,6 +30,15 @@ bool read_text(const struct line *line, char *text, size_t *length);
  * text has a byte of room after its end. */
 bool next_line(char *text, size_t length, size_t *at, struct line *line);
 
+/* The longest arguments that are a line. */
+#define ARGUMENTS_MOST 512
+
+/* Joins arguments to a text with a blank after each. False, with a message that names the first, where they are too long. */
+bool join(const char *program, char **arguments, int count, char text[ARGUMENTS_MOST]);
+
+/* Cuts such a text, which is no file's, into words. False, with a message, where it is no text or has too many. */
+bool cut_words(char *text, struct line *line);
+
 /* Prints what is wrong with a line, as "PROGRAM: FILE:NUMBER: ..."; false. */
 bool bad(const struct line *line, const char *format, ...);
 

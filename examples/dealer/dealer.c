@@ -1,144 +1,179 @@
 /*
- * A dealer's two-step use of the swap engine: ask whether a step would pass, talk to the client, then commit it to the
- * journal file. Usage and meaning stand in `help` below.
+ * A dealer's use of the swap engine: see what is open, ask whether a step would pass, talk to the client, then commit it
+ * to the journal file. Usage and meaning stand in `manual` below.
  */
-#define _POSIX_C_SOURCE 200809L
-
-#include <errno.h>
 #include <stdio.h>
 #include <string.h>
-#include <unistd.h>
 
-#include "../calendar/files.h"
-#include "../calendar/words.h"
+#include "../common/deal.h"
 #include "../common/output.h"
-#include "../common/whole.h"
 #include "swap.h"
 
 /* The exit status. */
 enum { FINE = 0, REFUSED = 1, BAD_USAGE = 2 };
 
-static const char usage[] = "usage: dealer FOLDER KIND PARTY TRANSACTION DESTINATION\n";
-
-static const char help[] =
+static const char *const manual[] = {
+    "usage: dealer FOLDER [STEP..] [--commit]\n",
     "\n"
-    "FOLDER holds sheet.bin, setup.bin and journal.bin; the four numbers are a step.\n"
+    "FOLDER holds sheet.bin, setup.bin and journal.bin. Without a step the dealer lists\n"
+    "the steps that are open, by party, each with a number and in words.\n"
     "\n"
-    "The dealer asks the engine whether the step would pass after the journal, shows\n"
-    "the answer, and waits for a line: yes commits the step, all else leaves it. The\n"
-    "journal is read again then, and the step committed with the count of steps that\n"
-    "was shown: where the journal went on meanwhile, the engine refuses. journal.bin\n"
-    "is replaced whole, so a crash leaves the journal before or the journal after; it\n"
-    "is a plain file of one name, and keeps its owner and mode. From the second reading\n"
-    "on the dealer holds the lock of the file journal.lock in FOLDER, for which other\n"
-    "dealers and swapfile wait; it stays there, empty.\n"
+    "With a step it asks the engine whether that would pass after the journal and shows\n"
+    "the answer. With --commit it commits the step then; without, it waits for a line:\n"
+    "yes commits the step, all else leaves it. A step that is refused, or words that\n"
+    "are none, are answered with the nearest step that would pass.\n"
     "\n"
-    "Exit status: 0 committed or left; 1 refused, or a file cannot be read or written,\n"
-    "or the output not be written, and then standard error says whether the step is\n"
-    "committed; 2 bad usage.\n";
-
-/* What is dealt with: a step, and the swap of a folder as it is asked about. */
-struct deal {
-    const char *name;
-    int folder;
-    uint8_t step[4];
-    struct swap swap;
+    "    dealer deal\n"
+    "    dealer deal alice sends lock_A to the pool\n"
+    "    dealer deal alice sends lock_A to the pool --commit\n"
+    "\n"
+    "A step is one of these, with a PARTY, alice, bob or carol, and with a TRANSACTION\n"
+    "or SIGNATURE by its name on the SASwap sheet or as `transaction 3`:\n"
+    "\n"
+    "kind\n"
+    "1     PARTY shares signatures on TRANSACTION[, paying PARTY]\n"
+    "      PARTY makes the first shares\n"
+    "2     PARTY gives SIGNATURE to PARTY\n"
+    "3     PARTY sends TRANSACTION to the pool[, paying PARTY]\n"
+    "4     PARTY hands TRANSACTION to the miner[, paying PARTY]\n"
+    "5     include TRANSACTION in the block\n"
+    "6     mine the block\n"
+    "7     bump TRANSACTION into the block\n"
+    "\n"
+    "or its four numbers, KIND PARTY TRANSACTION DESTINATION, as the journal has them:\n"
+    "parties are 0 Alice, 1 Bob, 2 the miner, 3 Carol; the transaction is 255 for the\n"
+    "first shares and a mined block, and the signature for a gift; the destination is\n"
+    "the party that is paid or that gets the gift, else 2. One number alone is a step\n"
+    "of the list; it is shown before you say yes, and does not go with --commit, since\n"
+    "the list may be another one by then.\n"
+    "\n"
+    "The journal is read again before it is written, and the step committed with the\n"
+    "count of steps that was shown: where the journal went on meanwhile, the engine\n"
+    "refuses. journal.bin is replaced whole, so a crash leaves the journal before or\n"
+    "the journal after; it is a plain file of one name, and keeps its owner and mode.\n"
+    "From the second reading on the dealer holds the lock of the file journal.lock in\n"
+    "FOLDER, for which other dealers and swapfile wait; it stays there, empty.\n"
+    "\n"
+    "Exit status: 0 listed, committed or left; 1 refused, or a file cannot be read or\n"
+    "written, or the output not be written, and then standard error says whether the\n"
+    "step is committed; 2 bad usage, or words that are no step.\n",
 };
 
-/* A byte in decimal. */
-static bool read_byte(const char *text, uint8_t *byte)
+/* What is asked for: a deal, the words of its step, how many, and whether it is committed at once. */
+struct task {
+    struct deal deal;
+    char *words[32];
+    int count;
+    bool commit;
+};
+
+static int misuse(const char *argument, const char *reason)
 {
-    unsigned value = 0;
+    if (argument != NULL) {
+        complain("dealer", argument, "", reason);
+    }
+    fputs(manual[0], stderr);
+    return BAD_USAGE;
+}
+
+/* A number up to a most, in decimal. */
+static bool read_number(const char *text, unsigned most, unsigned *number)
+{
     size_t length = strlen(text);
 
+    *number = 0;
     if (length == 0 || length > 3 || strspn(text, "0123456789") != length) {
         return false;
     }
     for (; *text != '\0'; text++) {
-        value = 10 * value + (unsigned)(*text - '0');
+        *number = 10 * *number + (unsigned)(*text - '0');
     }
-    *byte = (uint8_t)value;
-    return value <= 255;
+    return *number <= most;
 }
 
-static bool read_step(char **texts, uint8_t step[4])
+/* Whether the words are numbers: those that begin with a digit. */
+static bool in_numbers(const struct task *task)
 {
-    for (int i = 0; i < 4; i++) {
-        if (!read_byte(texts[i], &step[i])) {
-            complain("dealer", texts[i], "", "not a number from 0 to 255");
-            return false;
+    return task->count > 0 && strspn(task->words[0], "0123456789") > 0;
+}
+
+/* Takes up the arguments after the folder: FINE, or the status of bad usage with a message. */
+static int read_words(int argc, char **argv, struct task *task)
+{
+    for (int i = 2; i < argc; i++) {
+        if (strcmp(argv[i], "--commit") == 0) {
+            task->commit = true;
+        } else if (argv[i][0] == '-') {
+            return misuse(argv[i], "no such argument");
+        } else if (task->count == (int)(sizeof task->words / sizeof task->words[0])) {
+            return misuse(argv[i], "too many words");
+        } else {
+            task->words[task->count++] = argv[i];
         }
     }
-    return true;
+    return task->commit && task->count == 0 ? misuse("--commit", "no step is named") : FINE;
 }
 
-/* Says why nothing is done; false. */
-static bool fail(const struct deal *deal, const char *file, const char *reason)
+/* Reads the four numbers of a step; one alone waits for the list. */
+static int read_numbers(struct task *task)
 {
-    complain("dealer", deal->name, file, reason);
-    return false;
-}
+    unsigned number;
 
-/* Reads the swap of the folder, whose journal must be a file that can be replaced. */
-static bool read_here(const struct deal *deal, struct swap *swap)
-{
-    const char *reason = occupied(deal->folder, "journal.bin");
-    struct fault unreadable;
-
-    if (reason != NULL) {
-        return fail(deal, "journal.bin", reason);
+    if (task->count == 1) {
+        return task->commit ? misuse(task->words[0], "--commit takes a step in words or four numbers") : FINE;
     }
-    unreadable = read_files(deal->folder, swap);
-    return unreadable.file == NULL || fail(deal, unreadable.file, unreadable.reason);
-}
-
-/* Whether the journal is refused since it has no room for a step. */
-static bool is_full(const struct swap *swap, uint32_t refusal)
-{
-    return refusal == SWAP_JOURNAL_LENGTH && swap->journal_length == SWAP_JOURNAL_SIZE;
-}
-
-static void show_refusal(const struct swap *swap, uint32_t refusal)
-{
-    printf("refused: %s (%s)\n", is_full(swap, refusal) ? "the journal is full" : swap_refusal_words(refusal),
-           swap_refusal_name(refusal));
-}
-
-/* Whether the journal passed, so that the answer is the step's. */
-static bool is_of_step(const struct swap *swap, uint32_t answer)
-{
-    uint32_t refusal = SWAP_REFUSAL(answer);
-
-    return (refusal == SWAP_ACCEPTED || (refusal >= SWAP_STEP_FIELD && refusal <= SWAP_STEP_BLOCKS)) &&
-           4 * (size_t)SWAP_COUNT(answer) == swap->journal_length;
-}
-
-/* Shows what is asked, where it is the step that is answered. Its fields are in range unless it gets number 11. */
-static void show_step(const struct deal *deal, uint32_t answer)
-{
-    printf("after step %lu: ", (unsigned long)SWAP_COUNT(answer));
-    if (SWAP_REFUSAL(answer) != SWAP_STEP_FIELD) {
-        printf("%s, ", party_name(deal->step[1]));
-        print_step(&deal->swap, deal->step);
-        printf(": ");
+    if (task->count != SWAP_STEP_SIZE) {
+        return misuse(task->words[0], "a step has four numbers, or one of the list");
     }
+    for (int i = 0; i < SWAP_STEP_SIZE; i++) {
+        if (!read_number(task->words[i], 255, &number)) {
+            return misuse(task->words[i], "not a number from 0 to 255");
+        }
+        task->deal.step[i] = (uint8_t)number;
+    }
+    return FINE;
 }
 
-/* Shows ask's answer in words. */
-static void show_answer(const struct deal *deal, uint32_t answer)
+/* Reads the arguments. */
+static int read_task(int argc, char **argv, struct task *task)
 {
-    uint32_t refusal = SWAP_REFUSAL(answer);
+    int status;
 
-    if (is_of_step(&deal->swap, answer)) {
-        show_step(deal, answer);
-    } else if (!is_full(&deal->swap, refusal)) {
-        printf("the journal, after step %lu, is ", (unsigned long)SWAP_COUNT(answer));
+    if (argc < 2 || argv[1][0] == '-') {
+        return misuse(argc < 2 ? NULL : argv[1], "no such argument");
     }
-    if (refusal == SWAP_ACCEPTED) {
-        printf("would pass\ncommit? ");
-    } else {
-        show_refusal(&deal->swap, refusal);
+    task->deal.program = "dealer";
+    task->deal.name = argv[1];
+    status = read_words(argc, argv, task);
+    return status == FINE && in_numbers(task) ? read_numbers(task) : status;
+}
+
+/* Takes the step of this number in the list. */
+static int choose(struct task *task)
+{
+    struct deal *deal = &task->deal;
+    unsigned number;
+
+    if (!read_number(task->words[0], deal->open.count, &number) || number == 0) {
+        return misuse(task->words[0], "no number of the list");
     }
+    memcpy(deal->step, deal->open.bytes + SWAP_STEP_SIZE * (number - 1), SWAP_STEP_SIZE);
+    return FINE;
+}
+
+/* Finds the step that is meant: FINE, or the status with a message. */
+static int find_step(struct task *task)
+{
+    if (in_numbers(task) && task->count == SWAP_STEP_SIZE) {
+        return FINE;
+    }
+    if (!accept_swap(&task->deal)) {
+        return REFUSED;
+    }
+    if (in_numbers(task)) {
+        return choose(task);
+    }
+    return read_deal(&task->deal, task->words, task->count) ? FINE : BAD_USAGE;
 }
 
 /* Whether the client's line is yes. */
@@ -149,113 +184,57 @@ static bool is_agreed(void)
     return fgets(line, sizeof line, stdin) != NULL && strcmp(line, "yes\n") == 0;
 }
 
-/* Whether it is another swap than the one that was asked about. How far a journal went on the engine tells. */
-static bool is_another(const struct swap *asked, const struct swap *now)
-{
-    return asked->sheet_length != now->sheet_length || memcmp(asked->sheet, now->sheet, now->sheet_length) != 0 ||
-           asked->setup_length != now->setup_length || memcmp(asked->setup, now->setup, now->setup_length) != 0 ||
-           (asked->journal_length == now->journal_length &&
-            memcmp(asked->journal, now->journal, now->journal_length) != 0);
-}
-
-/* Writes the journal with the step behind it; false, with a message, where that fails. */
-static bool replace_journal(const struct deal *deal, const struct swap *swap)
-{
-    struct part journal = {"journal.bin", swap->journal, swap->journal_length + 4, ""};
-    struct failure failure = write_parts(deal->folder, &journal, 1);
-    char reason[128];
-
-    if (failure.reason != NULL && failure.name[0] == '\0') {
-        snprintf(reason, sizeof reason, "%s; the step is committed, but may not be on the disk", failure.reason);
-        return fail(deal, "", reason);
-    }
-    return failure.reason == NULL || fail(deal, failure.name, failure.reason);
-}
-
-/* Commits the step to the journal as it is now, on the count that was shown. */
-static bool commit_locked(const struct deal *deal, uint32_t count)
-{
-    static struct swap now;
-    uint32_t answer;
-
-    if (!read_here(deal, &now)) {
-        return false;
-    }
-    if (is_another(&deal->swap, &now)) {
-        printf("refused: it is not the swap any more that was asked about\n");
-        return false;
-    }
-    answer = swap_commit(now.sheet, now.sheet_length, now.setup, now.setup_length, deal->step, sizeof deal->step, count,
-                         now.journal, now.journal_length + SWAP_STEP_SIZE, (uint32_t)now.journal_length);
-    if (answer != SWAP_ACCEPTED) {
-        show_refusal(&now, SWAP_REFUSAL(answer));
-        return false;
-    }
-    return replace_journal(deal, &now);
-}
-
-/* The same, while no other program writes there. */
-static bool commit(const struct deal *deal, uint32_t count)
-{
-    int lock;
-    const char *reason = lock_folder(deal->folder, &lock);
-    bool committed;
-
-    if (reason != NULL) {
-        return fail(deal, LOCK_NAME, reason);
-    }
-    committed = commit_locked(deal, count);
-    close(lock);
-    return committed;
-}
-
 /* Asks, shows the answer, and commits where that is wanted: the exit status, and whether the step is committed. */
-static int ask(struct deal *deal, bool *committed)
+static int ask(struct task *task, bool *committed)
 {
-    struct swap *swap = &deal->swap;
-    uint32_t answer;
+    uint32_t answer = ask_deal(&task->deal);
 
-    deal->folder = open_folder(deal->name);
-    if (deal->folder < 0) {
-        fail(deal, "", strerror(errno));
-        return REFUSED;
-    }
-    if (!read_here(deal, swap)) {
-        return REFUSED;
-    }
-    answer = swap_ask(swap->sheet, swap->sheet_length, swap->setup, swap->setup_length, swap->journal,
-                      swap->journal_length, deal->step, sizeof deal->step);
-    show_answer(deal, answer);
     if (SWAP_REFUSAL(answer) != SWAP_ACCEPTED) {
         return REFUSED;
     }
-    flush_output();
-    if (!is_agreed()) {
-        printf("left\n");
+    if (!task->commit) {
+        printf("commit? ");
+        flush_output();
+        if (!is_agreed()) {
+            printf("left\n");
+            return FINE;
+        }
+    }
+    *committed = commit_deal(&task->deal, SWAP_COUNT(answer));
+    return *committed ? FINE : REFUSED;
+}
+
+/* Does what is asked for: the exit status, and whether the step is committed. */
+static int act(struct task *task, bool *committed)
+{
+    int status;
+
+    if (!open_deal(&task->deal)) {
+        return REFUSED;
+    }
+    if (task->count == 0) {
+        if (!accept_swap(&task->deal)) {
+            return REFUSED;
+        }
+        print_open(&task->deal.swap, &task->deal.open);
         return FINE;
     }
-    *committed = commit(deal, SWAP_COUNT(answer));
-    if (*committed) {
-        printf("committed as step %lu\n", (unsigned long)SWAP_COUNT(answer) + 1);
-    }
-    return *committed ? FINE : REFUSED;
+    status = find_step(task);
+    return status == FINE ? ask(task, committed) : status;
 }
 
 int main(int argc, char **argv)
 {
-    static struct deal deal;
+    static struct task task;
     bool committed = false;
     int status = FINE;
 
     open_standard();
     if (argc == 2 && strcmp(argv[1], "--help") == 0) {
-        printf("%s%s", usage, help);
-    } else if (argc != 6 || !read_step(argv + 2, deal.step)) {
-        fputs(usage, stderr);
-        status = BAD_USAGE;
+        printf("%s%s", manual[0], manual[1]);
     } else {
-        deal.name = argv[1];
-        status = ask(&deal, &committed);
+        status = read_task(argc, argv, &task);
+        status = status == FINE ? act(&task, &committed) : status;
     }
     return printed("dealer", status, committed ? "the step is committed" : NULL);
 }

@@ -365,7 +365,7 @@ fn refused_step(names: &Names, run: &Run, steps: usize) -> String {
     let [kind, party, t, destination] = step;
     let words = match run.refusal {
         11 => String::new(),
-        _ => format!(", {}", swapfile::step(names, &step)),
+        _ => format!(", {}", swapfile::step_words(names, &step)),
     };
     let number = run.accepted + 1;
     format!("  refused step: {number} of {steps}, bytes {kind} {party} {t} {destination}{words}")

@@ -79,7 +79,7 @@ fn sheet_lines(sheet: &Sheet) -> String {
 }
 
 /// A step in words; a block that is mined stands alone.
-pub fn step(names: &Names, step: &[u8]) -> String {
+pub fn step_words(names: &Names, step: &[u8]) -> String {
     let (by, name) = (step[1], |t| names.transaction(t));
     let words = match (step[0], step[2]) {
         (6, _) => return "mine the block".to_string(),
@@ -107,7 +107,7 @@ fn journal_lines(names: &Names, journal: &[u8]) -> String {
     for row in steps.chunk_by(|a, b| *a == MINE && *b == MINE) {
         let first = mined + 1;
         match (row[0] == MINE, row.len()) {
-            (false, _) => text += &format!("{}\n", step(names, row[0])),
+            (false, _) => text += &format!("{}\n", step_words(names, row[0])),
             (true, 1) => text += &format!("mine the block # block {first}\n"),
             (true, n) => text += &format!("mine {n} blocks # blocks {first} to {}\n", mined + n),
         }

@@ -47,7 +47,7 @@ impl View {
         }
         let by = self.last_safe(margin, t);
         let make = |kind: u8, once: Option<u8>, after: Option<u32>| Action::Do {
-            step: swapfile::step(&self.names, &[kind, side, t, destination]),
+            step: swapfile::step_words(&self.names, &[kind, side, t, destination]),
             once,
             after,
             by,

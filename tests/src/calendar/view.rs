@@ -174,7 +174,7 @@ impl View {
     fn steps(&self, party: u8) -> Vec<String> {
         let mut lines = vec![format!("  steps that {} could take now", party_name(party))];
         let open = self.open.iter().filter(|step| step[1] == party);
-        lines.extend(open.map(|step| format!("    {}", swapfile::step(&self.names, step))));
+        lines.extend(open.map(|step| format!("    {}", swapfile::step_words(&self.names, step))));
         or_none(lines, 1)
     }
 
