@@ -73,10 +73,11 @@ link() {
     fi
 }
 
-# Prints a program's help out of its source, where nothing is built yet; ends the script where it does not get out.
-help_of() { # FILE
-    local text
-    text=$(sed -nE '/^(static )?const char .*(usage|help|manual)\[\] =/,/;$/s/^[^"]*"(.*)\\n"[,;]?$/\1/p' "$top/$1") || exit 1
+# Prints a program's help out of its source, where nothing is built yet; ends the script where it does not get out. NAME is the string's,
+# by default that of each usage, help or manual.
+help_of() { # FILE [NAME]
+    local text name=${2:-'.*(usage|help|manual)'}
+    text=$(sed -nE "/^(static )?const char $name\\[\\] =/,/;\$/s/^[^\"]*\"(.*)\\\\n\"[,;]?\$/\\1/p" "$top/$1") || exit 1
     if ! printf '%s\n' "$text" 2>/dev/null; then
         echo "${0##*/}: output: cannot be written" >&2
         exit 1

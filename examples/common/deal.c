@@ -103,6 +103,29 @@ bool read_deal(struct deal *deal, char **words, int count)
     return false;
 }
 
+bool in_numbers(char **words, int count)
+{
+    return count > 0 && strspn(words[0], "0123456789") > 0;
+}
+
+bool read_numbers(const char *program, char **words, int count, uint8_t step[SWAP_STEP_SIZE])
+{
+    if (count != SWAP_STEP_SIZE) {
+        complain(program, words[0], "", "a step has four numbers");
+        return false;
+    }
+    for (int i = 0; i < SWAP_STEP_SIZE; i++) {
+        unsigned value = 0;
+
+        if (!is_number(words[i]) || strlen(words[i]) > 3 || sscanf(words[i], "%u", &value) != 1 || value > 255) {
+            complain(program, words[i], "", "not a number from 0 to 255");
+            return false;
+        }
+        step[i] = (uint8_t)value;
+    }
+    return true;
+}
+
 /* Whether the journal passed, so that the answer is the step's. */
 static bool is_of_step(const struct swap *swap, uint32_t answer)
 {

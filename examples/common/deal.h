@@ -26,6 +26,12 @@ bool accept_swap(struct deal *deal);
  * are none. */
 bool read_deal(struct deal *deal, char **words, int count);
 
+/* Whether words begin with a digit, so that they are numbers. */
+bool in_numbers(char **words, int count);
+
+/* Reads the four numbers of a step; false, with a message, where they are none. */
+bool read_numbers(const char *program, char **words, int count, uint8_t step[SWAP_STEP_SIZE]);
+
 /* Asks whether the step would pass after the journal, and shows the answer in words. */
 uint32_t ask_deal(struct deal *deal);
 

@@ -9,8 +9,8 @@
 /* The longest text: the longest journal takes up less than half of it. */
 #define TEXT_MOST (4u << 20)
 
-/* The most words of a line: the longest line of a sheet has 23. */
-#define WORDS_MOST 32
+/* The most words of a line: the longest of a sheet has 23, the longest ending 160. */
+#define WORDS_MOST 160
 
 /* A line: the words before a comment, and how many of them are taken. Blanks, commas and colons part words. */
 struct line {
@@ -31,7 +31,7 @@ bool read_text(const struct line *line, char *text, size_t *length);
 bool next_line(char *text, size_t length, size_t *at, struct line *line);
 
 /* The longest arguments that are a line. */
-#define ARGUMENTS_MOST 512
+#define ARGUMENTS_MOST 4096
 
 /* Joins arguments to a text with a blank after each. False, with a message that names the first, where they are too long. */
 bool join(const char *program, char **arguments, int count, char text[ARGUMENTS_MOST]);

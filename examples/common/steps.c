@@ -27,6 +27,11 @@ static const char first_shares[] = "makes the first shares";
 /* The parties by number. */
 static const char *const parties[] = {[SWAP_ALICE] = "alice", [SWAP_BOB] = "bob", [SWAP_CAROL] = "carol"};
 
+const char *party_words(uint8_t party)
+{
+    return parties[party];
+}
+
 /* Takes a party of the sheet. */
 static bool take_party(struct line *line, const struct swap *swap, uint8_t *party)
 {
@@ -39,7 +44,7 @@ static bool take_party(struct line *line, const struct swap *swap, uint8_t *part
     return false;
 }
 
-static bool expect_party(struct line *line, const struct swap *swap, uint8_t *party)
+bool expect_party(struct line *line, const struct swap *swap, uint8_t *party)
 {
     const char *expected = parties_of(swap) == 2 ? "'alice' or 'bob'" : "'alice', 'bob' or 'carol'";
 
@@ -69,7 +74,7 @@ static bool expect_name(struct line *line, const struct swap *swap, const char *
     return true;
 }
 
-static bool expect_transaction(struct line *line, const struct swap *swap, uint8_t *t)
+bool expect_transaction(struct line *line, const struct swap *swap, uint8_t *t)
 {
     return expect_name(line, swap, saswap_transaction, "transaction", count_of(swap), t);
 }
@@ -79,8 +84,7 @@ static bool expect_signature(struct line *line, const struct swap *swap, uint8_t
     return expect_name(line, swap, saswap_signature, "signature", swap->sheet[1], number);
 }
 
-/* Takes whom the transaction pays; the contract where nobody is named. */
-static bool expect_destination(struct line *line, const struct swap *swap, uint8_t *destination)
+bool expect_destination(struct line *line, const struct swap *swap, uint8_t *destination)
 {
     *destination = SWAP_CONTRACT;
     return !take(line, "paying") || expect_party(line, swap, destination);
@@ -204,13 +208,73 @@ struct step_words step_words(const struct swap *swap, const uint8_t step[4])
     return words;
 }
 
-/* Prints so many blocks, which follow MINED others. */
-static void print_blocks(size_t blocks, size_t mined)
+/* The first shares, which open conduct has not. */
+static bool is_first_shares(const struct swap *swap, const uint8_t step[4])
+{
+    return step[0] == SWAP_SHARE && step[1] <= SWAP_CAROL && is_among(everybody(swap), step[1]) &&
+           step[2] == SWAP_NONE && step[3] == SWAP_CONTRACT;
+}
+
+bool is_step(const struct swap *swap, const uint8_t step[4])
+{
+    static const uint8_t setup[SWAP_SETUP_SIZE] = {1, 0, SWAP_OPEN, 0};
+    uint32_t answer = swap_ask(swap->sheet, swap->sheet_length, setup, sizeof setup, NULL, 0, step, SWAP_STEP_SIZE);
+
+    return SWAP_REFUSAL(answer) != SWAP_STEP_FIELD || is_first_shares(swap, step);
+}
+
+/* Prints so many blocks, which follow MINED others where that is given. */
+static void print_blocks(size_t blocks, size_t *mined)
 {
     if (blocks == 1) {
-        printf("mine the block # block %zu\n", mined + 1);
+        printf("mine the block");
     } else {
-        printf("mine %zu blocks # blocks %zu to %zu\n", blocks, mined + 1, mined + blocks);
+        printf("mine %zu blocks", blocks);
+    }
+    if (mined != NULL && blocks == 1) {
+        printf(" # block %zu", *mined + 1);
+    } else if (mined != NULL) {
+        printf(" # blocks %zu to %zu", *mined + 1, *mined + blocks);
+    }
+    putchar('\n');
+    if (mined != NULL) {
+        *mined += blocks;
+    }
+}
+
+/* How many of these steps mine a block, one after the other. */
+static size_t blocks_at(const struct swap *swap, const uint8_t *steps, size_t length)
+{
+    size_t blocks = 0;
+
+    while (SWAP_STEP_SIZE * blocks < length && steps[SWAP_STEP_SIZE * blocks] == SWAP_MINE &&
+           is_step(swap, steps + SWAP_STEP_SIZE * blocks)) {
+        blocks++;
+    }
+    return blocks;
+}
+
+/* Prints a step that mines no block. */
+static void print_one(const struct swap *swap, const uint8_t step[4])
+{
+    if (is_step(swap, step)) {
+        printf("%s\n", step_words(swap, step).text);
+    } else {
+        printf("# no step: %u %u %u %u\n", (unsigned)step[0], (unsigned)step[1], (unsigned)step[2], (unsigned)step[3]);
+    }
+}
+
+void print_steps(const struct swap *swap, const uint8_t *steps, size_t length, size_t *mined)
+{
+    for (size_t at = 0; at < length;) {
+        size_t blocks = blocks_at(swap, steps + at, length - at);
+
+        if (blocks > 0) {
+            print_blocks(blocks, mined);
+        } else {
+            print_one(swap, steps + at);
+        }
+        at += SWAP_STEP_SIZE * (blocks > 0 ? blocks : 1);
     }
 }
 
@@ -218,19 +282,27 @@ void print_journal(const struct swap *swap)
 {
     size_t mined = 0;
 
-    for (size_t at = 0; at < swap->journal_length;) {
-        const uint8_t *step = swap->journal + at;
-        size_t blocks = 0;
+    print_steps(swap, swap->journal, swap->journal_length, &mined);
+}
 
-        if (step[0] != SWAP_MINE) {
-            printf("%s\n", step_words(swap, step).text);
-            at += 4;
-            continue;
-        }
-        for (; at < swap->journal_length && swap->journal[at] == SWAP_MINE; at += 4) {
-            blocks++;
-        }
-        print_blocks(blocks, mined);
-        mined += blocks;
+void print_refused_journal(const struct swap *swap, uint32_t answer)
+{
+    uint32_t refusal = SWAP_REFUSAL(answer);
+    size_t whole = swap->journal_length - swap->journal_length % SWAP_STEP_SIZE;
+    size_t sound = refusal == SWAP_JOURNAL_LENGTH ? whole : SWAP_STEP_SIZE * (size_t)SWAP_COUNT(answer);
+    size_t mined = 0;
+
+    if (refusal == SWAP_JOURNAL_LENGTH) {
+        printf("# the journal is refused: %s (%s)\n", swap_refusal_words(refusal), swap_refusal_name(refusal));
+        print_steps(swap, swap->journal, whole, NULL);
+        return;
     }
+    print_steps(swap, swap->journal, sound, &mined);
+    printf("# step %zu is refused: %s (%s)\n", sound / SWAP_STEP_SIZE + 1, swap_refusal_words(refusal),
+           swap_refusal_name(refusal));
+    print_steps(swap, swap->journal + sound, SWAP_STEP_SIZE, NULL);
+    if (whole > sound + SWAP_STEP_SIZE) {
+        printf("# steps behind it:\n");
+    }
+    print_steps(swap, swap->journal + sound + SWAP_STEP_SIZE, whole - sound - SWAP_STEP_SIZE, NULL);
 }

@@ -7,6 +7,7 @@
 #include "../calendar/saswap.h"
 #include "../calendar/words.h"
 #include "lines.h"
+#include "output.h"
 #include "sheets.h"
 #include "steps.h"
 
@@ -222,16 +223,93 @@ const char *side_name(uint8_t sides)
     return sides == 0 ? NULL : field_words[SIDE][sides >> 1];
 }
 
-void decode_text(const struct swap *swap, uint8_t sides)
+/* Prints the head's lines of an accepted setup. */
+static void print_setup(const struct swap *swap)
 {
     printf("blocks per day: %u\n", blocks_per_day_of(swap));
     printf("conduct: %s\n", field_words[CONDUCT][conduct_of(swap)]);
     printf("stealth: %s\n", field_words[STEALTH][stealth_of(swap)]);
+}
+
+static void print_side(uint8_t sides)
+{
     if (sides != 0) {
         printf("side: %s\n", side_name(sides));
     }
+}
+
+void decode_text(const struct swap *swap, uint8_t sides)
+{
+    print_setup(swap);
+    print_side(sides);
     putchar('\n');
     print_sheet(swap);
     printf("\njournal:\n");
     print_journal(swap);
+}
+
+/* Prints bytes of a file as a comment. */
+static void print_bytes(const char *file, const uint8_t *bytes, size_t length)
+{
+    printf("# %s:", file);
+    for (size_t i = 0; i < length; i++) {
+        printf(" %u", (unsigned)bytes[i]);
+    }
+    putchar('\n');
+}
+
+static bool is_of_sheet(uint32_t refusal)
+{
+    return refusal >= SWAP_SHEET_SHORT && refusal <= SWAP_SHEET_CHILDREN;
+}
+
+static bool is_of_setup(uint32_t refusal)
+{
+    return refusal == SWAP_SETUP_BLOCKS || refusal == SWAP_SETUP_CONDUCT || refusal == SWAP_SETUP_PARTIES;
+}
+
+void decode_refused(const struct swap *swap, uint8_t sides, uint32_t answer)
+{
+    uint32_t refusal = SWAP_REFUSAL(answer);
+    bool of_swap = is_of_sheet(refusal) || is_of_setup(refusal);
+
+    if (of_swap) {
+        printf("# refused: %s (%s)\n", swap_refusal_words(refusal), swap_refusal_name(refusal));
+        print_bytes("setup.bin", swap->setup, swap->setup_length);
+    } else {
+        print_setup(swap);
+    }
+    print_side(sides);
+    putchar('\n');
+    if (is_of_sheet(refusal)) {
+        print_bytes("sheet.bin", swap->sheet, swap->sheet_length);
+        print_bytes("journal.bin", swap->journal, swap->journal_length);
+        return;
+    }
+    print_sheet(swap);
+    printf("\njournal:\n");
+    if (of_swap) {
+        print_steps(swap, swap->journal, swap->journal_length - swap->journal_length % SWAP_STEP_SIZE, NULL);
+    } else {
+        print_refused_journal(swap, answer);
+    }
+    if (swap->journal_length % SWAP_STEP_SIZE != 0) {
+        print_bytes("no step", swap->journal + swap->journal_length - swap->journal_length % SWAP_STEP_SIZE,
+                    swap->journal_length % SWAP_STEP_SIZE);
+    }
+}
+
+void complain_refusal(const char *program, const char *folder, uint32_t answer)
+{
+    uint32_t refusal = SWAP_REFUSAL(answer);
+    const char *file = is_of_sheet(refusal) ? "sheet.bin" : is_of_setup(refusal) ? "setup.bin" : "journal.bin";
+    char step[32] = "";
+    char reason[192];
+
+    if (refusal >= SWAP_STEP_FIELD && refusal <= SWAP_STEP_BLOCKS) {
+        snprintf(step, sizeof step, "step %lu is ", (unsigned long)SWAP_COUNT(answer) + 1);
+    }
+    snprintf(reason, sizeof reason, "%srefused: %s (%s)", step, swap_refusal_words(refusal),
+             swap_refusal_name(refusal));
+    complain(program, folder, file, reason);
 }

@@ -14,4 +14,11 @@ bool encode_text(const char *program, const char *file, struct swap *swap, uint8
 /* Prints a swap that the engine accepts, and its side or 0. */
 void decode_text(const struct swap *swap, uint8_t sides);
 
+/* Prints what is there of a swap that the engine refuses with this answer: what is refused in comments, with the reason,
+ * and what can't be put in words as its bytes. */
+void decode_refused(const struct swap *swap, uint8_t sides, uint32_t answer);
+
+/* Tells why the engine refuses a folder's swap, by the answer of its run: "PROGRAM: FOLDER/FILE: REASON". */
+void complain_refusal(const char *program, const char *folder, uint32_t answer);
+
 #endif

@@ -6,6 +6,7 @@
 #include <string.h>
 
 #include "../common/deal.h"
+#include "../common/lines.h"
 #include "../common/output.h"
 #include "swap.h"
 
@@ -76,27 +77,6 @@ static int misuse(const char *argument, const char *reason)
     return BAD_USAGE;
 }
 
-/* A number up to a most, in decimal. */
-static bool read_number(const char *text, unsigned most, unsigned *number)
-{
-    size_t length = strlen(text);
-
-    *number = 0;
-    if (length == 0 || length > 3 || strspn(text, "0123456789") != length) {
-        return false;
-    }
-    for (; *text != '\0'; text++) {
-        *number = 10 * *number + (unsigned)(*text - '0');
-    }
-    return *number <= most;
-}
-
-/* Whether the words are numbers: those that begin with a digit. */
-static bool in_numbers(const struct task *task)
-{
-    return task->count > 0 && strspn(task->words[0], "0123456789") > 0;
-}
-
 /* Takes up the arguments after the folder: FINE, or the status of bad usage with a message. */
 static int read_words(int argc, char **argv, struct task *task)
 {
@@ -115,23 +95,12 @@ static int read_words(int argc, char **argv, struct task *task)
 }
 
 /* Reads the four numbers of a step; one alone waits for the list. */
-static int read_numbers(struct task *task)
+static int read_step(struct task *task)
 {
-    unsigned number;
-
     if (task->count == 1) {
         return task->commit ? misuse(task->words[0], "--commit takes a step in words or four numbers") : FINE;
     }
-    if (task->count != SWAP_STEP_SIZE) {
-        return misuse(task->words[0], "a step has four numbers, or one of the list");
-    }
-    for (int i = 0; i < SWAP_STEP_SIZE; i++) {
-        if (!read_number(task->words[i], 255, &number)) {
-            return misuse(task->words[i], "not a number from 0 to 255");
-        }
-        task->deal.step[i] = (uint8_t)number;
-    }
-    return FINE;
+    return read_numbers("dealer", task->words, task->count, task->deal.step) ? FINE : misuse(NULL, NULL);
 }
 
 /* Reads the arguments. */
@@ -145,16 +114,17 @@ static int read_task(int argc, char **argv, struct task *task)
     task->deal.program = "dealer";
     task->deal.name = argv[1];
     status = read_words(argc, argv, task);
-    return status == FINE && in_numbers(task) ? read_numbers(task) : status;
+    return status == FINE && in_numbers(task->words, task->count) ? read_step(task) : status;
 }
 
 /* Takes the step of this number in the list. */
 static int choose(struct task *task)
 {
     struct deal *deal = &task->deal;
-    unsigned number;
+    unsigned number = 0;
 
-    if (!read_number(task->words[0], deal->open.count, &number) || number == 0) {
+    if (!is_number(task->words[0]) || strlen(task->words[0]) > 3 || sscanf(task->words[0], "%u", &number) != 1 ||
+        number == 0 || number > deal->open.count) {
         return misuse(task->words[0], "no number of the list");
     }
     memcpy(deal->step, deal->open.bytes + SWAP_STEP_SIZE * (number - 1), SWAP_STEP_SIZE);
@@ -164,13 +134,15 @@ static int choose(struct task *task)
 /* Finds the step that is meant: FINE, or the status with a message. */
 static int find_step(struct task *task)
 {
-    if (in_numbers(task) && task->count == SWAP_STEP_SIZE) {
-        return FINE;
+    bool numbers = in_numbers(task->words, task->count);
+
+    if (numbers && task->count == SWAP_STEP_SIZE) {
+        return FINE; /* it is read */
     }
     if (!accept_swap(&task->deal)) {
         return REFUSED;
     }
-    if (in_numbers(task)) {
+    if (numbers) {
         return choose(task);
     }
     return read_deal(&task->deal, task->words, task->count) ? FINE : BAD_USAGE;

@@ -18,7 +18,7 @@ enum { FINE = 0, REFUSED = 1, BAD_USAGE = 2 };
 
 static const char *const manual[] = {
     "usage: swapfile encode TEXT FOLDER\n"
-    "       swapfile decode FOLDER\n"
+    "       swapfile decode [--anyway] FOLDER\n"
     "       swapfile new saswap BLOCKS_PER_DAY FOLDER [SIDE]\n",
     "\n"
     "encode  reads the text of a swap and writes sheet.bin, setup.bin and journal.bin\n"
@@ -26,7 +26,9 @@ static const char *const manual[] = {
     "        or what the engine refuses, is told with its line, and nothing is written.\n"
     "        The steps of a journal that is there already must be the first of the\n"
     "        text's, on the same sheet and setup: none gets lost.\n"
-    "decode  prints the text of the swap in FOLDER, which the engine must accept.\n"
+    "decode  prints the text of the swap in FOLDER, which the engine must accept; with\n"
+    "        --anyway also of one that is refused: the refused step with the reason, the\n"
+    "        steps behind it, and as comments the bytes that no words stand for.\n"
     "new     writes a swap to start from: the SASwap sheet for 1 to 1000 blocks per\n"
     "        day, careful conduct, no stealth, an empty journal; with SIDE, alice or\n"
     "        bob, the file `side` too. FOLDER holds no swap before.\n"
@@ -61,25 +63,8 @@ static int encode(const char *file, const char *folder)
     return encode_text("swapfile", file, &swap, &sides) && store_swap(folder, &swap, side_name(sides), false) ? FINE : REFUSED;
 }
 
-/* Tells why the engine refuses a folder's swap. */
-static int refuse(const char *folder, uint32_t answer)
-{
-    uint32_t refusal = SWAP_REFUSAL(answer);
-    bool of_setup = refusal <= SWAP_SETUP_CONDUCT || refusal == SWAP_SETUP_PARTIES;
-    const char *file = refusal <= SWAP_SHEET_CHILDREN ? "sheet.bin" : of_setup ? "setup.bin" : "journal.bin";
-    char step[32] = "";
-    char reason[192];
-
-    if (refusal >= SWAP_STEP_FIELD && refusal <= SWAP_STEP_BLOCKS) {
-        snprintf(step, sizeof step, "step %lu is ", (unsigned long)SWAP_COUNT(answer) + 1);
-    }
-    snprintf(reason, sizeof reason, "%srefused: %s (%s)", step, swap_refusal_words(refusal),
-             swap_refusal_name(refusal));
-    complain("swapfile", folder, file, reason);
-    return REFUSED;
-}
-
-static int decode(const char *folder)
+/* Prints a swap; one that is refused only where that is wanted anyway. */
+static int decode(const char *folder, bool anyway)
 {
     static struct swap swap;
     uint8_t sides;
@@ -91,11 +76,16 @@ static int decode(const char *folder)
         return REFUSED;
     }
     answer = swap_run(swap.sheet, swap.sheet_length, swap.setup, swap.setup_length, swap.journal, swap.journal_length);
-    if (SWAP_REFUSAL(answer) != SWAP_ACCEPTED) {
-        return refuse(folder, answer);
+    if (SWAP_REFUSAL(answer) == SWAP_ACCEPTED) {
+        decode_text(&swap, sides);
+        return FINE;
     }
-    decode_text(&swap, sides);
-    return FINE;
+    if (anyway) {
+        decode_refused(&swap, sides, answer);
+        return FINE;
+    }
+    complain_refusal("swapfile", folder, answer);
+    return REFUSED;
 }
 
 /* A number from 1 to 1000, or 0 where it is none. */
@@ -147,7 +137,10 @@ static int act(int argc, char **argv)
         return encode(argv[2], argv[3]);
     }
     if (argc == 3 && strcmp(argv[1], "decode") == 0) {
-        return decode(argv[2]);
+        return decode(argv[2], false);
+    }
+    if (argc == 4 && strcmp(argv[1], "decode") == 0 && strcmp(argv[2], "--anyway") == 0) {
+        return decode(argv[3], true);
     }
     if ((argc == 5 || argc == 6) && strcmp(argv[1], "new") == 0) {
         return start(argv[2], argv[3], argv[4], argc == 6 ? argv[5] : NULL);
