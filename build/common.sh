@@ -77,7 +77,7 @@ link() {
 # by default that of each usage, help or manual.
 help_of() { # FILE [NAME]
     local text name=${2:-'.*(usage|help|manual)'}
-    text=$(sed -nE "/^(static )?const char $name\\[\\] =/,/;\$/s/^[^\"]*\"(.*)\\\\n\"[,;]?\$/\\1/p" "$top/$1") || exit 1
+    text=$(sed -nE "/^(static )?const char ${name}\\[\\] =/,/;\$/s/^[^\"]*\"(.*)\\\\n\"[,;]?\$/\\1/p" "$top/$1") || exit 1
     if ! printf '%s\n' "$text" 2>/dev/null; then
         echo "${0##*/}: output: cannot be written" >&2
         exit 1

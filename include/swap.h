@@ -30,6 +30,18 @@ extern "C" {
  * calls are added. */
 #define SWAP_VERSION "2.0.0"
 
+/* The same as one number, for #if: 10,000 for each of the first, 100 for each of the second, and the third. */
+#define SWAP_VERSION_NUMBER 20000
+
+/* Stands before each call: the compiler warns where an answer is dropped, since a refused call has done nothing. */
+#if (defined(__cplusplus) && __cplusplus >= 201703L) || (defined(__STDC_VERSION__) && __STDC_VERSION__ >= 202311L)
+#define SWAP_MUST_USE [[nodiscard]]
+#elif defined(__GNUC__)
+#define SWAP_MUST_USE __attribute__((warn_unused_result))
+#else
+#define SWAP_MUST_USE
+#endif
+
 /* The refusals: for each its name, its number and what it says. */
 #define SWAP_REFUSALS(X) \
     X(SWAP_ACCEPTED, 0, "no refusal") \
@@ -216,6 +228,7 @@ enum swap_status {
 /*
  * Checks a contract sheet. Refusals 1 to 8; the count is 0.
  */
+SWAP_MUST_USE
 uint32_t swap_check(const uint8_t *sheet, size_t sheet_length);
 
 /*
@@ -224,6 +237,7 @@ uint32_t swap_check(const uint8_t *sheet, size_t sheet_length);
  * The rest of the journal starts at byte 4 * count: at the refused step, or at the journal's end where none is refused.
  * Under 1 to 10, 24 and 32 it is the whole journal.
  */
+SWAP_MUST_USE
 uint32_t swap_run(const uint8_t *sheet, size_t sheet_length,
                   const uint8_t *setup, size_t setup_length,
                   const uint8_t *journal, size_t journal_length);
@@ -237,6 +251,7 @@ uint32_t swap_run(const uint8_t *sheet, size_t sheet_length,
  * buffer. Refusal 25 says that the buffer is shorter than that. Bytes after the output keep their values, and under a
  * refusal all bytes do.
  */
+SWAP_MUST_USE
 uint32_t swap_list(const uint8_t *sheet, size_t sheet_length,
                    const uint8_t *setup, size_t setup_length,
                    const uint8_t *journal, size_t journal_length,
@@ -257,6 +272,7 @@ uint32_t swap_list(const uint8_t *sheet, size_t sheet_length,
  * A height or a count of 2,147,483,647 is "never". The output takes up 18n bytes, 576 (SWAP_REPORT_SIZE) at most. Refusal 25 says
  * that the buffer is shorter than that. Bytes after the output keep their values, and under a refusal all bytes do.
  */
+SWAP_MUST_USE
 uint32_t swap_report(const uint8_t *sheet, size_t sheet_length,
                      const uint8_t *setup, size_t setup_length,
                      const uint8_t *journal, size_t journal_length,
@@ -290,6 +306,7 @@ uint32_t swap_report(const uint8_t *sheet, size_t sheet_length,
  * A height of 2,147,483,647 is "never". The output takes up 10n bytes, 320 (SWAP_OUTAGE_SIZE) at most. Refusal 25 says
  * that the buffer is shorter than that. Bytes after the output keep their values, and under a refusal all bytes do.
  */
+SWAP_MUST_USE
 uint32_t swap_outage(const uint8_t *sheet, size_t sheet_length,
                      const uint8_t *setup, size_t setup_length,
                      const uint8_t *journal, size_t journal_length,
@@ -309,6 +326,7 @@ uint32_t swap_outage(const uint8_t *sheet, size_t sheet_length,
  * The output takes up 73 (n + 1) bytes, 2,409 (SWAP_PAGE_SIZE) at most, without a zero at its end. Refusal 25 says that the
  * buffer is shorter than that. Bytes after the output keep their values, and under a refusal all bytes do.
  */
+SWAP_MUST_USE
 uint32_t swap_page(const uint8_t *sheet, size_t sheet_length,
                    const uint8_t *setup, size_t setup_length,
                    const uint8_t *journal, size_t journal_length,
@@ -327,6 +345,7 @@ uint32_t swap_page(const uint8_t *sheet, size_t sheet_length,
  * 500,000,000. The output takes up 8n bytes, 256 (SWAP_TIMELOCKS_SIZE) at most. Refusal 25, the last, says that the buffer
  * is shorter than that. Bytes after the output keep their values, and under a refusal all bytes do.
  */
+SWAP_MUST_USE
 uint32_t swap_timelocks(const uint8_t *sheet, size_t sheet_length,
                         const uint8_t *setup, size_t setup_length,
                         uint32_t base,
@@ -344,6 +363,7 @@ uint32_t swap_timelocks(const uint8_t *sheet, size_t sheet_length,
  * each for its own swap, and none of them is returned. Refusal 25, tested after 28, says that the buffer is shorter than
  * that. Bytes after the output keep their values, and under a refusal of the call all bytes do.
  */
+SWAP_MUST_USE
 uint32_t swap_desk(const uint8_t *sheet, size_t sheet_length,
                    const uint8_t *bundle, size_t bundle_length,
                    uint8_t *output, size_t output_length);
@@ -358,6 +378,7 @@ uint32_t swap_desk(const uint8_t *sheet, size_t sheet_length,
  * Refusals 1 to 10 and 32 of sheet and setup, then 29, 30 and 31, each over the whole list; the count is 0. An empty list is
  * accepted. Signatures and conduct are not judged.
  */
+SWAP_MUST_USE
 uint32_t swap_blocks(const uint8_t *sheet, size_t sheet_length,
                      const uint8_t *setup, size_t setup_length,
                      const uint8_t *list, size_t list_length);
@@ -372,6 +393,7 @@ uint32_t swap_blocks(const uint8_t *sheet, size_t sheet_length,
  * keep their values, and under a refusal all bytes do.
  */
 #define SWAP_EARLIEST_SIZE (4 * SWAP_TRANSACTIONS)
+SWAP_MUST_USE
 uint32_t swap_earliest(const uint8_t *sheet, size_t sheet_length,
                        const uint8_t *setup, size_t setup_length,
                        uint32_t mask,
@@ -383,6 +405,7 @@ uint32_t swap_earliest(const uint8_t *sheet, size_t sheet_length,
  * the journal has 65,536 bytes, so no room for a step. The journal's own refusal comes first, with the count of swap_run; then
  * the step's, 11 where it is not of 4 bytes, with the count of steps in the journal, as under 0.
  */
+SWAP_MUST_USE
 uint32_t swap_ask(const uint8_t *sheet, size_t sheet_length,
                   const uint8_t *setup, size_t setup_length,
                   const uint8_t *journal, size_t journal_length,
@@ -398,6 +421,7 @@ uint32_t swap_ask(const uint8_t *sheet, size_t sheet_length,
  * other bytes keep their values, and under a refusal all bytes do. After a commit that passed, a second one with the same
  * count and the new length is refused.
  */
+SWAP_MUST_USE
 uint32_t swap_commit(const uint8_t *sheet, size_t sheet_length,
                      const uint8_t *setup, size_t setup_length,
                      const uint8_t *step, size_t step_length,
@@ -417,6 +441,7 @@ uint32_t swap_commit(const uint8_t *sheet, size_t sheet_length,
  * under a refusal all bytes do.
  */
 #define SWAP_SHRINK_SIZE (4 * 1024)
+SWAP_MUST_USE
 uint32_t swap_shrink(const uint8_t *sheet, size_t sheet_length,
                      const uint8_t *setup, size_t setup_length,
                      const uint8_t *journal, size_t journal_length,

@@ -172,8 +172,25 @@ static void expect_names(void)
     expect("no words", strcmp(swap_refusal_words(65535), "not in the refusal table") == 0);
 }
 
+static void expect_version(void)
+{
+    unsigned first = 0;
+    unsigned second = 100;
+    unsigned third = 100;
+
+    expect("three numbers", sscanf(SWAP_VERSION, "%u.%u.%u", &first, &second, &third) == 3);
+    expect("the version as one number", 10000 * first + 100 * second + third == SWAP_VERSION_NUMBER);
+    expect("no part reaches the next", second < 100 && third < 100);
+#if SWAP_VERSION_NUMBER < 20000
+    expect("the preprocessor takes it", 0);
+#else
+    expect("the preprocessor takes it", 1);
+#endif
+}
+
 int main(void)
 {
+    expect_version();
     expect_reports();
     expect_ring();
     expect_outage();

@@ -52,7 +52,7 @@ static void single_runs(void)
     uint8_t output[sizeof answers];
     size_t start = 1 + 8 * 4;
 
-    swap_desk(p10, sizeof p10, four, sizeof four, output, sizeof output);
+    expect_answer("the four are accepted", swap_desk(p10, sizeof p10, four, sizeof four, output, sizeof output), 0, 0);
     for (size_t i = 0; i < 4; i++) {
         size_t length = four[1 + 4 * 4 + 4 * i];
         uint32_t answer = swap_run(p10, sizeof p10, four + 1 + 4 * i, 4, four + start, length);
