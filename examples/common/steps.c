@@ -136,6 +136,9 @@ static bool read_blocks(struct line *line, uint8_t step[4], unsigned *times)
     if (take(line, "the block")) {
         return true;
     }
+    if (!is_number(next_word(line))) {
+        return bad(line, "'%s' where 'the block' or a number of blocks is expected", next_word(line));
+    }
     return expect_number(line, 1, STEPS_MOST, times) && (take(line, "block") || expect(line, "blocks"));
 }
 
