@@ -1,8 +1,8 @@
 /*
  * The swap engine's outward calls.
  *
- * Every call takes byte slices, each as a pointer and a length in bytes (a null pointer with length 0 is an empty slice),
- * and returns one number: refusal * 65536 + count. No bytes make a call trap; a refused call changes no buffer.
+ * Every call but swap_version takes byte slices, each as a pointer and a length in bytes (a null pointer with length 0 is an
+ * empty slice), and returns one number: refusal * 65536 + count. No bytes make a call trap; a refused call changes no buffer.
  *
  * The calls are reentrant: they keep no state and no pointer, so any number of threads may call at once. The library is
  * for x86-64. It needs no heap, and of other code memcpy and memset alone. All its functions are proved; the macros and
@@ -224,6 +224,13 @@ enum swap_status {
 #define SWAP_DESK_COUNT 4
 #define SWAP_DESK_SWAPS 64
 #define SWAP_DESK_SIZE (SWAP_DESK_ENTRY * SWAP_DESK_SWAPS)
+
+/*
+ * The version of the library itself, as SWAP_VERSION_NUMBER has that of the header: for a library that is loaded at run
+ * time. It is the one call whose answer has no refusal and no count.
+ */
+SWAP_MUST_USE
+uint32_t swap_version(void);
 
 /*
  * Checks a contract sheet. Refusals 1 to 8; the count is 0.

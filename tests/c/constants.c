@@ -181,6 +181,7 @@ static void expect_version(void)
     expect("three numbers", sscanf(SWAP_VERSION, "%u.%u.%u", &first, &second, &third) == 3);
     expect("the version as one number", 10000 * first + 100 * second + third == SWAP_VERSION_NUMBER);
     expect("no part reaches the next", second < 100 && third < 100);
+    expect("the library's own", swap_version() == SWAP_VERSION_NUMBER);
 #if SWAP_VERSION_NUMBER < 20000
     expect("the preprocessor takes it", 0);
 #else

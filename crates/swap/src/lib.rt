@@ -28,6 +28,15 @@ ghost use Rattle.earliest.specs.Answer.{earliestAnswer};
 ghost use Rattle.asks.specs.Ask.{askAnswer};
 ghost use Rattle.asks.specs.Commit.{commitAnswer};
 ghost use Rattle.shrink.specs.Shrink.{shrinkAnswer};
+ghost use Rattle.swap.specs.Version.{version};
+
+// The version of the library as one number.
+#[no_mangle]
+pub extern "C" fn swap_version() -> u32
+    ensures { λ r. ⌜ r ≡ version ⌝ }
+{
+    20000
+}
 
 // Checks a sheet: refusal × 65,536.
 #[no_mangle]
