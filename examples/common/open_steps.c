@@ -16,8 +16,7 @@ uint32_t ask_open(const struct swap *swap, struct open_steps *open)
     return answer;
 }
 
-/* The blocks of a journal that is accepted. */
-static unsigned long mined(const struct swap *swap)
+unsigned long blocks_mined(const struct swap *swap)
 {
     unsigned long blocks = 0;
 
@@ -32,8 +31,8 @@ void print_open(const struct swap *swap, const struct open_steps *open)
     static const char *const headings[] = {"alice", "bob", "the miner", "carol"};
     unsigned party = SWAP_NONE;
 
-    printf("after step %zu, blocks mined: %lu, open steps: %lu\n", swap->journal_length / SWAP_STEP_SIZE, mined(swap),
-           (unsigned long)open->count);
+    printf("after step %zu, blocks mined: %lu, open steps: %lu\n", swap->journal_length / SWAP_STEP_SIZE,
+           blocks_mined(swap), (unsigned long)open->count);
     for (uint32_t i = 0; i < open->count; i++) {
         const uint8_t *step = open->bytes + SWAP_STEP_SIZE * i;
 

@@ -11,6 +11,9 @@ struct open_steps {
     uint8_t bytes[SWAP_LIST_SIZE];
 };
 
+/* The blocks of a journal that is accepted. */
+unsigned long blocks_mined(const struct swap *swap);
+
 /* Asks for them: the answer; none are there where it is a refusal. */
 uint32_t ask_open(const struct swap *swap, struct open_steps *open);
 

@@ -258,12 +258,12 @@ static void print_bytes(const char *file, const uint8_t *bytes, size_t length)
     putchar('\n');
 }
 
-static bool is_of_sheet(uint32_t refusal)
+bool is_of_sheet(uint32_t refusal)
 {
     return refusal >= SWAP_SHEET_SHORT && refusal <= SWAP_SHEET_CHILDREN;
 }
 
-static bool is_of_setup(uint32_t refusal)
+bool is_of_setup(uint32_t refusal)
 {
     return refusal == SWAP_SETUP_BLOCKS || refusal == SWAP_SETUP_CONDUCT || refusal == SWAP_SETUP_PARTIES;
 }

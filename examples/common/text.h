@@ -18,6 +18,10 @@ void decode_text(const struct swap *swap, uint8_t sides);
  * and what can't be put in words as its bytes. */
 void decode_refused(const struct swap *swap, uint8_t sides, uint32_t answer);
 
+/* Whether a refusal is the sheet's, and whether it is the setup's. */
+bool is_of_sheet(uint32_t refusal);
+bool is_of_setup(uint32_t refusal);
+
 /* Tells why the engine refuses a folder's swap, by the answer of its run: "PROGRAM: FOLDER/FILE: REASON". */
 void complain_refusal(const char *program, const char *folder, uint32_t answer);
 

@@ -14,17 +14,6 @@
 
 static struct swap swap;
 
-/* The blocks of an accepted journal. */
-static unsigned long mined(void)
-{
-    unsigned long blocks = 0;
-
-    for (size_t at = 0; at < swap.journal_length; at += SWAP_STEP_SIZE) {
-        blocks += swap.journal[at] == SWAP_MINE;
-    }
-    return blocks;
-}
-
 int check(int count, char **words)
 {
     uint32_t answer;
@@ -44,7 +33,8 @@ int check(int count, char **words)
            is_saswap(&swap) ? ", saswap" : "");
     printf("setup: %u blocks per day, conduct %s, stealth %s\n", blocks_per_day_of(&swap),
            conduct_name(conduct_of(&swap)), stealth_of(&swap) == 0 ? "no" : "yes");
-    printf("journal: steps accepted: %lu, blocks mined: %lu\n", (unsigned long)SWAP_COUNT(answer), mined());
+    printf("journal: steps accepted: %lu, blocks mined: %lu\n", (unsigned long)SWAP_COUNT(answer),
+           blocks_mined(&swap));
     return FINE;
 }
 

@@ -103,7 +103,7 @@ bool is_of_swap(uint32_t answer)
 {
     uint32_t refusal = SWAP_REFUSAL(answer);
 
-    return (refusal >= SWAP_SHEET_SHORT && refusal <= SWAP_SETUP_CONDUCT) || refusal == SWAP_SETUP_PARTIES;
+    return is_of_sheet(refusal) || is_of_setup(refusal);
 }
 
 static const struct command *command_named(const char *name)
