@@ -1,0 +1,11 @@
+pub mod Masks
+pub mod Parts
+pub mod Rounds
+pub mod Actors
+pub mod Shown
+pub mod Moves
+pub mod Alive
+pub mod Bounded
+pub mod Played
+pub mod Theorems
+pub mod Examples

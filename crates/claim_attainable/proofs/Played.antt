@@ -1,0 +1,85 @@
+-- A list of steps in which X takes none, or none but sends of some transactions, leads to bounded positions.
+-- Assumes nothing.
+use Prim.Native.Nat.{ℕ}
+use mathlib.Core.Path.{_≡_}
+use mathlib.Core.Logic.{inl, inr}
+use mathlib.Core.Bool.{Bool, true, false, not, _||_, false≢true}
+use mathlib.Core.List.{List, [], _∷_}
+use lib.Dec.{eqb}
+use borrow.Author.Tests.{eqb-true, not-true}
+use Rattle.laws.specs.Booleans.{split, either, and-parts, or-parts, fails-by}
+use Rattle.laws.specs.Gather.{every}
+use Rattle.sheet.specs.Check.{sheetRefusal}
+use Rattle.sheet.specs.Setup.{setupRefusal}
+use Rattle.sheet.specs.Checked.{Checked}
+use Rattle.sheet.proofs.Theorems.{sheet-checked}
+use Rattle.slots.specs.declared.Step.{Step}
+use Rattle.slots.specs.declared.Step.the-variants.{Share, Give, SendToPool, HandToMiner, Include, Mine, Bump}
+use Rattle.slots.specs.Destination.{isParty}
+use Rattle.position.specs.declared.Position.{Position}
+use Rattle.position.specs.Play.{FourBytes, decodeBytes, step, play}
+use Rattle.position.proofs.StepCases.{StepCase, taken, turned-down, step-case}
+use Rattle.position.proofs.Decoding.{decodes}
+use Rattle.steps.specs.declared.Decoded.the-variants.{Read}
+use Rattle.steps.specs.Decode.{stepBytes}
+use Rattle.moves.proofs.Rises.{fourOf}
+use Rattle.agreement.proofs.EachKind.{wide}
+use Rattle.agreement.proofs.SoundSteps.{sound-step}
+use Rattle.outage.proofs.Play.{later-step, later-then}
+use Rattle.claim_attainable.specs.Attainable.{Closed}
+use Rattle.claim_attainable.specs.Words.{stepOf, sendOf, sendsOnly}
+use Rattle.claim_attainable.proofs.Actors.{Apart, Idle}
+use Rattle.claim_attainable.proofs.Moves.{moved-by}
+use Rattle.claim_attainable.proofs.Bounded.{Bounded, next}
+
+-- the four bytes of a step that is read are its own
+bytes-of : (s u : List ℕ) (b : FourBytes) (y : Step) → decodeBytes s u b ≡ Read y → b ≡ fourOf y
+unfolding decodeBytes fourOf
+bytes-of s u b y e = rw (decodes s u (b .kind) (b .party) (b .transaction) (b .destination) y e .bytes)
+
+-- a step of which X's part is a send of these: X is idle in it
+module _ (x : ℕ) (also : ℕ → Bool) where
+  keeps : FourBytes → Bool
+  keeps b = not (stepOf x b) || sendOf also b
+
+  apart-by : (party t : ℕ) → (not (eqb party x) || also t) ≡ true → Apart x also party t
+  apart-by party t h =
+      split (eqb party x)
+      (λ e. inr (eqb-true party x e, rw e at h))
+      inl
+
+  alone-by : (party : ℕ) → (not (eqb party x) || false) ≡ true → eqb party x ≡ false
+  alone-by party h = either (or-parts (not (eqb party x)) false h) (not-true (eqb party x)) (λ y. fails-by (eqb party x) (λ z. false≢true y))
+
+  idle-by : (y : Step) → keeps (fourOf y) ≡ true → Idle x also y
+  unfolding keeps fourOf stepOf sendOf stepBytes Idle
+  idle-by (Share party t to) h = alone-by party h
+  idle-by (Give party j to) h = alone-by party h
+  idle-by (SendToPool party t to) h = apart-by party t h
+  idle-by (HandToMiner party t to) h = apart-by party t h
+  idle-by (Include party t to) h = tt
+  idle-by (Mine party t to) h = tt
+  idle-by (Bump party t to) h = tt
+
+module _ (s u : List ℕ) (h : sheetRefusal s ≡ 0) (k : setupRefusal s u ≡ 0) (p : Position) (x : ℕ) (who : isParty s x ≡ true) (also : ℕ → Bool)
+    (members : ℕ) (closed : Closed s u p x also members) where
+  abbrev ok : Checked s
+  ok = sheet-checked s h
+
+  abbrev Held : Position → Type 0
+  Held q = Bounded s u ok p x who also members closed q
+
+  held-case : (q : Position) (b : FourBytes) → Held q → keeps x also b ≡ true → StepCase s u q b → Held (step s u q b .position)
+  held-case q b w i (taken y d f r e) =
+      let g = sound-step s u h k q b (w .sound) in
+      let on = later-then s p q (step s u q b .position) (w .later) (later-step s u h k q b (w .sound)) in
+      let m = moved-by s u q x also (wide s u ok q (w .sound)) (w .sound .beyond) y (ok .signatures-few) f r (idle-by x also y (rw (bytes-of s u b y d) at i)) in
+      next s u ok p x who also members closed q w (step s u q b .position) g on (rw e m)
+  held-case q b w i (turned-down n m e) = rw e w
+
+  pub held-play : (bs : List FourBytes) (q : Position) → Held q → sendsOnly x also bs ≡ true → Held (play s u bs q)
+  unfolding play sendsOnly every keeps
+  held-play [] q w i = w
+  held-play (b ∷ bs) q w i =
+      let z = and-parts (keeps x also b) (every (keeps x also) bs) i in
+      held-play bs (step s u q b .position) (held-case q b w (z .0) (step-case s u q b)) (z .1)

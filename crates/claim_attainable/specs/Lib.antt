@@ -1,0 +1,3 @@
+pub mod Attainable
+pub mod Words
+pub mod Claim
