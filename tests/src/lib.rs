@@ -1,6 +1,7 @@
 //! Tests of the built library against a separate model of document 01.
 
 pub mod adversary;
+pub mod attainable;
 pub mod calendar;
 pub mod calls;
 pub mod clock;
