@@ -11,7 +11,7 @@ use lib.Bits.{bitAnd}
 use lib.Dec.{eqb, ltb, leb}
 use lib.ListN.{length}
 use borrow.Author.Tests.{eqb-true, eq-eqb, ltb-true, ltb-false, lt-ltb, leb-true}
-use Rattle.laws.specs.Booleans.{pick, split, either, clash, and-parts, fails-by, or-right}
+use Rattle.laws.specs.Booleans.{split, either, clash, and-parts, fails-by, or-right}
 use Rattle.laws.specs.Mask.{bit, unionBelow, without}
 use Rattle.laws.specs.Bits.{bit-and, no-bit}
 use Rattle.sheet.specs.Field.{parties, place, partyAt, count, parent, opening, signatures, secrets, required}
@@ -33,7 +33,7 @@ use Rattle.agreement.proofs.EachKind.{right-to, wide}
 use Rattle.careful.proofs.Has.{Has, held, shown, secret, has-by}
 use Rattle.outage.proofs.Between.{between}
 use Rattle.outage.proofs.Play.{LaterIn, later-same}
-use Rattle.claim_attainable.specs.Attainable.{secretsOf, othersKeys, knownFrom, neverSent, waitsFor, comes, Closed}
+use Rattle.claim_attainable.specs.Attainable.{secretsOf, otherKeys, othersKeys, knownFrom, neverSent, waitsFor, comes, Closed}
 use Rattle.claim_attainable.proofs.Masks.{union-has, subset-else}
 use Rattle.claim_attainable.proofs.Parts.{othersHave, Way, waits, lent, signs, Parent, comes-from, known-shared, known-member, have-keys, have-known, have-shared}
 use Rattle.claim_attainable.proofs.Actors.{Place, in-pool, in-block, in-chain, There, pool, block, chain, SentBy, ShownBy, by-share, by-send, by-block, MovedBy}
@@ -72,9 +72,9 @@ shown-secret s t i a b = bit-and (secrets s) (exposedMask s t) i ∙ rw (a, b)
 
 -- the keys of another party are among the others'
 others-has : (s : List ℕ) (p : Position) (x y i : ℕ) → isParty s y ≡ true → eqb y x ≡ false → holds p y i ≡ true → bit (othersKeys s p x) i ≡ true
-unfolding othersKeys holds
+unfolding otherKeys othersKeys holds
 others-has s p x y i who apart h =
-    union-has (parties s) (λ k. pick (eqb (partyAt k) x) 0 (at.keys p (partyAt k))) i (place y) (place-below s y who)
+    union-has (parties s) (λ k. otherKeys p x (partyAt k)) i (place y) (place-below s y who)
     (rw (at-place s y who, apart) h)
 
 -- an empty slot shares nothing

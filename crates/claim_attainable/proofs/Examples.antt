@@ -18,13 +18,13 @@ use Rattle.position.specs.Position.{isConfirmed}
 use Rattle.position.specs.Play.{FourBytes, journalSteps, play}
 use Rattle.position.proofs.Opened.{opened}
 use Rattle.agreement.specs.Claim.{positionOf}
-use Rattle.claim_attainable.specs.Attainable.{gone, secretsOf, othersKeys, knownFrom, neverSent, waitsFor, signable, comes, grown, rounds, attainable, attainableElsewhere, Closed}
+use Rattle.claim_attainable.specs.Attainable.{gone, secretsOf, otherKeys, othersKeys, shownBy, knownFrom, neverSent, waitsFor, signable, comes, grown, rounds, attainable, attainableElsewhere, Closed}
 use Rattle.claim_attainable.specs.Words.{stepOf, sendOf, without, sendsOnly}
 use Rattle.claim_attainable.specs.Claim.{Foreseen}
 use Rattle.claim_attainable.proofs.Theorems.{attainability}
 
 unfoldable brought : Unit {0}
-unfolding opened joined setBelow allBelow anyBelow gone secretsOf othersKeys knownFrom neverSent waitsFor signable comes grown rounds attainable attainableElsewhere stepOf sendOf without sendsOnly
+unfolding opened joined setBelow allBelow anyBelow gone secretsOf otherKeys othersKeys shownBy knownFrom neverSent waitsFor signable comes grown rounds attainable attainableElsewhere stepOf sendOf without sendsOnly
 brought = tt
 
 -- no transaction is lent

@@ -20,7 +20,7 @@ use Rattle.slots.proofs.Parents.{parent-below}
 use Rattle.position.specs.declared.Position.{Position}
 use Rattle.position.specs.Position.{slot, isConfirmed, shared}
 use Rattle.steps.specs.Decode.{sendsTo, sharesTo}
-use Rattle.claim_attainable.specs.Attainable.{gone, secretsOf, othersKeys, knownFrom, neverSent, waitsFor, signable, comes}
+use Rattle.claim_attainable.specs.Attainable.{gone, secretsOf, othersKeys, shownBy, knownFrom, neverSent, waitsFor, signable, comes}
 use Rattle.claim_attainable.proofs.Masks.{or-left, or-last, union-has, subset-from}
 
 -- the signatures that the others have for t and d, by a set
@@ -102,10 +102,10 @@ module _ (s : List ℕ) (p : Position) (members : ℕ) where
   known-shared i h = or-left (sharedSecrets s (λ k. sharedAny (slot p k))) _ i h
 
   pub known-member : (t i : ℕ) → t < count s → bit members t ≡ true → bit (secretsOf s t) i ≡ true → bit (knownFrom s p members) i ≡ true
-  unfolding knownFrom
+  unfolding knownFrom shownBy
   known-member t i l m h =
-      or-last (sharedSecrets s (λ k. sharedAny (slot p k))) (unionBelow (count s) (λ k. pick (bit members k) (secretsOf s k) 0)) i
-      (union-has (count s) (λ k. pick (bit members k) (secretsOf s k) 0) i t l (rw m h))
+      or-last (sharedSecrets s (λ k. sharedAny (slot p k))) (unionBelow (count s) (shownBy s members)) i
+      (union-has (count s) (shownBy s members) i t l (rw m h))
 
 -- what the others have, by its three parts
 module _ (s : List ℕ) (p : Position) (x members t d i : ℕ) where
@@ -131,12 +131,12 @@ module _ (s u : List ℕ) (ok : Checked s) (p : Position) (x : ℕ) (also : ℕ 
   picked-bit false m i h = clash h (no-bit i)
 
   known-more : (i : ℕ) → bit (knownFrom s p a) i ≡ true → bit (knownFrom s p b) i ≡ true
-  unfolding knownFrom
+  unfolding knownFrom shownBy
   known-more i h =
-      either (or-bit (sharedSecrets s (λ k. sharedAny (slot p k))) (unionBelow (count s) (λ k. pick (bit a k) (secretsOf s k) 0)) i h)
+      either (or-bit (sharedSecrets s (λ k. sharedAny (slot p k))) (unionBelow (count s) (shownBy s a)) i h)
       (known-shared s p b i)
       (λ y.
-      let w = union-bit (count s) (λ k. pick (bit a k) (secretsOf s k) 0) i y in
+      let w = union-bit (count s) (shownBy s a) i y in
       let z = picked-bit (bit a (w .0)) (secretsOf s (w .0)) i (w .2) in
       known-member s p b (w .0) i (w .1) (within (w .0) (w .1) (z .0)) (z .1))
 

@@ -30,14 +30,19 @@ gone s p t = isConfirmed p t || invalidated s (isConfirmed p) t
 unfoldable pub secretsOf : List ℕ → ℕ → ℕ
 secretsOf s t = bitAnd (secrets s) (exposedMask s t)
 
--- "keys of all the others"
+-- "keys of all the others": of each party but X
+unfoldable pub otherKeys : Position → ℕ → ℕ → ℕ
+otherKeys p x party = pick (eqb party x) 0 (keys p party)
+
 unfoldable pub othersKeys : List ℕ → Position → ℕ → ℕ
-othersKeys s p x = unionBelow (parties s) (λ k. pick (eqb (partyAt k) x) 0 (keys p (partyAt k)))
+othersKeys s p x = unionBelow (parties s) (λ k. otherKeys p x (partyAt k))
 
 -- "known: the shared secrets and the secrets of the members", where a mask tells the members
+unfoldable pub shownBy : List ℕ → ℕ → ℕ → ℕ
+shownBy s members t = pick (bit members t) (secretsOf s t) 0
+
 unfoldable pub knownFrom : List ℕ → Position → ℕ → ℕ
-knownFrom s p members =
-    bitOr (sharedSecrets s (λ k. sharedAny (slot p k))) (unionBelow (count s) (λ t. pick (bit members t) (secretsOf s t) 0))
+knownFrom s p members = bitOr (sharedSecrets s (λ k. sharedAny (slot p k))) (unionBelow (count s) (shownBy s members))
 
 -- "Never sent by the others: without stealth, every transaction whose deadline is ≤ m", the blocks mined
 unfoldable pub neverSent : List ℕ → List ℕ → Position → ℕ → Bool
