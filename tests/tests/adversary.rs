@@ -1,78 +1,14 @@
 //! The calendar's rule against an adversary: the model searches everything that the other party and the miner can do
 //! while a side stands still, in all careful positions of the SASwap sheet at 1 block per day up to 9 blocks.
 
-use swap_tests::adversary::{others, Edge, Graph};
+use swap_tests::adversary::{Fate, Graph};
 use swap_tests::calendar::rule::{Kind, Outage, Swap};
 use swap_tests::compare::Game;
 use swap_tests::every;
-use swap_tests::model::{heights, open, ALICE, BOB, MINER};
+use swap_tests::model::{heights, open, ALICE, BOB};
 
 /// The outages in days, which have one block here.
 const OUTAGES: [u32; 3] = [1, 2, 3];
-
-/// What can become of a side.
-struct Fate {
-    /// The positions that are given up: the others can bring the side to a lost one, whatever it does. Lost: no steps of
-    /// anyone bring it a payout any more. In all others the side can force a payout, as far as the miner does not put it
-    /// off for ever.
-    given_up: Vec<bool>,
-    /// The blocks that the others need from each position, while the side stands still, to one that is given up.
-    blocks: Vec<Option<u32>>,
-}
-
-impl Fate {
-    fn of(graph: &Graph, side: u8) -> Fate {
-        let paid: Vec<bool> = graph
-            .paid
-            .iter()
-            .map(|mask| mask >> side & 1 == 1)
-            .collect();
-        let hope = graph.blocks_to(&paid, &[ALICE, BOB, MINER]);
-        let lost = hope.iter().map(Option::is_none).collect();
-        let given_up = forced(graph, side, lost, None);
-        let blocks = graph.blocks_to(&given_up, &others(side));
-        Fate { given_up, blocks }
-    }
-
-    /// The positions that an outage from now on can bring to one that is given up.
-    fn ends(&self, outage: u32) -> Vec<bool> {
-        let near = |blocks: &Option<u32>| blocks.is_some_and(|blocks| blocks <= outage);
-        self.blocks.iter().map(near).collect()
-    }
-
-    /// Danger: we could have forced a payout before, and cannot after. The positions of this sort, for an outage that
-    /// begins after so many blocks in which the side can act.
-    fn dangers(&self, graph: &Graph, side: u8, wait: u32, outage: u32) -> Vec<bool> {
-        let mut ends = self.ends(outage);
-        for _ in 0..wait {
-            ends = forced(graph, side, self.given_up.clone(), Some(&ends));
-        }
-        let both = ends.iter().zip(&self.given_up);
-        both.map(|(end, given_up)| *end && !given_up).collect()
-    }
-}
-
-/// The positions from which the others can bring the side to one of these, whatever it does: one of these, or a step of
-/// theirs leads to such a position and no step of the side to any other. Where `mined` is given, it tells of positions
-/// right after the next block.
-fn forced(graph: &Graph, side: u8, mut to: Vec<bool>, mined: Option<&[bool]>) -> Vec<bool> {
-    let mut changed = true;
-    while changed {
-        changed = false;
-        for position in (0..to.len()).rev().filter(|&p| !to[p]).collect::<Vec<_>>() {
-            let is_in = |e: &Edge| match mined {
-                Some(after) if e.mines => after[e.to],
-                _ => to[e.to],
-            };
-            let edges = &graph.edges[position];
-            let pushed = edges.iter().any(|e| e.party != side && is_in(e));
-            let escapes = edges.iter().any(|e| e.party == side && !is_in(e));
-            to[position] = pushed && !escapes;
-            changed |= to[position];
-        }
-    }
-    to
-}
 
 /// What is counted of one side and one outage: dangers, those without a warning, warnings without a danger; and the
 /// dangers that a warning by the report's deadlines misses.
