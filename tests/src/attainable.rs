@@ -17,6 +17,8 @@ pub struct Others<'a> {
     pub party: u8,
     /// "Never sent by the others."
     pub never: BTreeSet<u8>,
+    /// Those whose secrets do not count as known.
+    pub silent: BTreeSet<u8>,
 }
 
 impl<'a> Others<'a> {
@@ -27,11 +29,22 @@ impl<'a> Others<'a> {
             true => BTreeSet::new(),
             false => (0..sheet.count()).filter(due).collect(),
         };
+        Others::with(sheet, position, party, never)
+    }
+
+    /// The same with others that are never sent.
+    pub fn with(
+        sheet: &'a Sheet,
+        position: &'a Position,
+        party: u8,
+        never: BTreeSet<u8>,
+    ) -> Others<'a> {
         Others {
             sheet,
             position,
             party,
             never,
+            silent: BTreeSet::new(),
         }
     }
 

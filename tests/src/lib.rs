@@ -19,5 +19,6 @@ pub mod random;
 pub mod requests;
 pub mod rounds;
 pub mod samples;
+pub mod slack;
 pub mod slow;
 pub mod swapfile;
