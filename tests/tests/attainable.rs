@@ -1,5 +1,6 @@
 //! Nobody confirms what nobody else can sign: after a list of steps without a party, every transaction that the built
-//! library reports as confirmed was confirmed before, or is in the set of those that can come without it.
+//! library reports as confirmed was confirmed before, or is in the set of those that can come without it. What can come
+//! afterwards could come before.
 
 use std::collections::{BTreeMap, BTreeSet};
 use swap_tests::attainable::{is_without, Others};
@@ -110,6 +111,9 @@ impl Tally {
             self.came += 1;
             self.for_the_party += usize::from(destination == others.party);
         }
+        let after = Others::of(&game.sheet, &game.setup, &next.position, others.party);
+        let left = after.can(also);
+        assert!(left.is_subset(&can), "{left:?} after {:?}", next.accepted);
         self.lists += 1;
     }
 

@@ -116,7 +116,7 @@ module _ (s u : List ℕ) (ok : Checked s) (p : Position) (x : ℕ) (who : isPar
     low-block t i = split (ltb t (count s)) (ltb-true t (count s)) (λ y. clash i (out-block s q few (b .sound .beyond) t (ltb-false t (count s) y)))
 
     -- what stands was confirmed in p, or is a member
-    stood : (t : ℕ) → t < count s → There q t → (isConfirmed p t ≡ true) ⊎ (bit members t ≡ true)
+    pub stood : (t : ℕ) → t < count s → There q t → (isConfirmed p t ≡ true) ⊎ (bit members t ≡ true)
     unfolding isConfirmed
     stood t l (pool i) =
         joins t (poolTo q t) l (right-small s t (poolTo q t) (b .sound .pool-to t l i)) (b .entries t (poolTo q t) (in-pool i refl))

@@ -191,6 +191,11 @@ pub refund-foreseen : Foreseen (saswap 1) careful (after careful locked) (play (
 unfolding brought
 refund-foreseen = attainability (saswap 1) careful sheet-passes refl (steps locked) alice refl .sending (eqb refund1) refunding refl
 
+-- her share of success lets more come than before
+pub share-grows : Foreseen (saswap 1) careful (after careful locked) (after careful shared) alice none → ⊥
+unfolding brought
+share-grows f = false≢true (f .fewer success (omega arith) refl)
+
 -- the empty set is not closed: revoke comes
 pub empty-open : Closed (saswap 1) careful (after careful locked) alice none 0 → ⊥
 unfolding brought

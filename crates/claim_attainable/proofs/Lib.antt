@@ -6,6 +6,7 @@ pub mod Shown
 pub mod Moves
 pub mod Alive
 pub mod Bounded
+pub mod Shrinking
 pub mod Played
 pub mod Theorems
 pub mod Examples

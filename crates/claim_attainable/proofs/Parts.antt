@@ -123,13 +123,14 @@ module _ (s : List ℕ) (p : Position) (x members t d i : ℕ) where
   have-shared h =
       or-last (othersKeys s p x) (bitOr (knownFrom s p members) (shared p t d)) i (or-last (knownFrom s p members) (shared p t d) i h)
 
+-- a mask where a test holds, else none
+pub picked-bit : (on : Bool) (m i : ℕ) → bit (pick on m 0) i ≡ true → (on ≡ true) × (bit m i ≡ true)
+picked-bit true m i h = (refl, h)
+picked-bit false m i h = clash h (no-bit i)
+
 -- a larger set
 module _ (s u : List ℕ) (ok : Checked s) (p : Position) (x : ℕ) (also : ℕ → Bool) (a b : ℕ)
     (within : (t : ℕ) → t < count s → bit a t ≡ true → bit b t ≡ true) where
-  picked-bit : (on : Bool) (m i : ℕ) → bit (pick on m 0) i ≡ true → (on ≡ true) × (bit m i ≡ true)
-  picked-bit true m i h = (refl, h)
-  picked-bit false m i h = clash h (no-bit i)
-
   known-more : (i : ℕ) → bit (knownFrom s p a) i ≡ true → bit (knownFrom s p b) i ≡ true
   unfolding knownFrom shownBy
   known-more i h =

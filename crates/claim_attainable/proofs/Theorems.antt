@@ -27,13 +27,19 @@ use Rattle.claim_attainable.specs.Claim.{Foreseen, Attainability}
 use Rattle.claim_attainable.proofs.Rounds.{least}
 use Rattle.claim_attainable.proofs.Actors.{in-chain}
 use Rattle.claim_attainable.proofs.Alive.{has-block}
-use Rattle.claim_attainable.proofs.Bounded.{right-small, first}
+use Rattle.claim_attainable.proofs.Bounded.{Bounded, right-small, first}
+use Rattle.claim_attainable.proofs.Shrinking.{still-closed}
 use Rattle.claim_attainable.proofs.Played.{held-play}
 
 -- what is confirmed then, by the closed set that the attainable one is
 module _ (s u : List ℕ) (h : sheetRefusal s ≡ 0) (k : setupRefusal s u ≡ 0) (p : Position) (g : Sound s u p) (x : ℕ) (who : isParty s x ≡ true) (also : ℕ → Bool) where
   within : Closed s u p x also (attainable s u p x also)
   within = least s u (sheet-checked s h) p x also .closed
+
+  held : (bs : List FourBytes) → sendsOnly x also bs ≡ true → Bounded s u (sheet-checked s h) p x who also (attainable s u p x also) within (play s u bs p)
+  held bs i =
+      let w = first s u (sheet-checked s h) p x who also (attainable s u p x also) within g in
+      held-play s u h k p x who also (attainable s u p x also) within bs p w i
 
   module _ (bs : List FourBytes) (i : sendsOnly x also bs ≡ true) (t : ℕ) (l : t < count s) (c : isConfirmed (play s u bs p) t ≡ true) where
     abbrev to : ℕ
@@ -43,9 +49,7 @@ module _ (s u : List ℕ) (h : sheetRefusal s ≡ 0) (k : setupRefusal s u ≡ 0
     right = right-small s t to (sound-play s u h k bs p g .confirmed-to t l c)
 
     brought : (isConfirmed p t ≡ true) ⊎ (comes s u p x also (attainable s u p x also) t to ≡ true)
-    brought =
-        let w = first s u (sheet-checked s h) p x who also (attainable s u p x also) within g in
-        held-play s u h k p x who also (attainable s u p x also) within bs p w i .entries t to (in-chain (has-block (play s u bs p) t c) refl)
+    brought = held bs i .entries t to (in-chain (has-block (play s u bs p) t c) refl)
 
   foreseen : (bs : List FourBytes) → sendsOnly x also bs ≡ true → Foreseen s u p (play s u bs p) x also
   unfolding attainableElsewhere
@@ -61,6 +65,9 @@ module _ (s u : List ℕ) (h : sheetRefusal s ≡ 0) (k : setupRefusal s u ≡ 0
             inr
             (set-bit (count s) (λ j. anyBelow destinations (λ e. not (eqb e x) && comes s u p x also members j e)) (sheet-checked s h .sized .few) t l
             ∙ any-found destinations d (λ e. not (eqb e x) && comes s u p x also members t e) (right bs i t l c) (rw (ne-eqb d x off, y))));
+        fewer =
+            least s u (sheet-checked s h) (play s u bs p) x also .least members
+            (still-closed s u (sheet-checked s h) p x who also members within (play s u bs p) (held bs i));
       }
 
 -- no step at all is no step but sends of none

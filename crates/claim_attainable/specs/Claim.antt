@@ -23,11 +23,13 @@ pub record Least (s u : List ℕ) (p : Position) (x : ℕ) (also : ℕ → Bool)
   pub closed : Closed s u p x also (attainable s u p x also)
   pub least : (members : ℕ) → Closed s u p x also members → (t : ℕ) → t < count s → bit (attainable s u p x also) t ≡ true → bit members t ≡ true
 
--- every transaction confirmed in q was confirmed in p or is attainable there; for another payee than X, with a destination other than X
+-- every transaction confirmed in q was confirmed in p or is attainable there; for another payee than X, with a destination other than X.
+-- What is attainable in q was so in p
 pub record Foreseen (s u : List ℕ) (p q : Position) (x : ℕ) (also : ℕ → Bool) : Type 0 where
   pub confirmed : (t : ℕ) → t < count s → isConfirmed q t ≡ true → (isConfirmed p t ≡ true) ⊎ (bit (attainable s u p x also) t ≡ true)
   pub elsewhere : (t : ℕ) → t < count s → isConfirmed q t ≡ true → (confirmedTo q t ≡ x → ⊥)
       → (isConfirmed p t ≡ true) ⊎ (bit (attainableElsewhere s u p x also) t ≡ true)
+  pub fewer : (t : ℕ) → t < count s → bit (attainable s u q x also) t ≡ true → bit (attainable s u p x also) t ≡ true
 
 -- what is claimed of a list of steps, a party and any further list, refused steps passed over
 pub record Attained (s u : List ℕ) (now : List FourBytes) (x : ℕ) : Type 0 where
