@@ -24,6 +24,8 @@ struct Counts {
     false_alarms: usize,
     /// Kept where no steps of the side and the miner bring a payout, though blocks can be mined.
     hopeless: usize,
+    /// Kept where the others can bring the side to a position without hope, whatever it does.
+    given_up: usize,
     /// Kept for some blocks and not for fewer.
     rising: usize,
     /// Steps of the others after which less is kept than what is left of the outage.
@@ -33,8 +35,14 @@ struct Counts {
 }
 
 impl Counts {
-    fn broken(&self) -> [usize; 4] {
-        [self.missed, self.hopeless, self.rising, self.lost]
+    fn broken(&self) -> [usize; 5] {
+        [
+            self.missed,
+            self.hopeless,
+            self.given_up,
+            self.rising,
+            self.lost,
+        ]
     }
 }
 
@@ -66,6 +74,7 @@ fn add(game: &Game, graph: &Graph, side: u8, counts: &mut Counts) {
         }
         let mines = position.is_confirmed(0);
         counts.hopeless += usize::from(kept[n][0] && mines && alone[n].is_none());
+        counts.given_up += usize::from(kept[n][0] && fate.given_up[n]);
         counts.rising += usize::from(kept[n].windows(2).any(|pair| pair[1] && !pair[0]));
         add_steps(graph, side, &kept, n, counts);
     }
@@ -93,7 +102,7 @@ fn saswap(conduct: u8, stealth: u8) -> [Counts; 2] {
         counts
     });
     println!("conduct {conduct}, stealth {stealth}: {all:?}");
-    assert!(all.iter().all(|c| c.broken() == [0; 4] && c.stuck == 0));
+    assert!(all.iter().all(|c| c.broken() == [0; 5] && c.stuck == 0));
     assert!(all[0].dangers > 0);
     all
 }
@@ -144,6 +153,6 @@ fn small_sheets() {
     println!("{games} games: {found:?}");
     assert!(found
         .iter()
-        .all(|c| c.broken() == [0; 4] && c.dangers > 1_000));
+        .all(|c| c.broken() == [0; 5] && c.dangers > 1_000));
     assert_eq!(found[0].stuck, 0);
 }
