@@ -1,13 +1,13 @@
 -- Who leaves the pool at a mined block is mined or dead afterwards, since nobody who waits in the pool is dead before it.
 -- Assumes nothing.
-use Prim.Native.Nat.{ℕ, _+_, _≤_, _<_}
+use Prim.Native.Nat.{ℕ, _+_, _<_}
 use native.Mathlib.Omega.{arith}
 use mathlib.Core.Path.{_≡_, refl, sym, ap, _∙_}
-use mathlib.Core.Bool.{Bool, true, false, not, _&&_, _||_}
+use mathlib.Core.Bool.{Bool, true, false, not, _||_}
 use mathlib.Core.List.{List}
 use lib.Dec.{eqb, ltb}
 use borrow.Author.Tests.{eqb-true, eqb-false, ltb-true, ltb-false, lt-ltb}
-use Rattle.laws.specs.Booleans.{pick, split, either, clash, fails-by}
+use Rattle.laws.specs.Booleans.{split, either, clash, fails-by}
 use Rattle.sheet.specs.Refusal.{accepted}
 use Rattle.sheet.specs.Field.{count}
 use Rattle.sheet.specs.Checked.{Checked}

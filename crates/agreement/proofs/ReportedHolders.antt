@@ -1,13 +1,12 @@
 -- Holders read from the report of a list's accepted steps are those of the position after the list.
 -- Assumes nothing.
 use Prim.Native.Nat.{ℕ, _*_}
-use mathlib.Core.Path.{_≡_, ap, _∙_}
+use mathlib.Core.Path.{_≡_}
 use mathlib.Core.List.{List}
 use lib.ListN.{take}
 use Rattle.sheet.specs.Refusal.{accepted}
 use Rattle.sheet.specs.Field.{count}
 use Rattle.readings.specs.Reported.{rowWidth, reportedHolder}
-use Rattle.position.specs.declared.Position.{Position}
 use Rattle.position.specs.Position.{start}
 use Rattle.position.specs.Play.{FourBytes, journalBytes, play, acceptedOf}
 use Rattle.position.specs.Holder.{holderIn}

@@ -8,7 +8,6 @@ use Rattle.sheet.specs.Refusal.{accepted}
 use Rattle.sheet.specs.Check.{sheetRefusal}
 use Rattle.sheet.specs.Setup.{setupRefusal}
 use Rattle.slots.specs.Invalidated.{invalidated}
-use Rattle.position.specs.declared.Position.{Position}
 use Rattle.position.specs.declared.Stepped.{Stepped}
 use Rattle.position.specs.Position.{inPool, inBlock, isConfirmed}
 use Rattle.position.specs.Play.{FourBytes, step}

@@ -1,6 +1,6 @@
 -- The slip's own words, of a list whose entries rise, come to what the ledger asks.
 -- Assumes nothing.
-use Prim.Native.Nat.{ℕ, _+_, _≤_, _<_}
+use Prim.Native.Nat.{ℕ, _≤_, _<_}
 use native.Mathlib.Omega.{arith}
 use mathlib.Core.Path.{_≡_}
 use mathlib.Core.Bool.{true, false}
@@ -10,7 +10,7 @@ use mathlib.Core.Option.{some}
 use lib.Dec.{ltb}
 use lib.ListN.{getElem?}
 use borrow.Author.Tests.{ltb-true, ltb-false}
-use Rattle.laws.specs.Booleans.{split, either}
+use Rattle.laws.specs.Booleans.{split}
 use Rattle.laws.specs.All.{All, all-place}
 use Rattle.sheet.specs.Field.{count, parent, lockType, opening}
 use Rattle.sheet.specs.Checked.{Checked}
@@ -20,10 +20,10 @@ use Rattle.ledger.specs.Ledger.{lockFrom}
 use Rattle.ledger.proofs.Rising.{blocks-rise}
 use Rattle.blocks.proofs.Keeping.{lock-opening, lock-spend}
 use Rattle.blockclaims.specs.Words
-use Rattle.blockclaims.specs.Words.{Before, ParentBlock, Based, Right, AllRight}
+use Rattle.blockclaims.specs.Words.{Before, ParentBlock, Based, AllRight}
 use Rattle.blockclaims.proofs.Places.{order-rising, before-number, before-block, place-before}
 use Rattle.blockclaims.proofs.Standing
-use Rattle.blockclaims.proofs.Standing.{Founded, Fitting, AllFitting}
+use Rattle.blockclaims.proofs.Standing.{Founded, AllFitting}
 
 -- a lock since the parent is above the parent's block
 since-above : (s : List ℕ) (perDay p t : ℕ) → lockType s t ≡ 2 → p ≤ lockFrom s perDay p t

@@ -2,7 +2,7 @@
 -- Assumes nothing.
 use Prim.Native.Nat.{ℕ, _%_}
 use mathlib.Core.Path.{_≡_}
-use mathlib.Core.Bool.{true, false}
+use mathlib.Core.Bool.{true}
 use mathlib.Core.List.{List, _++_}
 use lib.Dec.{eqb}
 use lib.ListN.{length}
@@ -20,7 +20,7 @@ use Rattle.agreement.proofs.SoundSteps.{sound-start}
 use Rattle.agreement.proofs.Theorems.{agreement}
 use Rattle.blocks.specs.BlockList.{listEntries, fieldsNamed, entriesRise, blocksRefusal}
 use Rattle.blockclaims.specs.Words.{AllRight}
-use Rattle.blockclaims.specs.Claim.{Judged, BlockLists, BlockListsJudged}
+use Rattle.blockclaims.specs.Claim.{Judged, BlockListsJudged}
 use Rattle.blockclaims.proofs.Entering.{right-taken, taken-right}
 use Rattle.blockclaims.proofs.InWords.{fitting-right, right-fitting}
 use Rattle.blockclaims.proofs.Confirmed.{entries-fine}

@@ -2,8 +2,8 @@
 -- Assumes nothing.
 use Prim.Native.Nat.{ℕ, zero, suc, _+_, _*_, _≤_, _<_}
 use native.Mathlib.Omega.{arith}
-use mathlib.Core.Path.{_≡_, refl, sym, ap, fun-ext, _∙_}
-use mathlib.Core.Bool.{Bool, true, false, not, _&&_}
+use mathlib.Core.Path.{_≡_, refl, sym, fun-ext, _∙_}
+use mathlib.Core.Bool.{Bool, true, false, not}
 use mathlib.Core.List.{List, [], _∷_}
 use mathlib.Core.Option.{Option, none, some}
 use lib.Dec.{eqb, ltb}
@@ -12,7 +12,7 @@ use lib.Seq.{getD-set-same, getD-set-other}
 use borrow.Author.Tests.{eqb-true, eqb-false, eq-eqb, ne-eqb, ltb-true, not-false}
 use Rattle.laws.specs.Booleans.{pick, split, clash}
 use Rattle.laws.specs.Climb.{climbIn, climb}
-use Rattle.sheet.specs.Field.{count, parent, lockType, opening}
+use Rattle.sheet.specs.Field.{count, parent, opening}
 use Rattle.sheet.specs.LockHeight.{sinceParent, lockHeight}
 use Rattle.sheet.specs.Checked.{Checked, LockPair, none, absolute, since}
 use Rattle.ledger.specs.Entry.{Entry}

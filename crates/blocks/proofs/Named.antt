@@ -1,9 +1,9 @@
 -- Entries whose fields are right, one after the other.
 -- Assumes nothing.
 use Prim.Native.Nat.{ℕ, _+_, _*_, _%_, _≤_, _<_}
-use mathlib.Core.Path.{_≡_, refl, _∙_}
-use mathlib.Core.Bool.{Bool, true, false, _&&_}
-use mathlib.Core.List.{List, _∷_}
+use mathlib.Core.Path.{_≡_, _∙_}
+use mathlib.Core.Bool.{Bool, true, false}
+use mathlib.Core.List.{List}
 use lib.Dec.{eqb, ltb}
 use lib.ListN.{length}
 use borrow.Author.Tests.{eq-eqb, ne-eqb, ltb-true}
@@ -15,7 +15,7 @@ use Rattle.steps.specs.Decode.{sharesTo}
 use Rattle.blocks.specs.declared.Listed.{Listed}
 use Rattle.blocks.specs.BlockList.{listEntries, entryNamed, fieldsNamed}
 use Rattle.blocks.specs.Forms.Listed.{listedAt, entryOf}
-use Rattle.blocks.proofs.Walk.{entriesFrom, entries-next, walk, left, left-all, walk-every}
+use Rattle.blocks.proofs.Walk.{entriesFrom, entries-next, left, left-all, walk-every}
 
 -- an entry's own test, whatever stands before it
 abbrev pub named : List ℕ → ℕ → Entry → Bool

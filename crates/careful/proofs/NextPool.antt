@@ -6,12 +6,11 @@ use mathlib.Core.Path.{_≡_, refl, sym, _∙_}
 use mathlib.Core.Logic.{_⊎_, inl, inr}
 use mathlib.Core.Bool.{true}
 use mathlib.Core.List.{List}
-use borrow.Author.Tests.{ltb-true}
 use Rattle.laws.specs.Booleans.{either}
 use Rattle.laws.specs.Cases.{zero-or-one}
 use Rattle.sheet.specs.Field.{count, parent}
 use Rattle.sheet.specs.Setup.{perDay, conduct}
-use Rattle.slots.specs.Destination.{alice, contract, isParty}
+use Rattle.slots.specs.Destination.{alice, contract}
 use Rattle.slots.specs.Conflict.{conflict}
 use Rattle.position.specs.declared.Position.{Position}
 use Rattle.position.specs.Position.{inPool, inBlock, blockOf, holds, deadlineIn}

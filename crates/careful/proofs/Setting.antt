@@ -8,7 +8,7 @@ use mathlib.Core.List.{List}
 use lib.Dec.{ltb}
 use borrow.Author.Tests.{eqb-false, ltb-true, ltb-false}
 use Rattle.laws.specs.Booleans.{split}
-use Rattle.sheet.specs.Field.{parties, place, isParty}
+use Rattle.sheet.specs.Field.{place, isParty}
 use Rattle.sheet.specs.Saswap.{saswap}
 use Rattle.sheet.proofs.Parties.{party-not-miner, place-below}
 use Rattle.sheet.proofs.Theorems.{parties-saswap}

@@ -20,7 +20,7 @@ use Rattle.slots.specs.Destination.{miner, contract, destinationNumber, isParty
 use Rattle.slots.specs.Ancestry.{hasParent, meetsConflict}
 use Rattle.slots.specs.Slot.{emptySlot, entryFor}
 use Rattle.position.specs.declared.Position.{Position}
-use Rattle.position.specs.Position.{slot, inPool, poolTo, inBlock, blockTo, blockOf, isConfirmed, confirmedTo, sent, placed, shared, keys, holds}
+use Rattle.position.specs.Position.{slot, inPool, poolTo, inBlock, blockTo, blockOf, isConfirmed, confirmedTo, sent, placed, keys, holds}
 use Rattle.steps.specs.Decode.{isOther, sharesTo, firstShareFields, fieldsRight}
 use Rattle.position.specs.Owed.{enters}
 use Rattle.position.specs.Tests.{giveMet, giveTests, sendTests, poolTests, minerTests, includeTests}

@@ -13,14 +13,14 @@ use Rattle.laws.specs.Bits.{or-bit, no-bit}
 use Rattle.laws.specs.Sets.{joined, bit-joined}
 use Rattle.laws.specs.Cases.{stored, rewrote}
 use Rattle.laws.specs.Mask.{bit}
-use Rattle.sheet.specs.Field.{count, signatures}
+use Rattle.sheet.specs.Field.{count}
 use Rattle.slots.specs.declared.Slot.{Slot}
 use Rattle.slots.specs.Destination.{contract, destinations}
 use Rattle.slots.specs.Slot.{emptySlot, standing, entryTo, entryFor, sharedFor, withPool, withBlock, withShared, withMark}
 use Rattle.slots.specs.Signatures.{shareMask, exposedMask}
 use Rattle.slots.proofs.SharedBits.{shared-from, shared-pool, shared-block, shared-confirmed, shared-mark}
 use Rattle.position.specs.declared.Position.{Position}
-use Rattle.position.specs.Position.{slot, inBlock, blockTo, sent, shared, keys, holds}
+use Rattle.position.specs.Position.{slot, inBlock, blockTo, shared, keys, holds}
 use Rattle.steps.specs.Decode.{noTransaction}
 use Rattle.steps.specs.Mined.{confirmEntry}
 use Rattle.position.specs.FirstShares.{firstShares}

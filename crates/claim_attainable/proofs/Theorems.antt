@@ -18,7 +18,7 @@ use Rattle.sheet.proofs.Theorems.{sheet-checked}
 use Rattle.slots.specs.Destination.{destinations, isParty}
 use Rattle.position.specs.declared.Position.{Position}
 use Rattle.position.specs.Position.{start, isConfirmed, confirmedTo}
-use Rattle.position.specs.Play.{FourBytes, step, play}
+use Rattle.position.specs.Play.{FourBytes, play}
 use Rattle.agreement.proofs.Sound.{Sound}
 use Rattle.agreement.proofs.SoundSteps.{sound-start, sound-play}
 use Rattle.claim_attainable.specs.Attainable.{comes, attainable, attainableElsewhere, Closed}

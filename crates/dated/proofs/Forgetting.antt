@@ -2,7 +2,7 @@
 -- Assumes nothing.
 use Prim.Native.Nat.{ℕ, _+_}
 use mathlib.Core.Path.{_≡_, refl, sym, ap, _∙_}
-use mathlib.Core.Bool.{Bool, true, false}
+use mathlib.Core.Bool.{true, false}
 use mathlib.Core.List.{List, [], _∷_}
 use lib.Dec.{eqb}
 use borrow.Author.Tests.{eqb-true}
@@ -10,12 +10,11 @@ use Rattle.laws.specs.Booleans.{split}
 use Rattle.laws.specs.Failing.{firstFailing}
 use Rattle.sheet.specs.Refusal.{accepted}
 use Rattle.position.specs.declared.Position.{Position}
-use Rattle.position.specs.declared.Ran.{Ran}
 use Rattle.position.specs.Position.{start}
 use Rattle.position.specs.Play.{FourBytes, journalSteps, step, runFrom, callTests, run}
 use Rattle.position.proofs.StepCases.{refused-same}
 use Rattle.dated.specs.declared.Dated.{Dated}
-use Rattle.dated.specs.Dated.{AfterStep, unseen, datedStart, datedStep, datedRunFrom, datedRun, forgotten, DatedRun}
+use Rattle.dated.specs.Dated.{AfterStep, unseen, datedStart, datedStep, datedRunFrom, datedRun, forgotten}
 use Rattle.dated.proofs.Stepping.{step-taken, step-refused, run-next, run-stops}
 
 -- the number and the position of a step

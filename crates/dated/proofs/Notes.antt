@@ -1,19 +1,13 @@
 -- The counts once a position is seen, place by place.
 -- Assumes nothing.
-use Prim.Native.Nat.{ℕ, _+_, _≤_, _<_}
-use native.Mathlib.Omega.{arith}
-use mathlib.Core.Path.{_≡_, refl, sym, ap, _∙_}
-use mathlib.Core.Bool.{true, false}
+use Prim.Native.Nat.{ℕ, _<_}
+use mathlib.Core.Path.{_≡_}
 use mathlib.Core.List.{List}
-use lib.Dec.{eqb, ltb}
 use lib.ListN.{length, getD}
-use borrow.Author.Tests.{ltb-true, ltb-false}
-use Rattle.laws.specs.Booleans.{pick, split}
-use Rattle.laws.specs.Each.{rewriteFirst, length-rewriteFirst, rewritten, not-rewritten}
+use Rattle.laws.specs.Each.{length-rewriteFirst, rewritten}
 use Rattle.sheet.specs.Field.{count}
 use Rattle.sheet.specs.LockHeight.{never}
 use Rattle.position.specs.declared.Position.{Position}
-use Rattle.dated.specs.Opens.{opens}
 use Rattle.dated.specs.Dated.{firstOpen, noted}
 
 module _ (s u : List ℕ) (p : Position) (counts : List ℕ) where

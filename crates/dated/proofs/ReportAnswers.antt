@@ -7,7 +7,6 @@ use lib.ListN.{length, take}
 use Rattle.sheet.specs.Refusal.{accepted}
 use Rattle.sheet.specs.Field.{count}
 use Rattle.readings.specs.Reported.{rowWidth}
-use Rattle.position.specs.declared.Position.{Position}
 use Rattle.position.specs.declared.Ran.{Ran}
 use Rattle.position.specs.Play.{run}
 use Rattle.position.specs.Report.{reportBytes}

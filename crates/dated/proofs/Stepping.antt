@@ -8,7 +8,7 @@ use lib.Dec.{eqb}
 use Rattle.sheet.specs.Refusal.{accepted}
 use Rattle.position.specs.Play.{FourBytes, step}
 use Rattle.dated.specs.declared.Dated.{Dated}
-use Rattle.dated.specs.Dated.{noted, datedStep, datedRunFrom, DatedRun}
+use Rattle.dated.specs.Dated.{noted, datedStep, datedRunFrom}
 
 module _ (s u : List ℕ) (d : Dated) (b : FourBytes) where
   pub step-taken : eqb (step s u (d .position) b .refusal) accepted ≡ true

@@ -2,12 +2,11 @@
 -- Assumes nothing.
 use Prim.Native.Nat.{ℕ, _+_, _≤_, _<_}
 use native.Mathlib.Omega.{arith}
-use mathlib.Core.Path.{_≡_, refl, sym, ap, subst, _∙_}
-use mathlib.Core.Bool.{Bool, true, false, _&&_}
+use mathlib.Core.Path.{_≡_, refl, sym, _∙_}
+use mathlib.Core.Bool.{true, false}
 use mathlib.Core.List.{List, [], _∷_, List·Memᴰ, List·Memᴰ·head, List·Memᴰ·tail, List·Memᴰ·not-nil, List·Memᴰ·cases-cons}
 use lib.Dec.{eqb}
 use lib.ListN.{length, getD}
-use borrow.Author.Tests.{eqb-true, eq-eqb}
 use Rattle.laws.specs.Booleans.{pick, split, either, clash}
 use Rattle.sheet.specs.Refusal.{accepted}
 use Rattle.sheet.specs.Field.{count}
@@ -17,7 +16,6 @@ use Rattle.slots.specs.declared.Step.{Step}
 use Rattle.slots.specs.declared.Step.the-variants.{Share, Give, SendToPool, HandToMiner, Include, Mine, Bump}
 use Rattle.slots.specs.Destination.{destinationNumber}
 use Rattle.position.specs.declared.Position.{Position}
-use Rattle.position.specs.declared.Stepped.{Stepped}
 use Rattle.position.specs.Effect.{withSlots, changeSlots, withMined, afterMine, afterBump, effect}
 use Rattle.position.specs.Play.{FourBytes, step}
 use Rattle.position.proofs.StepCases.{StepCase, taken, turned-down, step-case}
@@ -27,7 +25,7 @@ use Rattle.moves.proofs.AfterSends.{send-confirmed, hand-confirmed, include-con
 use Rattle.moves.proofs.Wellformeds.{wellformed-step}
 use Rattle.dated.specs.declared.Dated.{Dated}
 use Rattle.dated.specs.Opens.{opens}
-use Rattle.dated.specs.Dated.{countOf, firstOpen, noted, AfterStep, datedStep, datedRunFrom, DatedRun}
+use Rattle.dated.specs.Dated.{countOf, firstOpen, noted, datedStep, datedRunFrom}
 use Rattle.dated.proofs.Notes.{noted-length, noted-at}
 use Rattle.dated.proofs.Stepping.{step-taken, step-refused, run-next, run-stops}
 use Rattle.datedclaims.specs.Claim.{along, Cause, never-open, open-in, Least}

@@ -3,13 +3,13 @@
 use Prim.Native.Nat.{ℕ}
 use native.Mathlib.Omega.{arith}
 use mathlib.Core.Path.{_≡_, refl, ap}
-use mathlib.Core.Bool.{Bool, true, false}
+use mathlib.Core.Bool.{true, false}
 use mathlib.Core.List.{List, [], _∷_, _++_}
 use lib.ListN.{length}
 use Rattle.laws.specs.Booleans.{clash}
 use Rattle.sheet.specs.LockHeight.{never}
 use Rattle.sheet.specs.Saswap.{saswap}
-use Rattle.steps.specs.Names.{lockA, lockB, success, revoke, refund1, spendA}
+use Rattle.steps.specs.Names.{lockA, lockB, success, revoke, refund1}
 use Rattle.position.specs.declared.Position.{Position}
 use Rattle.position.specs.Position.{start, isConfirmed}
 use Rattle.position.specs.Play.{journalSteps}

@@ -1,15 +1,13 @@
 -- A count that is set stays.
 -- Assumes nothing.
-use Prim.Native.Nat.{ℕ, _+_, _≤_, _<_}
-use native.Mathlib.Omega.{arith}
+use Prim.Native.Nat.{ℕ, _+_}
 use mathlib.Core.Path.{_≡_, refl, sym, ap, _∙_}
-use mathlib.Core.Bool.{true, false}
 use mathlib.Core.List.{List, [], _∷_}
 use lib.Dec.{eqb, ltb}
 use lib.ListN.{length, getD, List·getD-eq-default}
 use borrow.Author.Tests.{ltb-true, ltb-false, ne-eqb}
-use Rattle.laws.specs.Booleans.{pick, split}
-use Rattle.laws.specs.Each.{rewriteFirst, not-rewritten}
+use Rattle.laws.specs.Booleans.{split}
+use Rattle.laws.specs.Each.{not-rewritten}
 use Rattle.sheet.specs.Refusal.{accepted}
 use Rattle.sheet.specs.Field.{count}
 use Rattle.sheet.specs.LockHeight.{never}
@@ -17,7 +15,7 @@ use Rattle.position.specs.declared.Position.{Position}
 use Rattle.position.specs.Play.{FourBytes, step}
 use Rattle.dated.specs.declared.Dated.{Dated}
 use Rattle.dated.specs.Dated.{countOf, firstOpen, noted, AfterStep, datedStep, datedRunFrom, DatedRun}
-use Rattle.dated.proofs.Notes.{noted-length, noted-at}
+use Rattle.dated.proofs.Notes.{noted-at}
 use Rattle.dated.proofs.Stepping.{step-taken, step-refused, run-next, run-stops}
 
 module _ (s u : List ℕ) (t : ℕ) where

@@ -6,16 +6,15 @@ use mathlib.Core.Path.{_≡_, refl, sym, ap, _∙_}
 use mathlib.Core.List.{List}
 use lib.ListN.{length, getD, replicate}
 use Rattle.sheet.specs.LockHeight.{never}
-use Rattle.sheet.specs.Field.{count}
 use Rattle.position.specs.declared.Position.{Position}
 use Rattle.position.specs.Position.{start}
-use Rattle.position.specs.Play.{FourBytes, journalSteps, step}
+use Rattle.position.specs.Play.{journalSteps, step}
 use Rattle.position.specs.Open.{openSteps}
 use Rattle.moves.proofs.Wellformeds.{wellformed-start}
 use Rattle.runs.proofs.Calls.{call-fit}
-use Rattle.dated.specs.Dated.{countOf, unseen, datedStart, DatedRun}
+use Rattle.dated.specs.Dated.{unseen, datedStart}
 use Rattle.dated.proofs.Forgetting.{step-number, step-position, forgotten-from, forgotten-run, dated-allowed}
-use Rattle.datedclaims.specs.Claim.{CountsDecideNothing, ModelBesideCounts, FirstOpen, CountsStay, along, Least}
+use Rattle.datedclaims.specs.Claim.{CountsDecideNothing, ModelBesideCounts, FirstOpen, CountsStay}
 use Rattle.datedclaims.proofs.Staying.{step-stays, row-stays}
 use Rattle.datedclaims.proofs.Along.{row-least}
 

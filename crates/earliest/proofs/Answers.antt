@@ -3,15 +3,14 @@
 use Prim.Native.Nat.{ℕ, _*_, _^_, _≤_, _<_}
 use native.Mathlib.Omega.{arith}
 use mathlib.Core.Path.{_≡_, refl, sym, _∙_}
-use mathlib.Core.Bool.{Bool, true, false, not, _&&_, _||_}
+use mathlib.Core.Bool.{Bool, true, not, _&&_}
 use mathlib.Core.List.{List, _++_}
 use lib.Dec.{eqb, ltb, lit<}
 use lib.ListN.{length}
-use borrow.Author.Tests.{eq-eqb, ne-eqb, eqb-true, eqb-false, ltb-true, not-true}
+use borrow.Author.Tests.{eq-eqb, ne-eqb, eqb-true, eqb-false, not-true}
 use Rattle.laws.specs.Booleans.{split, and-parts}
 use Rattle.laws.specs.Below.{allBelow, all-at}
 use Rattle.laws.specs.Failing.{firstFailing, answer-below, passed, passed-append, failed-append}
-use Rattle.laws.specs.Mask.{bit}
 use Rattle.laws.specs.Over.{over}
 use Rattle.laws.specs.Sum.{bitsBelow, bits-bound}
 use Rattle.sheet.specs.Field.{count}
@@ -117,9 +116,6 @@ module _ (s : List ℕ) (d mask : ℕ) (dests out : List ℕ) (few : count s ≤
 
   plan-bytes : length (listBytes (plan s d mask (destinationOf mask dests) blockLimit)) ≡ 4 * k
   plan-bytes = length-list (plan s d mask (destinationOf mask dests) blockLimit) ∙ rw (← plan-count)
-
-  pub plan-few : k ≤ 32
-  plan-few = omega (arith, q, bits-bound n f, e)
 
   pub plan-short : length out < 4 * k → Gives 25 0 out (fitted (listBytes (plan s d mask (destinationOf mask dests) blockLimit)) (length (plan s d mask (destinationOf mask dests) blockLimit)) out)
   plan-short h =

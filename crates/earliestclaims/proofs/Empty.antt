@@ -4,7 +4,6 @@ use Prim.Native.Nat.{ℕ, zero, suc, _+_, _^_, _<_}
 use mathlib.Core.Path.{_≡_, refl}
 use mathlib.Core.Bool.{true, false, _&&_}
 use mathlib.Core.List.{List, []}
-use lib.Dec.{ltb}
 use lib.Pow.{pow-pos}
 use borrow.Author.Tests.{lt-ltb}
 use Rattle.laws.specs.Booleans.{clash}
@@ -16,10 +15,8 @@ use Rattle.laws.specs.Sum.{sumBelow, bitsBelow}
 use Rattle.sheet.specs.Field.{count}
 use Rattle.slots.specs.Ancestry.{isSelfOrAncestor}
 use Rattle.position.specs.Tests.{blockLimit}
-use Rattle.endings.specs.Earliest.{earliest}
 use Rattle.endings.specs.Plan.{planned, planAt, plan}
 use Rattle.endings.specs.Ending.{payingNamed, endingRight, isPossible}
-use Rattle.earliestclaims.proofs.Possible.{Possible}
 use Rattle.earliestclaims.proofs.Ending.{says-possible}
 
 none-planned : (s : List ℕ) (t : ℕ) → planned s 0 t ≡ false

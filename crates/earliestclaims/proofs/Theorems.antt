@@ -9,7 +9,7 @@ use mathlib.Core.List.{List, [], _++_}
 use lib.Dec.{eqb, ltb}
 use lib.ListN.{length, take, drop}
 use lib.Seq.{sets-eq, drop-at}
-use borrow.Author.Tests.{eqb-true, eqb-false, ltb-true, ltb-false, lt-ltb, le-ltb, le-leb, lt-leb}
+use borrow.Author.Tests.{eqb-true, eqb-false, ltb-true, ltb-false, lt-ltb, le-ltb}
 use Rattle.laws.specs.Booleans.{split, fails-by, clash}
 use Rattle.laws.specs.Failing.{firstFailing, passed, passed-append}
 use Rattle.laws.specs.Over.{over, take-over, length-over, stores-over}
@@ -28,7 +28,7 @@ use Rattle.position.specs.Tests.{blockLimit}
 use Rattle.position.specs.Answers as answers
 use Rattle.position.specs.Answers.{fitted}
 use Rattle.position.proofs.Passing as fit
-use Rattle.blocks.specs.BlockList.{listEntries, listBytes, blocksRefusal}
+use Rattle.blocks.specs.BlockList.{listEntries, listBytes}
 use Rattle.blockclaims.proofs.Bytes.{read-back}
 use Rattle.blockclaims.proofs.Places.{place-member, member-place, all-member}
 use Rattle.endings.specs.Refusal.{endingImpossible}
@@ -38,7 +38,7 @@ use Rattle.endings.specs.Ending.{destinationOf, endingRight, isPossible, ending
 use Rattle.earliest.specs.Answer.{earliestRefusal, earliestList, earliestAnswer}
 use Rattle.blocks.proofs.Lengths.{length-list}
 use Rattle.earliest.proofs.Answers.{unrefused}
-use Rattle.earliestclaims.specs.Claim.{Written, Way, Cause, Endings, EarliestEndings, Listed, Answered, EarliestAnswers}
+use Rattle.earliestclaims.specs.Claim.{Written, Way, Cause, EarliestEndings, Listed, Answered, EarliestAnswers}
 use Rattle.earliestclaims.proofs.Lowest
 use Rattle.earliestclaims.proofs.Plans.{in-plan, plan-has, for-plan}
 use Rattle.earliestclaims.proofs.Ending.{possible-says, says-possible, named-paying, named-to}

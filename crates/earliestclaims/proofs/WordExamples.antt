@@ -3,7 +3,7 @@
 -- Assumes nothing.
 use Prim.Native.Nat.{ℕ, zero, suc, _<_}
 use native.Mathlib.Omega.{arith}
-use mathlib.Core.Path.{_≡_, refl, sym, ap}
+use mathlib.Core.Path.{_≡_, refl, ap}
 use mathlib.Core.Bool.{Bool, true, false, not, _&&_, _||_, false≢true}
 use mathlib.Core.List.{List, [], _∷_}
 use mathlib.Core.Option.{some}
@@ -23,8 +23,7 @@ use Rattle.endings.specs.Plan.{planned}
 use Rattle.earliest.specs.Answer.{earliestList}
 use Rattle.earliestclaims.specs.Words.{ConfirmsTo}
 use Rattle.earliestclaims.specs.Claim.{Written, Cause, one-coin, too-late}
-use Rattle.earliestclaims.proofs.Theorems.{earliest-endings}
-use Rattle.earliestclaims.proofs.Examples.{sheet, setup, to, sheet-passes, setup-passes}
+use Rattle.earliestclaims.proofs.Examples.{sheet, setup, to}
 
 -- 3, which pays Bob, in block 5
 abbrev paysBob : Entry

@@ -3,8 +3,7 @@
 -- Assumes nothing.
 use Prim.Native.Nat.{ℕ, _*_, _≤_, _<_}
 use mathlib.Core.Path.{_≡_}
-use mathlib.Core.Bool.{true, false, _&&_}
-use mathlib.Core.Logic.{_⊎_}
+use mathlib.Core.Bool.{true, _&&_}
 use mathlib.Core.List.{List, []}
 use mathlib.Core.Option.{some}
 use lib.Dec.{eqb, ltb}
@@ -15,7 +14,6 @@ use Rattle.sheet.specs.Refusal.{accepted, bufferShort}
 use Rattle.sheet.specs.Field.{count}
 use Rattle.sheet.specs.Check.{sheetRefusal}
 use Rattle.sheet.specs.Setup.{perDay, setupRefusal}
-use Rattle.slots.specs.Ancestry.{isSelfOrAncestor}
 use Rattle.ledger.specs.Entry.{Entry}
 use Rattle.ledger.specs.Coin.{coinOf}
 use Rattle.position.specs.Tests.{blockLimit}

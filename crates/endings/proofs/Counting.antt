@@ -1,12 +1,11 @@
 -- The bits of a mask counted.
 -- Assumes nothing.
-use Prim.Native.Nat.{ℕ, zero, suc, _+_, _*_, _^_, _≤_, _<_}
+use Prim.Native.Nat.{ℕ, zero, suc, _+_, _*_, _≤_, _<_}
 use native.Mathlib.Nat.{eq-or-lt-of-le, le-of-suc-le-suc}
 use native.Mathlib.Omega.{arith}
-use native.Mathlib.Numerals.{add-one}
 use mathlib.Core.Path.{_≡_}
 use mathlib.Core.Bool.{true}
-use Rattle.laws.specs.Booleans.{pick, either}
+use Rattle.laws.specs.Booleans.{either}
 use Rattle.laws.specs.Mask.{bit}
 use Rattle.laws.specs.Sum.{sumBelow, bitsBelow}
 

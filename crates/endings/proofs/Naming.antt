@@ -1,9 +1,8 @@
 -- The tests of an ending, from what the code finds.
 -- Assumes nothing.
-use Prim.Native.Nat.{ℕ, _*_, _^_, _≤_, _<_}
-use native.Mathlib.Omega.{arith}
-use mathlib.Core.Path.{_≡_, refl, sym, _∙_}
-use mathlib.Core.Bool.{Bool, true, false, not, _&&_, _||_, or-true}
+use Prim.Native.Nat.{ℕ, _*_, _^_}
+use mathlib.Core.Path.{_≡_, sym, _∙_}
+use mathlib.Core.Bool.{Bool, true, false, not, _&&_}
 use mathlib.Core.List.{List}
 use lib.Dec.{eqb, ltb, leb}
 use lib.ListN.{length}
@@ -17,7 +16,6 @@ use Rattle.sheet.specs.Setup.{perDay}
 use Rattle.slots.specs.Destination.{isParty, isPayee, isContract}
 use Rattle.ledger.specs.Coin.{coinOf}
 use Rattle.steps.specs.Decode.{sharesTo}
-use Rattle.position.specs.Tests.{blockLimit}
 use Rattle.endings.specs.Earliest.{earliest}
 use Rattle.endings.specs.Plan.{planned}
 use Rattle.endings.specs.Ending.{destinationOf, payingNamed, endingRight, coinsApart, inTime, isPossible}

@@ -7,10 +7,9 @@ use mathlib.Core.List.{List, [], _∷_, _++_}
 use lib.Dec.{eqb}
 use Rattle.laws.specs.Booleans.{split}
 use Rattle.sheet.specs.Refusal.{accepted}
-use Rattle.ledger.specs.Entry.{Entry}
 use Rattle.position.specs.declared.Position.{Position}
 use Rattle.position.specs.Position.{start}
-use Rattle.position.specs.Play.{FourBytes, journalSteps, journalBytes, decodeBytes, step, acceptedOf, confirms, confirmedEntries}
+use Rattle.position.specs.Play.{FourBytes, journalSteps, decodeBytes, step, acceptedOf, confirms, confirmedEntries}
 use Rattle.position.proofs.StepCases.{refused-same}
 use Rattle.moves.proofs.Journals.{journal-steps}
 use Rattle.agreement.specs.Claim.{entriesOf}

@@ -3,17 +3,15 @@
 use Prim.Native.Nat.{ℕ, _*_, _≤_, _<_}
 use native.Mathlib.Omega.{arith}
 use mathlib.Core.Path.{_≡_, refl, sym, ap, _∙_}
-use mathlib.Core.Bool.{true}
 use mathlib.Core.List.{List}
 use lib.ListN.{length, take}
 use Rattle.laws.specs.Over.{over, take-over}
-use Rattle.sheet.specs.Refusal.{accepted, bufferShort}
+use Rattle.sheet.specs.Refusal.{bufferShort}
 use Rattle.sheet.specs.Field.{count}
 use Rattle.sheet.specs.Check.{sheetRefusal}
-use Rattle.sheet.specs.Saswap.{saswap}
-use Rattle.sheet.specs.Setup.{perDay, conduct, setupRefusal}
+use Rattle.sheet.specs.Setup.{conduct, setupRefusal}
 use Rattle.sheet.proofs.Theorems.{setup-checked}
-use Rattle.readings.specs.Reported.{rowWidth, reportedHolder}
+use Rattle.readings.specs.Reported.{rowWidth}
 use Rattle.position.specs.declared.Position.{Position}
 use Rattle.position.specs.Holder.{holderIn}
 use Rattle.position.specs.Position.{start}
@@ -22,12 +20,12 @@ use Rattle.dated.specs.Report.{reportAnswer}
 use Rattle.dated.proofs.ReportAnswers.{rowsAfter, rows-length, report-as}
 use Rattle.position.proofs.Passing.{passed-whole}
 use Rattle.moves.proofs.Journals.{journal-length}
-use Rattle.agreement.specs.Claim.{booksOf, positionOf, reportOf, Same}
+use Rattle.agreement.specs.Claim.{positionOf, reportOf}
 use Rattle.agreement.proofs.Theorems.{agreement, played-as-journal}
 use Rattle.careful.specs.Claim.{Safe}
 use Rattle.careful.proofs.Theorems.{careful}
 use Rattle.history.specs.declared.Outcome.{Outcome}
-use Rattle.history.specs.Promise.{acceptedBytes, historyNumber, nobodies, holders, reportedHolders, rows, Unplayed, Exact, Agreed, Guarded, Demand3}
+use Rattle.history.specs.Promise.{acceptedBytes, historyNumber, nobodies, holders, reportedHolders, rows, Demand3}
 use Rattle.history.proofs.Entries.{written-entries}
 use Rattle.history.proofs.Numbers.{by-sheet, by-setup, by-accepted, by-report, by-none}
 

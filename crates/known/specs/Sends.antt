@@ -18,7 +18,6 @@ use Rattle.slots.specs.Conflict.{noConflict}
 use Rattle.slots.specs.Ancestry.{hasParent}
 use Rattle.slots.specs.Signatures.{signed}
 use Rattle.slots.specs.declared.Destination.{Destination}
-use Rattle.slots.specs.declared.Step.{Step}
 use Rattle.slots.specs.declared.Step.the-variants.{SendToPool, HandToMiner}
 use Rattle.slots.specs.Destination.{destinationNumber}
 use Rattle.steps.specs.Names.{success, revoke}

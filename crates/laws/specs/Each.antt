@@ -54,13 +54,6 @@ rewrite-start f l = refl
 pub rewrite-done : {A : Type 0} (k n : ℕ) (f : ℕ → A → A) (l r : List A) → k ≤ n → n ≤ k → r ≡ rewriteFirst k f l → r ≡ rewriteFirst n f l
 rewrite-done k n f l r h m e = rw (le-antisymm m h) e
 
--- two rules that agree at the places below n
-pub rewrite-same : {A : Type 0} (n : ℕ) (f g : ℕ → A → A) (l : List A) → ((i : ℕ) (x : A) → i < n → f i x ≡ g i x) → rewriteFirst n f l ≡ rewriteFirst n g l
-unfolding rewriteFirst
-rewrite-same zero f g l h = refl
-rewrite-same (suc n) f g [] h = refl
-rewrite-same (suc n) f g (x ∷ l) h = rw (h 0 x (omega arith), rewrite-same n (λ i. f (suc i)) (λ i. g (suc i)) l (λ i y m. h (suc i) y (omega arith)))
-
 -- a list as long as what a map makes of it
 pub length-of-map : {A B : Type 0} (f : A → B) (l : List A) (n : ℕ) → length (map f l) ≡ n → length l ≡ n
 length-of-map f l n e = sym (length-map l f) ∙ e

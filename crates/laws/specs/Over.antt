@@ -44,14 +44,6 @@ module _ {A : Type 0} where
   length-over (x ∷ w) [] = refl
   length-over (x ∷ w) (y ∷ l) = ap suc (length-over w l)
 
-  -- w over a list of its own length
-  pub over-whole : (w l : List A) → length w ≡ length l → over w l ≡ w
-  unfolding over
-  over-whole [] [] e = refl
-  over-whole [] (y ∷ l) e = absurd (omega arith)
-  over-whole (x ∷ w) [] e = absurd (omega arith)
-  over-whole (x ∷ w) (y ∷ l) e = ap (λ r. x ∷ r) (over-whole w l (omega arith))
-
   -- a store right after w
   over-push : (w l : List A) (a : A) → set (over w l) (length w) a ≡ over (w ++ (a ∷ [])) l
   unfolding over

@@ -1,6 +1,6 @@
 -- Ors in any order, and the unions and sets of which one member grows.
 -- Assumes nothing.
-use Prim.Native.Nat.{ℕ, zero, suc, _+_, _*_, _/_, _%_, _^_, _<_, max}
+use Prim.Native.Nat.{ℕ, zero, suc, _/_, _%_, _^_, _<_, max}
 use native.Mathlib.Nat.{not-suc-le-zero, le-of-suc-le-suc, eq-or-lt-of-le}
 use native.Mathlib.Omega.{arith}
 use mathlib.Core.Path.{_≡_, refl, sym, ap, _∙_}
@@ -9,7 +9,7 @@ use lib.Arith.{bin-ind}
 use lib.Bits.{bitOr, or-step, or-shr, or-mod, or-comm, or-self}
 use lib.Dec.{eqb}
 use borrow.Author.Tests.{ne-eqb}
-use Rattle.laws.specs.Booleans.{pick, either, clash}
+use Rattle.laws.specs.Booleans.{either, clash}
 use Rattle.laws.specs.Bits.{digit}
 use Rattle.laws.specs.Mask.{unionBelow}
 use Rattle.laws.specs.Sets.{joined, setBelow, set-same}

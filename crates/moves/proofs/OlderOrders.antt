@@ -24,7 +24,7 @@ use Rattle.position.specs.Position.{sent, placed, senderHas, lockHeightIn, dead
 use Rattle.position.specs.Tests.{shareTests, giveTests, sendTests, poolTests, minerTests, includeTests, mineTests, bumpTests}
 use Rattle.position.specs.Conduct.{isCareful, sendAllowed, payingPasses, canPay, payingFirst, conductAllows}
 use Rattle.position.specs.StepRefusal.{tests, stepRefusal}
-use Rattle.moves.specs.OlderOrder.{olderSendTests, olderPoolTests, olderMinerTests, olderPayingPasses, olderCanPay, olderPayingFirst, olderAllows, olderRefusal, meets, passesBelow, meetsBoth, isSend, LockFirst, SameButBoth}
+use Rattle.moves.specs.OlderOrder.{olderSendTests, olderPoolTests, olderMinerTests, olderPayingPasses, olderCanPay, olderPayingFirst, olderAllows, olderRefusal, meets, passesBelow, meetsBoth, isSend, SameButBoth}
 use Rattle.moves.proofs.TurnedTests.{Turned, unturned, accepts-same, turned}
 
 -- the tests of kinds 3 and 4

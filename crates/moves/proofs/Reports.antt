@@ -6,7 +6,7 @@ use native.Mathlib.Nat.{add-zero}
 use mathlib.Core.Path.{_≡_, sym, ap, _∙_}
 use mathlib.Core.Bool.{Bool, true, false}
 use mathlib.Core.List.{List}
-use lib.Dec.{eqb, lit<, lit≤}
+use lib.Dec.{lit<, lit≤}
 use lib.ListN.{getD}
 use borrow.Author.Tests.{eq-eqb, ne-eqb}
 use Rattle.laws.specs.Booleans.{pick}
@@ -14,11 +14,10 @@ use Rattle.laws.specs.Gather.{gather, gather-at}
 use Rattle.laws.specs.Little.{bytesOf, numberAt, number-gather}
 use Rattle.laws.specs.Mask.{bit}
 use Rattle.sheet.specs.Field.{count}
-use Rattle.sheet.specs.LockHeight.{never}
 use Rattle.slots.specs.Invalidated.{invalidated}
 use Rattle.position.specs.declared.Position.{Position}
 use Rattle.position.specs.Position.{inPool, inBlock, isConfirmed}
-use Rattle.readings.specs.Reported.{rowWidth, reportedStatus, reportedPayee, reportedConfirmed, reportedLine, rowLine, reportedCount}
+use Rattle.readings.specs.Reported.{rowWidth, reportedStatus, reportedPayee, reportedConfirmed, reportedLine, rowLine}
 use Rattle.position.specs.Report.{status, payee, row, fullRow, reportBytes}
 use Rattle.position.specs.Printed.{printedLine}
 use Rattle.position.proofs.ReportLengths.{row-length}
@@ -50,11 +49,6 @@ module _ (s u : List ℕ) (p : Position) (counts : List ℕ) (t : ℕ) (l : t < 
   line-read =
       let st = ap (λ i. getD (reportBytes s u p counts) i 0) (sym (add-zero (rowWidth * t))) ∙ read-at 0 (lit< tt) in
       rw (st, read-at 1 (lit< tt), read-number 2 (lit≤ tt), read-number 6 (lit≤ tt), read-number 10 (lit≤ tt))
-
-  -- and its count is the one that was written
-  pub count-read : reportedCount (reportBytes s u p counts) t ≡ numberAt 4 (bytesOf 4 (getD counts t never)) 0
-  unfolding reportedCount fullRow row bytesOf numberAt
-  count-read = read-number 14 (lit≤ tt)
 
 module _ (s u : List ℕ) (p : Position) (counts : List ℕ) where
   status-read : (t : ℕ) → t < count s → reportedStatus (reportBytes s u p counts) t ≡ status s p t

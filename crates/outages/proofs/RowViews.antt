@@ -15,7 +15,7 @@ use Rattle.laws.specs.Unions.{union-same}
 use Rattle.sheet.specs.Field.{count, parent, payees}
 use Rattle.sheet.specs.Checked.{Checked}
 use Rattle.sheet.specs.Setup.{perDay}
-use Rattle.slots.specs.Ancestry.{hasParent, isSelfOrAncestor}
+use Rattle.slots.specs.Ancestry.{isSelfOrAncestor}
 use Rattle.slots.specs.Invalidated.{invalidated}
 use Rattle.slots.specs.Forms.Conflict.{foundIn}
 use Rattle.slots.specs.Forms.Line.{lineSet}

@@ -6,7 +6,6 @@ use native.Mathlib.Nat.{mod-le}
 use mathlib.Core.Path.{_≡_, refl, ap, _∙_}
 use mathlib.Core.Bool.{Bool, true, false}
 use mathlib.Core.List.{List, [], _∷_}
-use lib.Dec.{lit<, lit≤}
 use lib.ListN.{getD}
 use Rattle.laws.specs.Booleans.{pick}
 use Rattle.laws.specs.Gather.{gather-same}

@@ -6,27 +6,26 @@ use native.Mathlib.Nat.{zero-add, mul-le-mul-left}
 use mathlib.Core.Path.{_≡_, refl, ap, sym, _∙_}
 use mathlib.Core.Logic.{_⊎_, inl, inr}
 use mathlib.Core.Bool.{true, false}
-use mathlib.Core.List.{List, [], _∷_, _++_}
-use lib.Dec.{eqb, ltb, lit<}
-use lib.ListN.{length, getD, take, drop, length-drop}
+use mathlib.Core.List.{List, _++_}
+use lib.Dec.{eqb, ltb}
+use lib.ListN.{length, take, drop, length-drop}
 use lib.Seq.{sets-eq, drop-at, take-append-le, drop-append-le}
 use borrow.Author.Tests.{eqb-true, eqb-false, ltb-true, ltb-false, lt-ltb, le-ltb}
-use Rattle.laws.specs.Booleans.{pick, split}
-use Rattle.laws.specs.Little.{bytesOf}
+use Rattle.laws.specs.Booleans.{split}
 use Rattle.laws.specs.Over.{over, take-over, length-over, stores-over}
 use Rattle.sheet.specs.Refusal.{accepted, bufferShort}
 use Rattle.sheet.specs.Field.{count}
-use Rattle.slots.specs.Slot.{standing, entryTo}
+use Rattle.slots.specs.Slot.{entryTo}
 use Rattle.position.specs.declared.Position.{Position}
-use Rattle.position.specs.Position.{slot, isConfirmed, confirmedTo, blockOf, inPool, inBlock, lockHeightIn, deadlineIn}
+use Rattle.position.specs.Position.{slot, isConfirmed, confirmedTo, blockOf, lockHeightIn, deadlineIn}
 use Rattle.position.specs.Play.{run}
 use Rattle.position.specs.Report.{unconfirmed, status, payee, row}
 use Rattle.moves.specs.Wellformed.{Wellformed}
 use Rattle.position.specs.Printed.{printedLine}
 use Rattle.position.specs.Answers.{Written}
-use Rattle.pages.specs.Line.{digits, line}
-use Rattle.pages.specs.Page.{payeeText, heightText, texts, lineTexts, pageOf, pageAnswer}
-use Rattle.pages.specs.Claim.{lineAt, readNumber, readRow, LinesLong, ReadsBack, RunsReadBack, PageWritten, PageAnswered, PageAnswers}
+use Rattle.pages.specs.Line.{line}
+use Rattle.pages.specs.Page.{lineTexts, pageOf, pageAnswer}
+use Rattle.pages.specs.Claim.{lineAt, LinesLong, ReadsBack, RunsReadBack, PageWritten, PageAnswered, PageAnswers}
 use Rattle.pages.proofs.Lines.{line-length}
 use Rattle.pages.proofs.Pages.{page-size}
 use Rattle.position.proofs.Passing.{not-passed-on, passed-short, passed-whole}

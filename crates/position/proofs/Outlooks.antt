@@ -7,7 +7,7 @@ use mathlib.Core.Bool.{Bool, true, false, not, _&&_, _||_, and-true, and-false, 
 use mathlib.Core.List.{List}
 use lib.Dec.{eqb, ltb}
 use lib.ListN.{length}
-use borrow.Author.Tests.{eqb-true, ne-eqb, not-true, not-false}
+use borrow.Author.Tests.{eqb-true, ne-eqb}
 use Rattle.laws.specs.Booleans.{split}
 use Rattle.laws.specs.Below.{anyBelow, any-same, any-found, any-done}
 use Rattle.laws.specs.Mask.{bit}

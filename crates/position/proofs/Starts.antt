@@ -13,7 +13,6 @@ use Rattle.laws.specs.Sets.{none-set}
 use Rattle.slots.specs.declared.Slot.{Slot}
 use Rattle.slots.specs.Slot.{emptySlot, standing, sharedAny, sharedFor}
 use Rattle.slots.specs.Forms.Limited.{limitedSet}
-use Rattle.steps.specs.declared.View.{View}
 use Rattle.position.specs.Forms.View.{viewBelow}
 use Rattle.position.specs.Position.{slotCount, start, slot, inPool, inBlock, blockOf, isConfirmed}
 

@@ -12,8 +12,7 @@ use lib.ListN.{length, getD, replicate}
 use Rattle.laws.specs.Booleans.{split, either, clash, and-parts}
 use Rattle.laws.specs.Each.{rewritten}
 use Rattle.laws.specs.Gather.{gather, gather-empty, gather-same, length-flat}
-use Rattle.laws.specs.Mask.{bit}
-use Rattle.laws.specs.Sets.{setBelow, set-bit}
+use Rattle.laws.specs.Sets.{set-bit}
 use Rattle.sheet.specs.Refusal.{accepted}
 use Rattle.slots.specs.declared.Step.{Step}
 use Rattle.slots.specs.declared.Step.the-variants.{Share, Give, SendToPool, HandToMiner, Include, Mine, Bump}

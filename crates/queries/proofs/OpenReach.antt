@@ -26,7 +26,6 @@ use Rattle.steps.specs.Decode.{noTransaction, sendsTo, sharesTo, firstShareFiel
 use Rattle.readings.specs.Forms.Sight.{shareNewIn, refusalIn, partyMay, mayStand, limit, givesIn, sharesFirst, minesIn, lastIn}
 use Rattle.steps.proofs.RightFields.{share-listed, give-listed, pool-listed, miner-listed, include-listed, bump-listed}
 use Rattle.output.specs.Forms.Emitted.{places}
-use Rattle.queries.specs.declared.OpenSets.{OpenSets}
 use Rattle.position.specs.declared.Position.{Position}
 use Rattle.position.specs.Position.{slotCount, slot, blockOf}
 use Rattle.sheet.specs.Checked.{Fit}

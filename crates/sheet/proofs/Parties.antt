@@ -1,15 +1,15 @@
 -- Laws of parties: their number, their places and their numbers.
 -- Assumes nothing.
-use Prim.Native.Nat.{ℕ, _+_, _-_, _^_, _≤_, _<_}
+use Prim.Native.Nat.{ℕ, _+_, _-_, _≤_, _<_}
 use native.Mathlib.Omega.{arith}
-use mathlib.Core.Path.{_≡_, refl, sym, ap, _∙_}
-use mathlib.Core.Bool.{true, false, not, _&&_}
+use mathlib.Core.Path.{_≡_, refl}
+use mathlib.Core.Bool.{true, false, not}
 use mathlib.Core.List.{List, [], _∷_}
-use lib.Dec.{eqb, ltb, lit≤, lit<}
+use lib.Dec.{eqb, ltb, lit≤}
 use lib.ListN.{length}
-use borrow.Author.Tests.{eqb-true, eqb-false, ne-eqb, eq-eqb, ltb-true, ltb-false, lt-ltb, le-ltb, not-true}
+use borrow.Author.Tests.{eqb-false, ne-eqb, ltb-true, ltb-false, lt-ltb, le-ltb, not-true}
 use Rattle.laws.specs.Booleans.{split, and-parts}
-use Rattle.sheet.specs.Field.{byte, parties, arrays, miner, place, partyAt, isParty, startMask, startKeys}
+use Rattle.sheet.specs.Field.{byte, parties, arrays, miner, place, partyAt, isParty, startKeys}
 
 -- two or three
 pub parties-some : (s : List ℕ) → 2 ≤ parties s

@@ -6,11 +6,11 @@ use native.Mathlib.Omega.{arith}
 use mathlib.Core.Path.{_≡_, refl, sym, _∙_}
 use mathlib.Core.List.{List}
 use lib.Dec.{eqb, ltb}
-use lib.ListN.{length, getD, set, length-set}
+use lib.ListN.{length, set, length-set}
 use lib.Seq.{getD-set-same, getD-set-other}
 use borrow.Author.Tests.{eqb-true, eqb-false, ltb-true}
 use Rattle.laws.specs.Booleans.{split}
-use Rattle.sheet.specs.Field.{count, parent}
+use Rattle.sheet.specs.Field.{parent}
 use Rattle.soonest.specs.Soonest.{mayRise, countsAt, soonestOver, soonestBlock, soonestParent, soonestDeadline}
 use Rattle.soonest.specs.Forms.Bounds.{Soon, SoonAbove}
 use Rattle.soonest.specs.Forms.Table.{Filled, tableAbove}

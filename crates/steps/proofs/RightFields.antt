@@ -11,7 +11,7 @@ use Rattle.laws.specs.Booleans.{either, and-parts, or-parts}
 use Rattle.sheet.specs.Field.{count, signatures}
 use Rattle.slots.specs.declared.Destination.{Destination}
 use Rattle.slots.specs.declared.Step.{Step}
-use Rattle.slots.specs.declared.Step.the-variants.{Share, Give, SendToPool, HandToMiner, Include, Mine, Bump}
+use Rattle.slots.specs.declared.Step.the-variants.{Share, Give, SendToPool, HandToMiner, Include, Bump}
 use Rattle.slots.specs.Destination.{destinationNumber, isParty}
 use Rattle.steps.specs.Decode.{noTransaction, sharesTo, firstShareFields, fieldsRight}
 

@@ -1,7 +1,6 @@
 -- A slot without an entry is not changed by taking the entry out.
 -- Assumes nothing.
-use Prim.Native.Nat.{ℕ}
-use mathlib.Core.Path.{_≡_, refl, sym, ap, _∙_}
+use mathlib.Core.Path.{_≡_, refl, ap}
 use mathlib.Core.Bool.{Bool, true, false}
 use Rattle.laws.specs.Booleans.{pick}
 use Rattle.slots.specs.declared.Slot.{Slot}

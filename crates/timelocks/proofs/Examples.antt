@@ -7,7 +7,7 @@ use mathlib.Core.List.{List, [], _∷_}
 use lib.Dec.{leb}
 use Rattle.sheet.specs.Saswap.{saswap}
 use Rattle.sheet.specs.LockHeight.{lockHeight}
-use Rattle.timelocks.specs.Bitcoin.{Transaction, Block, final, isFinal, relative, value, reached, admitted}
+use Rattle.timelocks.specs.Bitcoin.{Block, final, isFinal, relative, value, reached, admitted}
 use Rattle.timelocks.specs.Fields.{nLockTime, nSequence}
 use Rattle.timelocks.specs.Timelocks.{fieldRefusal, timelocksAnswer}
 use Rattle.timelocks.specs.Claim.{boxed, real, read}

@@ -1,6 +1,6 @@
 -- What the functions on earliest blocks answer: the number, and how large it is.
 -- Assumes nothing.
-use Prim.Native.Nat.{ℕ, _+_, _*_, _≤_, _<_}
+use Prim.Native.Nat.{ℕ, _+_, _*_, _≤_}
 use mathlib.Core.Path.{_≡_}
 
 -- r is the lock l over the block `above`

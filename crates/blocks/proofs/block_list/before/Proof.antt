@@ -2,7 +2,6 @@
 use Rattle.laws.specs.Booleans.{tests}
 use Rattle.ledger.specs.Entry.{before}
 use Rattle.blocks.proofs.Rise.{before-within}
-use borrow.Author.Needs.{needs}
 use Rattle.blocks.proofs.block_list.before.Statement.{statement}
 use Rattle.blocks.proofs.block_list.before.Tie as tie
 

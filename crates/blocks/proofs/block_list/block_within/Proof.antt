@@ -1,7 +1,6 @@
 -- From 1, and to the limit.
 use Rattle.laws.specs.Booleans.{tests}
 use Rattle.blocks.specs.BlockList.{blockWithin}
-use borrow.Author.Needs.{needs}
 use Rattle.blocks.proofs.block_list.block_within.Statement.{statement}
 use Rattle.blocks.proofs.block_list.block_within.Tie as tie
 

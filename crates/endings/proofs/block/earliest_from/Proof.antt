@@ -1,7 +1,6 @@
 -- The greater of the block above and the one behind the lock.
 use native.Mathlib.Omega.{arith}
 use Rattle.endings.proofs.Locks.{from-lock, from-above}
-use borrow.Author.Needs.{needs}
 use Rattle.endings.proofs.block.earliest_from.Statement.{statement}
 use Rattle.endings.proofs.block.earliest_from.Tie as tie
 

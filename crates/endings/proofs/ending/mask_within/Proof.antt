@@ -1,5 +1,4 @@
 -- Below the power of two; all 32 bits are.
-use Prim.Native.Nat.{_^_}
 use native.Mathlib.Omega.{arith}
 use native.Mathlib.Nat.{one-mul}
 use mathlib.Core.Path.{_≡_, sym, ap, _∙_}

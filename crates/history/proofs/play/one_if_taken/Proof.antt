@@ -1,6 +1,5 @@
 -- The two cases of a test.
 use Rattle.laws.specs.Booleans.{tests}
-use borrow.Author.Needs.{needs}
 use Rattle.history.proofs.play.one_if_taken.Statement.{statement}
 use Rattle.history.proofs.play.one_if_taken.Tie as tie
 

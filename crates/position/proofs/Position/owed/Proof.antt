@@ -3,12 +3,6 @@ use Rattle.position.proofs.MineTests.{owed-view}
 use borrow.Author.Needs.{needs}
 use Rattle.position.proofs.Position.owed.Statement.{statement}
 use Rattle.position.proofs.Position.owed.Tie as tie
-use Rattle.position.proofs.Position.owed.Reads as reads
-use Rattle.position.proofs.Position.owed.Lts as lts
-use Rattle.position.proofs.Position.block_of.Reads as block-of-reads
-use Rattle.sheet.proofs.field.parent.Reads as parent-reads
-use Rattle.sheet.proofs.setup.per_day.Reads as per-day-reads
-use Rattle.steps.proofs.owed.owed_at.Reads as owed-at-reads
 
 parent-requires : tie.Need-parent-requires
 parent-requires c κs = search needs

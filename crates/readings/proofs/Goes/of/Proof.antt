@@ -1,7 +1,6 @@
 -- By the destination.
 use borrow.Author.Tests.{ne-eqb}
 use Rattle.readings.specs.Forms.Sight.{goesOf}
-use borrow.Author.Needs.{needs}
 use Rattle.readings.proofs.Goes.of.Statement.{statement}
 use Rattle.readings.proofs.Goes.of.Tie as tie
 

@@ -4,13 +4,6 @@ use borrow.Author.Tests.{ne-eqb}
 use borrow.Author.Needs.{needs}
 use Rattle.readings.proofs.open.accepted_as.Statement.{statement}
 use Rattle.readings.proofs.open.accepted_as.Tie as tie
-use Rattle.readings.proofs.open.accepted_as.Reads as reads
-use Rattle.readings.proofs.open.accepted_as.Lts as lts
-use Rattle.readings.proofs.open.bump_refusal.Reads as bump-refusal-reads
-use Rattle.readings.proofs.open.miner_accepted.Reads as miner-accepted-reads
-use Rattle.readings.proofs.open.pool_accepted.Reads as pool-accepted-reads
-use Rattle.readings.proofs.open.share_refusal.Reads as share-refusal-reads
-use Rattle.steps.proofs.mining.include_refusal.Reads as include-refusal-reads
 
 share-refusal-requires : tie.Need-share-refusal-requires
 share-refusal-requires c κs = search needs

@@ -2,11 +2,6 @@
 use borrow.Author.Needs.{needs}
 use Rattle.readings.proofs.open.bump_refusal.Statement.{statement}
 use Rattle.readings.proofs.open.bump_refusal.Tie as tie
-use Rattle.readings.proofs.open.bump_refusal.Reads as reads
-use Rattle.readings.proofs.open.bump_refusal.Lts as lts
-use Rattle.sheet.proofs.setup.per_day.Reads as per-day-reads
-use Rattle.steps.proofs.mining.bump_refusal.Reads as bump-refusal-reads
-use Rattle.steps.proofs.owed.owed_at.Reads as owed-at-reads
 
 per-day-requires : tie.Need-per-day-requires
 per-day-requires c κs = search needs

@@ -4,10 +4,6 @@ use borrow.Author.Tests.{le-leb, lt-leb}
 use borrow.Author.Needs.{needs}
 use Rattle.readings.proofs.open.candidates.Statement.{statement}
 use Rattle.readings.proofs.open.candidates.Tie as tie
-use Rattle.readings.proofs.open.candidates.Reads as reads
-use Rattle.readings.proofs.open.candidates.Lts as lts
-use Rattle.readings.proofs.Goes.of.Reads as of-reads
-use Rattle.readings.proofs.open.turns.Reads as turns-reads
 
 turns-requires : tie.Need-turns-requires
 turns-requires c κs = search needs

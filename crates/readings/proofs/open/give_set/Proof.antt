@@ -6,12 +6,6 @@ use Prim.Native.Nat.{_≤_, _-_}
 use borrow.Author.Needs.{needs}
 use Rattle.readings.proofs.open.give_set.Statement.{statement}
 use Rattle.readings.proofs.open.give_set.Tie as tie
-use Rattle.readings.proofs.open.give_set.Reads as reads
-use Rattle.readings.proofs.open.give_set.Lts as lts
-use Rattle.sheet.proofs.field.signatures.Reads as signatures-reads
-use Rattle.sheet.proofs.field.wide.Reads as wide-reads
-use Rattle.sheet.proofs.set.join.Reads as join-reads
-use Rattle.readings.proofs.open.gives.Reads as gives-reads
 
 abbrev Inv-loop : tie.InvT-loop
 Inv-loop sheet sight actor destination n found₀ i₀ found i = (i ≤ n) × (found ≡ setBelow i (λ j. givesIn sight actor j destination))

@@ -3,12 +3,6 @@ use Rattle.readings.specs.Forms.Sight.{givesIn}
 use borrow.Author.Needs.{needs}
 use Rattle.readings.proofs.open.gives.Statement.{statement}
 use Rattle.readings.proofs.open.gives.Tie as tie
-use Rattle.readings.proofs.open.gives.Reads as reads
-use Rattle.readings.proofs.open.gives.Lts as lts
-use Rattle.steps.proofs.Outlook.give_allowed.Reads as give-allowed-reads
-use Rattle.steps.proofs.View.keys.Reads as keys-reads
-use Rattle.steps.proofs.conduct.conduct_refusal.Reads as conduct-refusal-reads
-use Rattle.steps.proofs.sharing.give_met.Reads as give-met-reads
 
 give-allowed-requires : tie.Need-give-allowed-requires
 give-allowed-requires c κs = search needs

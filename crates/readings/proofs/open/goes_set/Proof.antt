@@ -6,11 +6,6 @@ use Prim.Native.Nat.{_≤_, _-_}
 use borrow.Author.Needs.{needs}
 use Rattle.readings.proofs.open.goes_set.Statement.{statement}
 use Rattle.readings.proofs.open.goes_set.Tie as tie
-use Rattle.readings.proofs.open.goes_set.Reads as reads
-use Rattle.readings.proofs.open.goes_set.Lts as lts
-use Rattle.readings.proofs.open.goes_to.Reads as goes-to-reads
-use Rattle.sheet.proofs.field.count.Reads as count-reads
-use Rattle.sheet.proofs.set.join.Reads as join-reads
 
 abbrev Inv-loop : tie.InvT-loop
 Inv-loop sheet destination n found₀ t₀ found t = (t ≤ n) × (found ≡ setBelow t (λ j. goesTo sheet j destination))

@@ -4,10 +4,6 @@ use borrow.Author.Tests.{ne-eqb}
 use borrow.Author.Needs.{needs}
 use Rattle.readings.proofs.open.goes_to.Statement.{statement}
 use Rattle.readings.proofs.open.goes_to.Tie as tie
-use Rattle.readings.proofs.open.goes_to.Reads as reads
-use Rattle.readings.proofs.open.goes_to.Lts as lts
-use Rattle.slots.proofs.party.is_contract.Reads as is-contract-reads
-use Rattle.slots.proofs.party.is_payee.Reads as is-payee-reads
 
 is-contract-requires : tie.Need-is-contract-requires
 is-contract-requires c κs = search needs

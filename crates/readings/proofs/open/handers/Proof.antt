@@ -3,10 +3,6 @@ use borrow.Author.Tests.{ne-eqb, eq-eqb}
 use borrow.Author.Needs.{needs}
 use Rattle.readings.proofs.open.handers.Statement.{statement}
 use Rattle.readings.proofs.open.handers.Tie as tie
-use Rattle.readings.proofs.open.handers.Reads as reads
-use Rattle.readings.proofs.open.handers.Lts as lts
-use Rattle.readings.proofs.open.senders.Reads as senders-reads
-use Rattle.sheet.proofs.setup.stealth.Reads as stealth-reads
 
 stealth-requires : tie.Need-stealth-requires
 stealth-requires c κs = search needs

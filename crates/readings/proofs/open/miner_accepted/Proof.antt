@@ -5,12 +5,6 @@ use borrow.Author.Tests.{not-true}
 use borrow.Author.Needs.{needs}
 use Rattle.readings.proofs.open.miner_accepted.Statement.{statement}
 use Rattle.readings.proofs.open.miner_accepted.Tie as tie
-use Rattle.readings.proofs.open.miner_accepted.Reads as reads
-use Rattle.readings.proofs.open.miner_accepted.Lts as lts
-use Rattle.steps.proofs.parent.parent_there.Reads as parent-there-reads
-use Rattle.steps.proofs.Outlook.send_held.Reads as send-held-reads
-use Rattle.steps.proofs.View.placed.Reads as placed-reads
-use Rattle.steps.proofs.sending.miner_refusal.Reads as miner-refusal-reads
 
 placed-requires : tie.Need-placed-requires
 placed-requires c κs = search needs

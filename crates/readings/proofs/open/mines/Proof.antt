@@ -4,9 +4,6 @@ use borrow.Author.Tests.{ne-eqb}
 use borrow.Author.Needs.{needs}
 use Rattle.readings.proofs.open.mines.Statement.{statement}
 use Rattle.readings.proofs.open.mines.Tie as tie
-use Rattle.readings.proofs.open.mines.Reads as reads
-use Rattle.readings.proofs.open.mines.Lts as lts
-use Rattle.steps.proofs.mining.mine_refusal.Reads as mine-refusal-reads
 
 returns : tie.Need-returns
 unfolding minesIn

@@ -5,12 +5,6 @@ use borrow.Author.Tests.{not-true}
 use borrow.Author.Needs.{needs}
 use Rattle.readings.proofs.open.pool_accepted.Statement.{statement}
 use Rattle.readings.proofs.open.pool_accepted.Tie as tie
-use Rattle.readings.proofs.open.pool_accepted.Reads as reads
-use Rattle.readings.proofs.open.pool_accepted.Lts as lts
-use Rattle.steps.proofs.parent.parent_there.Reads as parent-there-reads
-use Rattle.steps.proofs.Outlook.send_held.Reads as send-held-reads
-use Rattle.steps.proofs.View.sent.Reads as sent-reads
-use Rattle.steps.proofs.sending.pool_refusal.Reads as pool-refusal-reads
 
 sent-requires : tie.Need-sent-requires
 sent-requires c κs = search needs

@@ -3,8 +3,6 @@ use Rattle.readings.specs.Forms.Sight.{senders}
 use borrow.Author.Tests.{ne-eqb}
 use Rattle.readings.proofs.open.senders.Statement.{statement}
 use Rattle.readings.proofs.open.senders.Tie as tie
-use Rattle.readings.proofs.open.senders.Reads as reads
-use Rattle.readings.proofs.open.senders.Lts as lts
 
 returns : tie.Need-returns
 unfolding senders

@@ -2,12 +2,6 @@
 use borrow.Author.Needs.{needs}
 use Rattle.readings.proofs.open.share_refusal.Statement.{statement}
 use Rattle.readings.proofs.open.share_refusal.Tie as tie
-use Rattle.readings.proofs.open.share_refusal.Reads as reads
-use Rattle.readings.proofs.open.share_refusal.Lts as lts
-use Rattle.steps.proofs.Outlook.share_allowed.Reads as share-allowed-reads
-use Rattle.steps.proofs.View.keys.Reads as keys-reads
-use Rattle.steps.proofs.conduct.conduct_refusal.Reads as conduct-refusal-reads
-use Rattle.steps.proofs.sharing.share_met.Reads as share-met-reads
 
 cast-share-allowed : tie.Need-cast-share-allowed
 cast-share-allowed c = search needs

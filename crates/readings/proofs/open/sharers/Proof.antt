@@ -3,8 +3,6 @@ use Rattle.readings.specs.Forms.Sight.{sharers}
 use borrow.Author.Tests.{ne-eqb, eq-eqb}
 use Rattle.readings.proofs.open.sharers.Statement.{statement}
 use Rattle.readings.proofs.open.sharers.Tie as tie
-use Rattle.readings.proofs.open.sharers.Reads as reads
-use Rattle.readings.proofs.open.sharers.Lts as lts
 
 returns : tie.Need-returns
 unfolding sharers

@@ -4,11 +4,6 @@ use borrow.Author.Tests.{ne-eqb}
 use borrow.Author.Needs.{needs}
 use Rattle.readings.proofs.open.shares_first.Statement.{statement}
 use Rattle.readings.proofs.open.shares_first.Tie as tie
-use Rattle.readings.proofs.open.shares_first.Reads as reads
-use Rattle.readings.proofs.open.shares_first.Lts as lts
-use Rattle.sheet.proofs.setup.conduct.Reads as conduct-reads
-use Rattle.steps.proofs.Outlook.share_allowed.Reads as share-allowed-reads
-use Rattle.steps.proofs.conduct.conduct_refusal.Reads as conduct-refusal-reads
 
 conduct-requires : tie.Need-conduct-requires
 conduct-requires c κs = search needs

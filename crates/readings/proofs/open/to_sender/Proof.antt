@@ -2,8 +2,6 @@
 use Rattle.laws.specs.Booleans.{tests}
 use Rattle.readings.proofs.open.to_sender.Statement.{statement}
 use Rattle.readings.proofs.open.to_sender.Tie as tie
-use Rattle.readings.proofs.open.to_sender.Reads as reads
-use Rattle.readings.proofs.open.to_sender.Lts as lts
 
 returns : tie.Need-returns
 returns c = simp (tests, c .if1 .taken)

@@ -4,11 +4,6 @@ use borrow.Author.Tests.{ne-eqb}
 use borrow.Author.Needs.{needs}
 use Rattle.readings.proofs.open.turns.Statement.{statement}
 use Rattle.readings.proofs.open.turns.Tie as tie
-use Rattle.readings.proofs.open.turns.Reads as reads
-use Rattle.readings.proofs.open.turns.Lts as lts
-use Rattle.readings.proofs.open.handers.Reads as handers-reads
-use Rattle.readings.proofs.open.senders.Reads as senders-reads
-use Rattle.readings.proofs.open.sharers.Reads as sharers-reads
 
 sharers-requires : tie.Need-sharers-requires
 sharers-requires c κs = search needs

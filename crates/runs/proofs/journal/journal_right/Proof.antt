@@ -1,7 +1,6 @@
 -- The two tests of a length.
 use Rattle.laws.specs.Booleans.{tests}
 use Rattle.position.specs.Play.{journalRight}
-use borrow.Author.Needs.{needs}
 use Rattle.runs.proofs.journal.journal_right.Statement.{statement}
 use Rattle.runs.proofs.journal.journal_right.Tie as tie
 

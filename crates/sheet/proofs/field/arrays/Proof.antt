@@ -1,5 +1,4 @@
 -- Behind the head: three bytes and the start masks.
-use mathlib.Core.Path.{refl}
 use Rattle.sheet.specs.Field.{arrays}
 use borrow.Author.Needs.{needs}
 use Rattle.sheet.proofs.field.arrays.Statement.{statement}

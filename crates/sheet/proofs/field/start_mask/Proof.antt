@@ -1,5 +1,4 @@
 -- A byte of the head.
-use native.Mathlib.Omega.{arith}
 use Rattle.sheet.specs.Field.{arrays}
 use borrow.Author.Needs.{needs}
 use Rattle.sheet.proofs.field.start_mask.Statement.{statement}

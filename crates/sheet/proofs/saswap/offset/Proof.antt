@@ -1,6 +1,5 @@
 -- By the number of blocks.
 use Rattle.sheet.specs.Saswap.{offset}
-use borrow.Author.Needs.{needs}
 use borrow.Author.Tests.{ne-eqb}
 use Rattle.sheet.proofs.saswap.offset.Statement.{statement}
 use Rattle.sheet.proofs.saswap.offset.Tie as tie

@@ -1,7 +1,6 @@
 -- By party number.
 use Rattle.laws.specs.Booleans.{tests}
 use Rattle.slots.specs.Slot.{marksOf}
-use borrow.Author.Needs.{needs}
 use Rattle.slots.proofs.Slot.marks.Statement.{statement}
 use Rattle.slots.proofs.Slot.marks.Tie as tie
 

@@ -1,7 +1,6 @@
 -- By destination number.
 use Rattle.laws.specs.Booleans.{tests}
 use Rattle.slots.specs.Slot.{sharedFor}
-use borrow.Author.Needs.{needs}
 use Rattle.slots.proofs.Slot.shared_for.Statement.{statement}
 use Rattle.slots.proofs.Slot.shared_for.Tie as tie
 

@@ -1,7 +1,6 @@
 -- By destination number; the other fields stay.
 use Rattle.laws.specs.Booleans.{tests}
 use Rattle.slots.specs.Slot.{withShared}
-use borrow.Author.Needs.{needs}
 use Rattle.slots.proofs.Slot.with_shared.Statement.{statement}
 use Rattle.slots.proofs.Slot.with_shared.Tie as tie
 

@@ -6,8 +6,6 @@ use Prim.Native.Nat.{_/_, _^_}
 use borrow.Author.Needs.{needs}
 use Rattle.slots.proofs.next.next.Statement.{statement}
 use Rattle.slots.proofs.next.next.Tie as tie
-use Rattle.slots.proofs.next.next.Reads as reads
-use Rattle.slots.proofs.next.next.Lts as lts
 
 returns : tie.Need-returns
 returns c = next-past _ _ _ (c .before .pre .0) (c .if1 .taken)

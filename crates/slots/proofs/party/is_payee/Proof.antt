@@ -3,8 +3,7 @@ use denote.Ref.{now}
 use Rattle.laws.specs.Booleans.{held}
 use borrow.Author.Tests.{not-true, not-false}
 use native.Mathlib.Omega.{arith}
-use mathlib.Core.Path.{sym, _∙_}
-use Rattle.sheet.specs.Field.{parties, place}
+use Rattle.sheet.specs.Field.{place}
 use Rattle.sheet.proofs.Parties.{parties-few, place-below}
 use Rattle.slots.specs.Destination.{isPayee}
 use borrow.Author.Needs.{needs}

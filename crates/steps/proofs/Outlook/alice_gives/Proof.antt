@@ -2,11 +2,8 @@
 use borrow.Author.Tests.{eq-eqb}
 use Rattle.laws.specs.Booleans.{tests}
 use Rattle.steps.specs.Forms.Conduct.{aliceGivesIn}
-use borrow.Author.Needs.{needs}
 use Rattle.steps.proofs.Outlook.alice_gives.Statement.{statement}
 use Rattle.steps.proofs.Outlook.alice_gives.Tie as tie
-use Rattle.steps.proofs.Outlook.alice_gives.Reads as reads
-use Rattle.steps.proofs.Outlook.alice_gives.Lts as lts
 
 returns : tie.Need-returns
 unfolding aliceGivesIn

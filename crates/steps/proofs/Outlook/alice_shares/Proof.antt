@@ -2,11 +2,8 @@
 use borrow.Author.Tests.{eq-eqb, not-true, not-false}
 use Rattle.laws.specs.Booleans.{tests}
 use Rattle.steps.specs.Forms.Conduct.{aliceSharesIn}
-use borrow.Author.Needs.{needs}
 use Rattle.steps.proofs.Outlook.alice_shares.Statement.{statement}
 use Rattle.steps.proofs.Outlook.alice_shares.Tie as tie
-use Rattle.steps.proofs.Outlook.alice_shares.Reads as reads
-use Rattle.steps.proofs.Outlook.alice_shares.Lts as lts
 
 returns : tie.Need-returns
 unfolding aliceSharesIn

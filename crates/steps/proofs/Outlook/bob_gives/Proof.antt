@@ -5,9 +5,6 @@ use borrow.Author.Tests.{not-true, not-false}
 use borrow.Author.Needs.{needs}
 use Rattle.steps.proofs.Outlook.bob_gives.Statement.{statement}
 use Rattle.steps.proofs.Outlook.bob_gives.Tie as tie
-use Rattle.steps.proofs.Outlook.bob_gives.Reads as reads
-use Rattle.steps.proofs.Outlook.bob_gives.Lts as lts
-use Rattle.slots.proofs.signatures.has.Reads as has-reads
 
 returns : tie.Need-returns
 unfolding bobGivesIn

@@ -5,10 +5,6 @@ use mathlib.Core.Bool.{or-false}
 use borrow.Author.Needs.{needs}
 use Rattle.steps.proofs.Outlook.give_allowed.Statement.{statement}
 use Rattle.steps.proofs.Outlook.give_allowed.Tie as tie
-use Rattle.steps.proofs.Outlook.give_allowed.Reads as reads
-use Rattle.steps.proofs.Outlook.give_allowed.Lts as lts
-use Rattle.steps.proofs.Outlook.alice_gives.Reads as alice-gives-reads
-use Rattle.steps.proofs.Outlook.bob_gives.Reads as bob-gives-reads
 
 returns : tie.Need-returns
 unfolding giveAllowedIn

@@ -4,9 +4,6 @@ use Rattle.steps.specs.Forms.Conduct.{safeToSendIn}
 use borrow.Author.Needs.{needs}
 use Rattle.steps.proofs.Outlook.safe_to_send.Statement.{statement}
 use Rattle.steps.proofs.Outlook.safe_to_send.Tie as tie
-use Rattle.steps.proofs.Outlook.safe_to_send.Reads as reads
-use Rattle.steps.proofs.Outlook.safe_to_send.Lts as lts
-use Rattle.steps.proofs.Outlook.secret_safe.Reads as secret-safe-reads
 
 returns : tie.Need-returns
 unfolding safeToSendIn

@@ -1,14 +1,9 @@
 -- Not needed, or not known to Alice, or spend_B.
-use Rattle.laws.specs.Booleans.{tests}
 use Rattle.steps.specs.Forms.Conduct.{secretSafeIn}
 use borrow.Author.Tests.{not-true, not-false}
 use borrow.Author.Needs.{needs}
 use Rattle.steps.proofs.Outlook.secret_safe.Statement.{statement}
 use Rattle.steps.proofs.Outlook.secret_safe.Tie as tie
-use Rattle.steps.proofs.Outlook.secret_safe.Reads as reads
-use Rattle.steps.proofs.Outlook.secret_safe.Lts as lts
-use Rattle.sheet.proofs.field.required.Reads as required-reads
-use Rattle.slots.proofs.signatures.has.Reads as has-reads
 
 required-requires : tie.Need-required-requires
 required-requires c κs = search needs

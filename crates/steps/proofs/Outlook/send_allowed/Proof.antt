@@ -1,14 +1,9 @@
 -- Open, or in phase and, if careful, safe.
-use Rattle.laws.specs.Booleans.{tests}
 use Rattle.steps.specs.Forms.Conduct.{sendAllowedIn}
 use borrow.Author.Tests.{not-true, not-false}
 use borrow.Author.Needs.{needs}
 use Rattle.steps.proofs.Outlook.send_allowed.Statement.{statement}
 use Rattle.steps.proofs.Outlook.send_allowed.Tie as tie
-use Rattle.steps.proofs.Outlook.send_allowed.Reads as reads
-use Rattle.steps.proofs.Outlook.send_allowed.Lts as lts
-use Rattle.steps.proofs.Outlook.safe_to_send.Reads as safe-to-send-reads
-use Rattle.steps.proofs.conduct.may_send.Reads as may-send-reads
 
 returns : tie.Need-returns
 unfolding sendAllowedIn

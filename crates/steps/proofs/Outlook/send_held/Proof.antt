@@ -4,10 +4,6 @@ use borrow.Author.Tests.{not-true, not-false}
 use borrow.Author.Needs.{needs}
 use Rattle.steps.proofs.Outlook.send_held.Statement.{statement}
 use Rattle.steps.proofs.Outlook.send_held.Tie as tie
-use Rattle.steps.proofs.Outlook.send_held.Reads as reads
-use Rattle.steps.proofs.Outlook.send_held.Lts as lts
-use Rattle.slots.proofs.party.is_contract.Reads as is-contract-reads
-use Rattle.steps.proofs.Outlook.send_allowed.Reads as send-allowed-reads
 
 send-allowed-requires : tie.Need-send-allowed-requires
 send-allowed-requires c κs = search needs

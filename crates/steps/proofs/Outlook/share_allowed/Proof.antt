@@ -4,9 +4,6 @@ use Rattle.steps.specs.Forms.Conduct.{shareAllowedIn}
 use borrow.Author.Needs.{needs}
 use Rattle.steps.proofs.Outlook.share_allowed.Statement.{statement}
 use Rattle.steps.proofs.Outlook.share_allowed.Tie as tie
-use Rattle.steps.proofs.Outlook.share_allowed.Reads as reads
-use Rattle.steps.proofs.Outlook.share_allowed.Lts as lts
-use Rattle.steps.proofs.Outlook.alice_shares.Reads as alice-shares-reads
 
 returns : tie.Need-returns
 unfolding shareAllowedIn

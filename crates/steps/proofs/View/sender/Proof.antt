@@ -3,12 +3,6 @@ use Rattle.steps.specs.Forms.View.{senderIn}
 use borrow.Author.Needs.{needs}
 use Rattle.steps.proofs.View.sender.Statement.{statement}
 use Rattle.steps.proofs.View.sender.Tie as tie
-use Rattle.steps.proofs.View.sender.Reads as reads
-use Rattle.steps.proofs.View.sender.Lts as lts
-use Rattle.sheet.proofs.field.secrets.Reads as secrets-reads
-use Rattle.slots.proofs.Slot.shared_for.Reads as shared-for-reads
-use Rattle.slots.proofs.signatures.sender_mask.Reads as sender-mask-reads
-use Rattle.steps.proofs.View.keys.Reads as keys-reads
 
 secrets-requires : tie.Need-secrets-requires
 secrets-requires c κs = search needs

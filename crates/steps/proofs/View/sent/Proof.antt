@@ -1,11 +1,8 @@
 -- The union.
 use mathlib.Core.Path.{refl}
 use Rattle.steps.specs.Forms.View.{sentSet}
-use borrow.Author.Needs.{needs}
 use Rattle.steps.proofs.View.sent.Statement.{statement}
 use Rattle.steps.proofs.View.sent.Tie as tie
-use Rattle.steps.proofs.View.sent.Reads as reads
-use Rattle.steps.proofs.View.sent.Lts as lts
 
 returns : tie.Need-returns
 unfolding sentSet

@@ -2,11 +2,8 @@
 use Rattle.steps.specs.Forms.Conduct.{conductTests}
 use Rattle.laws.specs.Failing.{firstFailing}
 use borrow.Author.Tests.{not-true, not-false}
-use borrow.Author.Needs.{needs}
 use Rattle.steps.proofs.conduct.conduct_refusal.Statement.{statement}
 use Rattle.steps.proofs.conduct.conduct_refusal.Tie as tie
-use Rattle.steps.proofs.conduct.conduct_refusal.Reads as reads
-use Rattle.steps.proofs.conduct.conduct_refusal.Lts as lts
 
 returns : tie.Need-returns
 unfolding conductTests firstFailing

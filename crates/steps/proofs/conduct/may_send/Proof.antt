@@ -2,11 +2,8 @@
 use Rattle.laws.specs.Booleans.{tests}
 use Rattle.steps.specs.Conduct.{maySend}
 use mathlib.Core.Bool.{or-false}
-use borrow.Author.Needs.{needs}
 use Rattle.steps.proofs.conduct.may_send.Statement.{statement}
 use Rattle.steps.proofs.conduct.may_send.Tie as tie
-use Rattle.steps.proofs.conduct.may_send.Reads as reads
-use Rattle.steps.proofs.conduct.may_send.Lts as lts
 
 returns : tie.Need-returns
 unfolding maySend

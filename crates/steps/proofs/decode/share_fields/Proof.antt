@@ -1,5 +1,4 @@
 -- The fields of kind 1.
-use Rattle.laws.specs.Booleans.{tests}
 use borrow.Author.Tests.{not-true, not-false}
 use borrow.Author.Needs.{needs}
 use Rattle.steps.proofs.decode.share_fields.Statement.{statement}

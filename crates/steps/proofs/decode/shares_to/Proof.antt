@@ -1,5 +1,4 @@
 -- A contract transaction for the contract, a paying one for its payees.
-use Rattle.laws.specs.Booleans.{tests}
 use Rattle.steps.specs.Decode.{sharesTo}
 use borrow.Author.Needs.{needs}
 use Rattle.steps.proofs.decode.shares_to.Statement.{statement}

@@ -3,9 +3,6 @@ use Rattle.laws.specs.Booleans.{tests}
 use borrow.Author.Needs.{needs}
 use Rattle.steps.proofs.mining.block_met.Statement.{statement}
 use Rattle.steps.proofs.mining.block_met.Tie as tie
-use Rattle.steps.proofs.mining.block_met.Reads as reads
-use Rattle.steps.proofs.mining.block_met.Lts as lts
-use Rattle.sheet.proofs.set.has.Reads as has-reads
 
 returns : tie.Need-returns
 returns c = simp (tests, c .if1 .taken)

@@ -2,11 +2,8 @@
 use Rattle.steps.specs.Forms.Mining.{bumpTestsIn}
 use Rattle.laws.specs.Failing.{none-left, fails, passes}
 use mathlib.Core.Path.{refl}
-use borrow.Author.Needs.{needs}
 use Rattle.steps.proofs.mining.bump_refusal.Statement.{statement}
 use Rattle.steps.proofs.mining.bump_refusal.Tie as tie
-use Rattle.steps.proofs.mining.bump_refusal.Reads as reads
-use Rattle.steps.proofs.mining.bump_refusal.Lts as lts
 
 returns : tie.Need-returns
 unfolding bumpTestsIn

@@ -1,5 +1,4 @@
 -- The tests in their order.
-use mathlib.Core.Path.{_≡_, sym, _∙_}
 use Rattle.steps.specs.Forms.Mining.{includeTestsIn}
 use Rattle.slots.specs.Conflict.{noConflict}
 use Rattle.laws.specs.Failing.{none-left, fails, passes, fails-not, passes-not}
@@ -7,12 +6,6 @@ use mathlib.Core.Path.{refl}
 use borrow.Author.Needs.{needs}
 use Rattle.steps.proofs.mining.include_refusal.Statement.{statement}
 use Rattle.steps.proofs.mining.include_refusal.Tie as tie
-use Rattle.steps.proofs.mining.include_refusal.Reads as reads
-use Rattle.steps.proofs.mining.include_refusal.Lts as lts
-use Rattle.slots.proofs.conflict.conflict_in.Reads as conflict-in-reads
-use Rattle.sheet.proofs.set.has.Reads as has-reads
-use Rattle.steps.proofs.View.placed.Reads as placed-reads
-use Rattle.steps.proofs.parent.parent_there.Reads as parent-there-reads
 
 placed-requires : tie.Need-placed-requires
 placed-requires c κs = search needs

@@ -1,19 +1,14 @@
 -- The tests in their order.
 use borrow.Author.Tests.{le-ltb, lt-ltb}
 use Rattle.sheet.specs.Refusal.{stepBlocks}
-use mathlib.Core.Path.{_≡_}
-use mathlib.Core.List.{[], _∷_}
+use mathlib.Core.List.{[]}
 use lib.Dec.{ltb}
 use Rattle.steps.specs.Forms.Mining.{mineTestsIn}
-use Rattle.laws.specs.Failing.{none-left, fails, passes, fails-not, passes-not, firstFailing}
-use Rattle.laws.specs.Booleans.{tests}
+use Rattle.laws.specs.Failing.{none-left, fails, passes, fails-not, passes-not}
 use mathlib.Core.Path.{refl}
 use borrow.Author.Needs.{needs}
 use Rattle.steps.proofs.mining.mine_refusal.Statement.{statement}
 use Rattle.steps.proofs.mining.mine_refusal.Tie as tie
-use Rattle.steps.proofs.mining.mine_refusal.Reads as reads
-use Rattle.steps.proofs.mining.mine_refusal.Lts as lts
-use Rattle.steps.proofs.mining.block_met.Reads as block-met-reads
 
 returns : tie.Need-returns
 unfolding mineTestsIn

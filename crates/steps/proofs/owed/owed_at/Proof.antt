@@ -4,11 +4,6 @@ use borrow.Author.Tests.{not-true, not-false}
 use borrow.Author.Needs.{needs}
 use Rattle.steps.proofs.owed.owed_at.Statement.{statement}
 use Rattle.steps.proofs.owed.owed_at.Tie as tie
-use Rattle.steps.proofs.owed.owed_at.Reads as reads
-use Rattle.steps.proofs.owed.owed_at.Lts as lts
-use Rattle.slots.proofs.deadline.deadline.Reads as deadline-reads
-use Rattle.slots.proofs.lock_height.wide.Reads as wide-reads
-use Rattle.sheet.proofs.set.has.Reads as has-reads
 
 has-requires : tie.Need-has-requires
 has-requires c κs = search needs

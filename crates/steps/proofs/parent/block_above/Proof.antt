@@ -4,9 +4,6 @@ use Rattle.steps.specs.Forms.Parent.{blockAbove}
 use borrow.Author.Needs.{needs}
 use Rattle.steps.proofs.parent.block_above.Statement.{statement}
 use Rattle.steps.proofs.parent.block_above.Tie as tie
-use Rattle.steps.proofs.parent.block_above.Reads as reads
-use Rattle.steps.proofs.parent.block_above.Lts as lts
-use Rattle.sheet.proofs.field.parent.Reads as parent-reads
 
 parent-requires : tie.Need-parent-requires
 parent-requires c κs = search needs

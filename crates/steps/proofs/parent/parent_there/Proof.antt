@@ -5,11 +5,6 @@ use mathlib.Core.Path.{sym}
 use borrow.Author.Needs.{needs}
 use Rattle.steps.proofs.parent.parent_there.Statement.{statement}
 use Rattle.steps.proofs.parent.parent_there.Tie as tie
-use Rattle.steps.proofs.parent.parent_there.Reads as reads
-use Rattle.steps.proofs.parent.parent_there.Lts as lts
-use Rattle.sheet.proofs.field.opening.Reads as opening-reads
-use Rattle.sheet.proofs.field.parent.Reads as parent-reads
-use Rattle.sheet.proofs.set.has.Reads as has-reads
 
 opening-requires : tie.Need-opening-requires
 opening-requires c κs = search needs

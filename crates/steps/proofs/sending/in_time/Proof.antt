@@ -2,10 +2,6 @@
 use borrow.Author.Needs.{needs}
 use Rattle.steps.proofs.sending.in_time.Statement.{statement}
 use Rattle.steps.proofs.sending.in_time.Tie as tie
-use Rattle.steps.proofs.sending.in_time.Reads as reads
-use Rattle.steps.proofs.sending.in_time.Lts as lts
-use Rattle.slots.proofs.limited.deadline_by.Reads as deadline-by-reads
-use Rattle.slots.proofs.lock_height.wide.Reads as wide-reads
 
 wide-requires : tie.Need-wide-requires
 wide-requires c κs = search needs

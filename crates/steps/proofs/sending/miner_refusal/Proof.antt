@@ -5,13 +5,6 @@ use Rattle.laws.specs.Booleans.{tests}
 use borrow.Author.Needs.{needs}
 use Rattle.steps.proofs.sending.miner_refusal.Statement.{statement}
 use Rattle.steps.proofs.sending.miner_refusal.Tie as tie
-use Rattle.steps.proofs.sending.miner_refusal.Reads as reads
-use Rattle.steps.proofs.sending.miner_refusal.Lts as lts
-use Rattle.sheet.proofs.setup.per_day.Reads as per-day-reads
-use Rattle.sheet.proofs.setup.stealth.Reads as stealth-reads
-use Rattle.steps.proofs.View.placed.Reads as placed-reads
-use Rattle.steps.proofs.View.sender.Reads as sender-reads
-use Rattle.steps.proofs.sending.send_refusal.Reads as send-refusal-reads
 
 stealth-requires : tie.Need-stealth-requires
 stealth-requires c κs = search needs

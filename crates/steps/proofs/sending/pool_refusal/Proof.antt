@@ -4,13 +4,6 @@ use Rattle.laws.specs.Failing.{none-left, fails, passes}
 use borrow.Author.Needs.{needs}
 use Rattle.steps.proofs.sending.pool_refusal.Statement.{statement}
 use Rattle.steps.proofs.sending.pool_refusal.Tie as tie
-use Rattle.steps.proofs.sending.pool_refusal.Reads as reads
-use Rattle.steps.proofs.sending.pool_refusal.Lts as lts
-use Rattle.sheet.proofs.setup.per_day.Reads as per-day-reads
-use Rattle.steps.proofs.View.sender.Reads as sender-reads
-use Rattle.steps.proofs.View.sent.Reads as sent-reads
-use Rattle.steps.proofs.sending.in_time.Reads as in-time-reads
-use Rattle.steps.proofs.sending.send_refusal.Reads as send-refusal-reads
 
 per-day-requires : tie.Need-per-day-requires
 per-day-requires c κs = search needs

@@ -6,12 +6,6 @@ use mathlib.Core.Path.{refl}
 use borrow.Author.Needs.{needs}
 use Rattle.steps.proofs.sending.send_refusal.Statement.{statement}
 use Rattle.steps.proofs.sending.send_refusal.Tie as tie
-use Rattle.steps.proofs.sending.send_refusal.Reads as reads
-use Rattle.steps.proofs.sending.send_refusal.Lts as lts
-use Rattle.slots.proofs.conflict.conflict_in.Reads as conflict-in-reads
-use Rattle.slots.proofs.signatures.signed.Reads as signed-reads
-use Rattle.steps.proofs.parent.parent_there.Reads as parent-there-reads
-use Rattle.steps.proofs.sending.unlocked.Reads as unlocked-reads
 
 returns : tie.Need-returns
 unfolding sendTestsIn noConflict

@@ -3,10 +3,6 @@ use Rattle.steps.proofs.Reached.{below-next}
 use borrow.Author.Needs.{needs}
 use Rattle.steps.proofs.sending.unlocked.Statement.{statement}
 use Rattle.steps.proofs.sending.unlocked.Tie as tie
-use Rattle.steps.proofs.sending.unlocked.Reads as reads
-use Rattle.steps.proofs.sending.unlocked.Lts as lts
-use Rattle.slots.proofs.lock_height.lock_height.Reads as lock-height-reads
-use Rattle.slots.proofs.lock_height.wide.Reads as wide-reads
 
 lock-height-requires : tie.Need-lock-height-requires
 lock-height-requires c κs = search needs

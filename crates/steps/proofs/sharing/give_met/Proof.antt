@@ -3,9 +3,6 @@ use Rattle.steps.specs.Forms.Sharing.{giveMetIn}
 use borrow.Author.Needs.{needs}
 use Rattle.steps.proofs.sharing.give_met.Statement.{statement}
 use Rattle.steps.proofs.sharing.give_met.Tie as tie
-use Rattle.steps.proofs.sharing.give_met.Reads as reads
-use Rattle.steps.proofs.sharing.give_met.Lts as lts
-use Rattle.slots.proofs.signatures.has.Reads as has-reads
 
 has-requires : tie.Need-has-requires
 has-requires c κs = search needs

@@ -3,10 +3,6 @@ use Rattle.steps.specs.Forms.Sharing.{shareMetIn}
 use borrow.Author.Needs.{needs}
 use Rattle.steps.proofs.sharing.share_met.Statement.{statement}
 use Rattle.steps.proofs.sharing.share_met.Tie as tie
-use Rattle.steps.proofs.sharing.share_met.Reads as reads
-use Rattle.steps.proofs.sharing.share_met.Lts as lts
-use Rattle.slots.proofs.Slot.marked_for.Reads as marked-for-reads
-use Rattle.slots.proofs.signatures.share_mask.Reads as share-mask-reads
 
 marked-for-requires : tie.Need-marked-for-requires
 marked-for-requires c κs = search needs

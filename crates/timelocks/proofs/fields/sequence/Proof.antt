@@ -1,7 +1,6 @@
 -- By the lock type.
 use Rattle.timelocks.specs.Fields.{nSequence}
 use Rattle.laws.specs.Booleans.{tests}
-use native.Mathlib.Omega.{arith}
 use borrow.Author.Needs.{needs}
 use Rattle.timelocks.proofs.fields.sequence.Statement.{statement}
 use Rattle.timelocks.proofs.fields.sequence.Tie as tie
