@@ -20,7 +20,7 @@ use Rattle.position.specs.Effect.{afterMine, effect}
 use Rattle.position.specs.Play.{FourBytes, play, blockEntries, confirms, confirmedEntries}
 use Rattle.moves.proofs.Untouched.{SameConfirmed}
 use Rattle.moves.proofs.AfterBlocks.{mine-blocks, mine-to}
-use Rattle.moves.proofs.Journals.{play-next}
+use Rattle.position.proofs.RowSteps.{play-next}
 use Rattle.position.proofs.StepCases.{StepCase, taken, turned-down, step-case}
 use Rattle.agreement.proofs.Sound.{Sound}
 use Rattle.agreement.proofs.SoundSteps.{start-blocks, sound-step}

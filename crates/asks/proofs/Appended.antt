@@ -13,7 +13,8 @@ use Rattle.position.specs.declared.Position.{Position}
 use Rattle.position.specs.Position.{start}
 use Rattle.position.specs.Play.{FourBytes, journalSteps, step, runFrom, journalRight, callTests, run}
 use Rattle.runs.proofs.Calls.{sheet-passes, setup-passes, journal-whole}
-use Rattle.runs.proofs.Runs.{run-next, run-ends, row-append, run-allowed, run-checked}
+use Rattle.runs.proofs.Runs.{row-append, run-allowed, run-checked}
+use Rattle.position.proofs.RowSteps.{run-next, run-ends}
 use Rattle.asks.specs.Ask.{stepCount, stepOf}
 use Rattle.asks.proofs.Opens.{after-setup, call-tests}
 

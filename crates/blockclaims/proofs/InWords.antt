@@ -21,9 +21,10 @@ use Rattle.ledger.proofs.Rising.{blocks-rise}
 use Rattle.blocks.proofs.Keeping.{lock-opening, lock-spend}
 use Rattle.blockclaims.specs.Words
 use Rattle.blockclaims.specs.Words.{Before, ParentBlock, Based, AllRight}
-use Rattle.blockclaims.proofs.Places.{order-rising, before-number, before-block, place-before}
+use Rattle.blockclaims.proofs.Places.{order-rising, before-block, place-before}
 use Rattle.blockclaims.proofs.Standing
 use Rattle.blockclaims.proofs.Standing.{Founded, AllFitting}
+use Rattle.ledger.proofs.Rising.{before-number}
 
 -- a lock since the parent is above the parent's block
 since-above : (s : List ℕ) (perDay p t : ℕ) → lockType s t ≡ 2 → p ≤ lockFrom s perDay p t

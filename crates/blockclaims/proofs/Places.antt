@@ -1,6 +1,6 @@
 -- Members and places of a list, and the places of one whose elements rise.
 -- Assumes nothing.
-use Prim.Native.Nat.{ℕ, zero, suc, _≤_, _<_}
+use Prim.Native.Nat.{ℕ, zero, suc, _<_}
 use native.Mathlib.Omega.{arith}
 use mathlib.Core.Path.{_≡_, refl, sym, _∙_}
 use mathlib.Core.Bool.{Bool, true, _&&_}
@@ -8,11 +8,12 @@ use mathlib.Core.List.{List, [], _∷_, List·Memᴰ, List·Memᴰ·head, List·
 use mathlib.Core.Option.{some}
 use lib.Dec.{eqb, ltb}
 use lib.ListN.{getElem?}
-use borrow.Author.Tests.{ltb-true, ltb-false, lt-ltb, eqb-true, eqb-false}
-use Rattle.laws.specs.Booleans.{split, either, and-parts, or-parts, or-right}
+use borrow.Author.Tests.{ltb-true, ltb-false, lt-ltb, eqb-true}
+use Rattle.laws.specs.Booleans.{split, either, and-parts, or-parts}
 use Rattle.laws.specs.All.{All, empty, also, none-some, some-same}
 use Rattle.laws.specs.Members.{Rising}
 use Rattle.ledger.specs.Entry.{Entry, before, inOrder}
+use Rattle.ledger.proofs.Rising.{before-le, before-number}
 
 module _ {A : Type 0} where
   pub place-member : (l : List A) (i : ℕ) (x : A) → getElem? l i ≡ some x → List·Memᴰ x l
@@ -42,17 +43,6 @@ rising-order [] r = refl
 rising-order (x ∷ []) r = refl
 rising-order (x ∷ y ∷ l) r = rw (r .0 y (List·Memᴰ·head refl)) (rising-order (y ∷ l) (r .1))
 
--- a lower number, in no later block
-pub before-number : (a b : Entry) → a .block ≤ b .block → a .transaction < b .transaction → before a b ≡ true
-unfolding before
-before-number a b h m =
-    split (eqb (a .block) (b .block))
-    (λ y. rw (y, lt-ltb (a .transaction) (b .transaction) m) (or-right (ltb (a .block) (b .block)) true refl))
-    (λ y. rw (lt-ltb (a .block) (b .block) (strictly (a .block) (b .block) h (eqb-false (a .block) (b .block) y))))
-  where
-    strictly : (m n : ℕ) → m ≤ n → (m ≡ n → ⊥) → m < n
-    strictly m n h f = split (ltb m n) (ltb-true m n) (λ y. absurd (f (omega (arith, ltb-false m n y))))
-
 pub before-block : (a b : Entry) → a .block < b .block → before a b ≡ true
 unfolding before
 before-block a b h = rw (lt-ltb (a .block) (b .block) h)
@@ -66,12 +56,6 @@ before-says a b h n =
     (λ y.
     let w = and-parts (eqb (a .block) (b .block)) (ltb (a .transaction) (b .transaction)) y in
     (eqb-true (a .block) (b .block) (w .0), ltb-true (a .transaction) (b .transaction) (w .1)))
-
-before-le : (a b : Entry) → before a b ≡ true → a .block ≤ b .block
-before-le a b h =
-    split (ltb (a .block) (b .block))
-    (λ y. omega (arith, ltb-true (a .block) (b .block) y))
-    (λ y. let m = ltb-false (a .block) (b .block) y in let w = before-says a b h (λ z. omega arith) in omega (arith, w .0))
 
 before-all : (a b c : Entry) → before a b ≡ true → before b c ≡ true → before a c ≡ true
 before-all a b c h k =

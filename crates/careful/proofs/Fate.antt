@@ -6,7 +6,6 @@ use mathlib.Core.Path.{_≡_}
 use mathlib.Core.Logic.{inr}
 use mathlib.Core.Bool.{true, false}
 use mathlib.Core.List.{List}
-use lib.ListN.{length}
 use Rattle.laws.specs.Booleans.{split, either}
 use Rattle.sheet.specs.Field.{count, parent}
 use Rattle.sheet.specs.Checked.{Checked}
@@ -25,6 +24,7 @@ use Rattle.moves.proofs.AfterBlocks.{mine-blocks, mine-pool, mine-mined}
 use Rattle.moves.proofs.Quiet.{Quiet, lasting}
 use Rattle.agreement.proofs.Sound.{Sound}
 use Rattle.agreement.proofs.Standing.{met-at, not-owed}
+use Rattle.agreement.proofs.EachKind.{wide}
 
 pub data Fate (s u : List ℕ) (p q : Position) (t : ℕ) : Type 0 where
   same : inPool q t ≡ true → q .mined ≡ p .mined → Fate s u p q t
@@ -41,15 +41,12 @@ pub stays-confirmed : {s u : List ℕ} {p q : Position} → Lasts s u p q → (t
 stays-confirmed ls t l h = rw (ls .confirmed t l h) h
 
 module _ (s u : List ℕ) (ok : Checked s) (p : Position) (g : Sound s u p) where
-  few : count s ≤ length (p .slots)
-  few = omega (arith, g .sized, ok .sized .few)
-
   mined-block : (k : ℕ) → inBlock p k ≡ true → 0 < blockOf (afterMine s p) k
-  mined-block k b = rw (mine-blocks s p few (g .beyond), b) (omega arith)
+  mined-block k b = rw (mine-blocks s p (wide s u ok p g) (g .beyond), b) (omega arith)
 
   mined-kept : (t : ℕ) → t < count s → 0 < blockOf p t → blockOf (afterMine s p) t ≡ blockOf p t
   mined-kept t l c =
-      rw (mine-blocks s p few (g .beyond))
+      rw (mine-blocks s p (wide s u ok p g) (g .beyond))
       (split (inBlock p t) (λ b. absurd (omega (arith, g .block .free t t l l b (conflict-self s t)))) (λ b. rw b))
 
   mined-fate : anyOwed s u p ≡ false → (t : ℕ) → t < count s → 0 < blockOf p (parent s t) → inPool p t ≡ true → Fate s u p (afterMine s p) t
@@ -62,10 +59,10 @@ module _ (s u : List ℕ) (ok : Checked s) (p : Position) (g : Sound s u p) wher
       (λ h.
       let w = other-find s (inBlock p) t h in
       ousted (w .1) (w .3) (met-at s u ok p g (w .2) l (inr c) (w .1) (w .3) (w .4) (w .5)) (w .5) (mined-block (w .1) (w .5)))
-      (λ h. waits (rw (mine-pool s p few (g .beyond), i, b, h)) (mine-mined s p few (g .beyond)) (not-owed s u p none t l i b)))
+      (λ h. waits (rw (mine-pool s p (wide s u ok p g) (g .beyond), i, b, h)) (mine-mined s p (wide s u ok p g) (g .beyond)) (not-owed s u p none t l i b)))
 
   lasts-mine : anyOwed s u p ≡ false → Lasts s u p (afterMine s p)
-  lasts-mine none = record { time = omega (arith, mine-mined s p few (g .beyond)); confirmed = mined-kept; pool = mined-fate none }
+  lasts-mine none = record { time = omega (arith, mine-mined s p (wide s u ok p g) (g .beyond)); confirmed = mined-kept; pool = mined-fate none }
 
   lasts-quiet : (q : Position) → Quiet p q → Lasts s u p q
   lasts-quiet q r =
@@ -77,6 +74,6 @@ module _ (s u : List ℕ) (ok : Checked s) (p : Position) (g : Sound s u p) wher
 
   pub lasts : (x : Step) → fieldsRight s u x ≡ true → stepRefusal s u p x ≡ 0 → Lasts s u p (effect s p x)
   lasts x f h =
-      either (lasting s u p few (g .beyond) x f h)
+      either (lasting s u p (wide s u ok p g) (g .beyond) x f h)
       (lasts-quiet (effect s p x))
       (λ y. rw (y .0) (lasts-mine (y .1)))

@@ -8,7 +8,7 @@ use lib.Dec.{eqb, leb}
 use borrow.Author.Tests.{eqb-true, eqb-false, not-true}
 use Rattle.laws.specs.Booleans.{either, and-parts, or-parts}
 use Rattle.laws.specs.Below.{allBelow, all-at}
-use Rattle.laws.specs.Cases.{zero-or-one}
+use Rattle.laws.specs.Bits.{zero-or-one}
 use Rattle.laws.specs.Mask.{bit}
 use Rattle.sheet.specs.Setup.{conduct}
 use Rattle.slots.specs.Destination.{alice, bob, contract, isParty}

@@ -9,7 +9,7 @@ use mathlib.Core.List.{List}
 use lib.Dec.{eqb}
 use borrow.Author.Tests.{eqb-true, ltb-true}
 use Rattle.laws.specs.Booleans.{split, either, and-parts, fails-by}
-use Rattle.laws.specs.Cases.{zero-or-one}
+use Rattle.laws.specs.Bits.{zero-or-one}
 use Rattle.sheet.specs.Field.{count, opening}
 use Rattle.sheet.proofs.Parties.{party-small}
 use Rattle.sheet.specs.Setup.{perDay}

@@ -8,7 +8,7 @@ use mathlib.Core.List.{List}
 use borrow.Author.Tests.{not-true}
 use Rattle.laws.specs.Booleans.{either, clash, and-parts, or-parts, fails-by}
 use Rattle.laws.specs.Below.{any-some}
-use Rattle.laws.specs.Cases.{zero-or-one}
+use Rattle.laws.specs.Bits.{zero-or-one}
 use Rattle.laws.specs.Mask.{bit}
 use Rattle.sheet.specs.Field.{parties, partyAt, count, startKeys}
 use Rattle.sheet.proofs.Parties.{party-at}

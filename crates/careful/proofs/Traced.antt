@@ -9,7 +9,7 @@ use mathlib.Core.List.{List}
 use lib.Dec.{eqb}
 use borrow.Author.Tests.{eqb-true, leb-false}
 use Rattle.laws.specs.Booleans.{either, clash, and-parts}
-use Rattle.laws.specs.Cases.{zero-or-one}
+use Rattle.laws.specs.Bits.{zero-or-one}
 use Rattle.laws.specs.Mask.{bit}
 use Rattle.sheet.specs.Field.{required}
 use Rattle.sheet.specs.Setup.{perDay, conduct}

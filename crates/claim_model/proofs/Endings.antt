@@ -10,7 +10,7 @@ use lib.Dec.{eqb, ltb}
 use borrow.Author.Tests.{eqb-true, eq-eqb, ltb-true, lt-ltb, not-true}
 use Rattle.laws.specs.Booleans.{split, either, clash, and-parts, or-parts, or-right, fails-by}
 use Rattle.laws.specs.Below.{anyBelow, any-found, any-some, any-none}
-use Rattle.laws.specs.Cases.{zero-or-one}
+use Rattle.laws.specs.Bits.{zero-or-one}
 use Rattle.laws.specs.Gather.{every}
 use Rattle.sheet.specs.Field.{count}
 use Rattle.sheet.specs.Checked.{Checked}

@@ -1,12 +1,11 @@
 -- An ending is final: what is confirmed stays so, for the same destination, and after a timeout secretBob stays with Bob.
 -- Assumes nothing.
-use Prim.Native.Nat.{ℕ, _≤_, _<_}
+use Prim.Native.Nat.{ℕ, _<_}
 use native.Mathlib.Omega.{arith}
 use mathlib.Core.Path.{_≡_}
 use mathlib.Core.Bool.{true, false, not, _&&_}
 use mathlib.Core.List.{List, [], _∷_}
 use lib.Dec.{eqb}
-use lib.ListN.{length}
 use borrow.Author.Tests.{not-true}
 use Rattle.laws.specs.Booleans.{split, either, clash, and-parts, or-parts, or-right, fails-by}
 use Rattle.sheet.specs.Field.{count}
@@ -46,12 +45,10 @@ use Rattle.claim_model.proofs.AnySheets.{has-block, chain-low}
 use Rattle.claim_model.proofs.Shared.{shared-shown}
 use Rattle.claim_model.proofs.Taking.{confirmed-at}
 use Rattle.claim_model.proofs.Watched.{Watched, watched-case}
+use Rattle.agreement.proofs.EachKind.{wide}
 
 -- ---- destinations stay
 module _ (s u : List ℕ) (ok : Checked s) (p : Position) (g : Sound s u p) where
-  few : count s ≤ length (p .slots)
-  few = omega (arith, g .sized, ok .sized .few)
-
   to-kept : (x : Step) → (t : ℕ) → t < count s → 0 < blockOf p t → confirmedTo (effect s p x) t ≡ confirmedTo p t
   unfolding effect
   to-kept (Share party k to) t l h = rw (share-confirmed s party k (destinationNumber to) p .to)
@@ -60,9 +57,9 @@ module _ (s u : List ℕ) (ok : Checked s) (p : Position) (g : Sound s u p) wher
   to-kept (HandToMiner party k to) t l h = rw (hand-confirmed k (destinationNumber to) p .to)
   to-kept (Include party k to) t l h = rw (include-confirmed k p .to)
   to-kept (Mine party k to) t l h =
-      rw (mine-to s p few (g .beyond))
+      rw (mine-to s p (wide s u ok p g) (g .beyond))
       (split (inBlock p t) (λ b. absurd (omega (arith, g .block .free t t l l b (conflict-self s t), h))) (λ b. rw b))
-  to-kept (Bump party k to) t l h = rw (bump-confirmed s p few (g .beyond) k .to)
+  to-kept (Bump party k to) t l h = rw (bump-confirmed s p (wide s u ok p g) (g .beyond) k .to)
 
 module _ (u : List ℕ) (c : conduct u ≡ 2) (su : SetupChecked (sheet u) u) (ok : Checked (sheet u)) (p : Position) (g : Sound (sheet u) u p) (j : Invariant u p)
     (x : Step) (f : fieldsRight (sheet u) u x ≡ true) (h : stepRefusal (sheet u) u p x ≡ 0) where

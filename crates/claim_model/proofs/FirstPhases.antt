@@ -10,8 +10,7 @@ use lib.Bits.{bitAnd}
 use borrow.Author.Tests.{eqb-true, eqb-false, ltb-true, not-true}
 use Rattle.laws.specs.Booleans.{split, either, clash, and-parts, or-parts, or-right, fails-by}
 use Rattle.laws.specs.Below.{anyBelow, any-some}
-use Rattle.laws.specs.Bits.{bit-and, bit-or}
-use Rattle.laws.specs.Cases.{zero-or-one}
+use Rattle.laws.specs.Bits.{bit-and, bit-or, zero-or-one}
 use Rattle.laws.specs.Failing.{passed}
 use Rattle.laws.specs.Gather.{every}
 use Rattle.laws.specs.Mask.{bit, without}

@@ -11,8 +11,8 @@ use lib.Bits.{bitAnd}
 use lib.ListN.{length}
 use borrow.Author.Tests.{eq-eqb, ne-eqb}
 use Rattle.laws.specs.Booleans.{split, either, clash, and-parts, or-right}
-use Rattle.laws.specs.Bits.{bit-or, bit-and}
-use Rattle.laws.specs.Cases.{zero-or-one, stored}
+use Rattle.laws.specs.Bits.{bit-or, bit-and, zero-or-one}
+use Rattle.laws.specs.Cases.{stored}
 use Rattle.laws.specs.Gather.{every}
 use Rattle.laws.specs.Mask.{bit, without}
 use Rattle.sheet.specs.Field.{required, secrets}

@@ -6,7 +6,7 @@ use mathlib.Core.Bool.{Bool, true, false, not, _&&_, _||_, Bool·beq}
 use mathlib.Core.Logic.{_⊎_}
 use mathlib.Core.List.{List}
 use lib.Dec.{eqb}
-use Rattle.laws.specs.Booleans.{and-parts, beq-same}
+use Rattle.laws.specs.Booleans.{and-parts, beq-same, implied}
 use Rattle.laws.specs.Below.{allBelow, anyBelow, all-at}
 use Rattle.laws.specs.Mask.{bit}
 use Rattle.laws.specs.Sets.{joined}
@@ -25,7 +25,7 @@ use Rattle.agreement.proofs.Sound.{Sound}
 use Rattle.careful.proofs.Setting.{sheet}
 use Rattle.careful.proofs.Table.{fifteen, two}
 use Rattle.claim_model.specs.Words.{remains, noneRemains}
-use Rattle.claim_model.proofs.States.{fits, allStates, implied, confirmed-pass}
+use Rattle.claim_model.proofs.States.{fits, allStates, confirmed-pass}
 
 -- neither confirmed nor dead
 unfoldable rest : List ℕ → (ℕ → Bool) → ℕ → Bool

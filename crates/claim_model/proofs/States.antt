@@ -8,7 +8,7 @@ use mathlib.Core.Bool.{Bool, true, false, not, _&&_, _||_}
 use mathlib.Core.List.{List}
 use lib.Dec.{ltb}
 use borrow.Author.Tests.{ltb-true, ltb-false, lt-ltb}
-use Rattle.laws.specs.Booleans.{split, clash, and-parts, fails-by}
+use Rattle.laws.specs.Booleans.{split, clash, and-parts, fails-by, implied}
 use Rattle.laws.specs.Below.{any-all-false}
 use Rattle.laws.specs.Bits.{bit-above}
 use Rattle.laws.specs.Mask.{bit}
@@ -37,9 +37,6 @@ pub record Chain (s : List ℕ) (c : ℕ → Bool) : Type 0 where
   pub parents : (t : ℕ) → t < count s → c t ≡ true → opening s t ≡ false → c (parent s t) ≡ true
   pub alone : (t k : ℕ) → t < count s → k < count s → c t ≡ true → c k ≡ true → conflict s k t ≡ true → k ≡ t
   pub beyond : (t : ℕ) → count s ≤ t → c t ≡ false
-
-pub implied : (a b : Bool) → (not a || b) ≡ true → a ≡ true → b ≡ true
-implied a b h e = rw e at h
 
 module _ (s : List ℕ) (ok : Checked s) (c : ℕ → Bool) (w : Chain s c) where
   few : (n : ℕ) → n ≤ count s → n ≤ 32

@@ -10,7 +10,7 @@ use lib.Dec.{eqb}
 use borrow.Author.Tests.{eqb-true, lt-ltb, le-leb}
 use Rattle.laws.specs.Booleans.{clash, and-parts, or-right, fails-by}
 use Rattle.laws.specs.Below.{any-all-false}
-use Rattle.laws.specs.Cases.{zero-or-one}
+use Rattle.laws.specs.Bits.{zero-or-one}
 use Rattle.laws.specs.Failing.{firstFailing}
 use Rattle.laws.specs.Mask.{bit}
 use Rattle.sheet.specs.Field.{count, required}

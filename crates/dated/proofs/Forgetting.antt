@@ -16,6 +16,7 @@ use Rattle.position.proofs.StepCases.{refused-same}
 use Rattle.dated.specs.declared.Dated.{Dated}
 use Rattle.dated.specs.Dated.{AfterStep, unseen, datedStart, datedStep, datedRunFrom, datedRun, forgotten}
 use Rattle.dated.proofs.Stepping.{step-taken, step-refused, run-next, run-stops}
+use Rattle.position.proofs.RowSteps as row
 
 -- the number and the position of a step
 module _ (s u : List ℕ) (d : Dated) (b : FourBytes) where
@@ -32,15 +33,6 @@ module _ (s u : List ℕ) (d : Dated) (b : FourBytes) where
       (λ y. ap (λ (r : AfterStep). r .dated .position) (step-refused s u d b y) ∙ sym (refused-same s u (d .position) b y))
 
 module _ (s u : List ℕ) where
-  -- the model's row of steps, by its first
-  model-next : (b : FourBytes) (bs : List FourBytes) (c : ℕ) (p : Position) → eqb (step s u p b .refusal) accepted ≡ true → runFrom s u (b ∷ bs) c p ≡ runFrom s u bs (c + 1) (step s u p b .position)
-  unfolding runFrom
-  model-next b bs c p h = rw (h, runFrom)
-
-  model-stops : (b : FourBytes) (bs : List FourBytes) (c : ℕ) (p : Position) → eqb (step s u p b .refusal) accepted ≡ false → runFrom s u (b ∷ bs) c p ≡ record { refusal = step s u p b .refusal; accepted = c; position = p }
-  unfolding runFrom
-  model-stops b bs c p h = rw (h, runFrom)
-
   pub forgotten-from : (bs : List FourBytes) (c : ℕ) (d : Dated) → forgotten (datedRunFrom s u bs c d) ≡ runFrom s u bs c (d .position)
   unfolding forgotten datedRunFrom runFrom
   forgotten-from [] c d = refl
@@ -51,12 +43,12 @@ module _ (s u : List ℕ) where
       ap forgotten (run-next s u b bs c d n)
       ∙ forgotten-from bs (c + 1) (datedStep s u d b .dated)
       ∙ ap (λ (q : Position). runFrom s u bs (c + 1) q) (step-position s u d b)
-      ∙ sym (model-next b bs c (d .position) y))
+      ∙ sym (row.run-next s u b bs c (d .position) y))
       (λ y.
       let n : eqb (datedStep s u d b .refusal) accepted ≡ false = ap (λ x. eqb x accepted) (step-number s u d b) ∙ y in
       ap forgotten (run-stops s u b bs c d n)
       ∙ ap (λ (x : ℕ). record { refusal = x; accepted = c; position = d .position }) (step-number s u d b)
-      ∙ sym (model-stops b bs c (d .position) y))
+      ∙ sym (row.run-stops s u b bs c (d .position) y))
 
 -- a call by its number
 module _ (s u j : List ℕ) where

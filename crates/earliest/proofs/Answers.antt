@@ -3,14 +3,14 @@
 use Prim.Native.Nat.{ℕ, _*_, _^_, _≤_, _<_}
 use native.Mathlib.Omega.{arith}
 use mathlib.Core.Path.{_≡_, refl, sym, _∙_}
-use mathlib.Core.Bool.{Bool, true, not, _&&_}
+use mathlib.Core.Bool.{true, not, _&&_}
 use mathlib.Core.List.{List, _++_}
 use lib.Dec.{eqb, ltb, lit<}
 use lib.ListN.{length}
-use borrow.Author.Tests.{eq-eqb, ne-eqb, eqb-true, eqb-false, not-true}
+use borrow.Author.Tests.{eq-eqb, ne-eqb, eqb-true, not-true}
 use Rattle.laws.specs.Booleans.{split, and-parts}
 use Rattle.laws.specs.Below.{allBelow, all-at}
-use Rattle.laws.specs.Failing.{firstFailing, answer-below, passed, passed-append, failed-append}
+use Rattle.laws.specs.Failing.{firstFailing, answer-below, passed, passed-append, failed-append, front-passes}
 use Rattle.laws.specs.Over.{over}
 use Rattle.laws.specs.Sum.{bitsBelow, bits-bound}
 use Rattle.sheet.specs.Field.{count}
@@ -64,10 +64,6 @@ module _ (s u : List ℕ) (mask : ℕ) (dests : List ℕ) where
     pub setup : setupRefusal s u ≡ 0
     pub right : endingRight s mask dests ≡ true
     pub possible : isPossible s (perDay u) mask ≡ true
-
-  front-passes : (a b : List (ℕ × Bool)) → firstFailing (a ++ b) ≡ 0 → firstFailing a ≡ 0
-  front-passes a b h =
-      split (eqb (firstFailing a) 0) (λ e. eqb-true (firstFailing a) 0 e) (λ e. sym (failed-append a b (eqb-false (firstFailing a) 0 e)) ∙ h)
 
   pub unrefused : (r : ℕ) → r ≡ earliestRefusal s u mask dests → r ≡ 0 → Passes
   unfolding earliestRefusal sheetRefusal setupRefusal endingTests

@@ -1,14 +1,13 @@
 -- Why an ending is impossible.
 -- Assumes nothing.
-use Prim.Native.Nat.{ℕ, zero, suc, _<_}
-use native.Mathlib.Omega.{arith}
+use Prim.Native.Nat.{ℕ, _<_}
 use mathlib.Core.Path.{_≡_}
-use mathlib.Core.Bool.{Bool, true, false, not, _&&_, and-true, true≢false}
+use mathlib.Core.Bool.{false, not, _&&_}
 use mathlib.Core.List.{List}
 use lib.Dec.{eqb, leb}
 use borrow.Author.Tests.{eqb-true, eqb-false, leb-false, not-false}
 use Rattle.laws.specs.Booleans.{split, and-parts, or-neither}
-use Rattle.laws.specs.Below.{allBelow}
+use Rattle.laws.specs.Below.{allBelow, all-fails}
 use Rattle.laws.specs.Mask.{bit}
 use Rattle.sheet.specs.Field.{count}
 use Rattle.ledger.specs.Coin.{coinOf}
@@ -17,15 +16,6 @@ use Rattle.endings.specs.Earliest.{earliest}
 use Rattle.endings.specs.Plan.{planned}
 use Rattle.endings.specs.Ending.{coinsApart, inTime, isPossible}
 use Rattle.earliestclaims.specs.Claim.{Cause, one-coin, too-late}
-
--- what does not hold of every number fails at one
-pub all-fails : (n : ℕ) (p : ℕ → Bool) → allBelow n p ≡ false → (k : ℕ) × (k < n) × (p k ≡ false)
-unfolding allBelow
-all-fails zero p e = let z : true ≡ false = e in absurd (true≢false z)
-all-fails (suc n) p e =
-    split (p n)
-    (λ y. let w = all-fails n p (rw (y, and-true (allBelow n p)) at e) in (w .0, omega (arith, w .1), w .2))
-    (λ y. (n, omega arith, y))
 
 module _ (s : List ℕ) (perDay mask : ℕ) where
   not-apart : (x y : ℕ) → x < count s → y < count s → coinsApart s mask x y ≡ false → Cause s perDay mask

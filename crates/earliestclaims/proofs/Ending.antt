@@ -8,7 +8,7 @@ use mathlib.Core.List.{List}
 use lib.Dec.{eqb, ltb, leb}
 use lib.ListN.{length}
 use borrow.Author.Tests.{eqb-true, eqb-false, eq-eqb, leb-true, le-leb, ltb-true, ltb-false, not-true}
-use Rattle.laws.specs.Booleans.{split, clash, and-parts}
+use Rattle.laws.specs.Booleans.{split, and-parts, implied}
 use Rattle.laws.specs.Below.{allBelow, all-at, all-from}
 use Rattle.laws.specs.Mask.{bit}
 use Rattle.laws.specs.Sum.{bitsBelow}
@@ -21,11 +21,6 @@ use Rattle.endings.specs.Earliest.{earliest}
 use Rattle.endings.specs.Plan.{planned}
 use Rattle.earliestclaims.proofs.Possible.{Possible}
 use Rattle.endings.specs.Ending.{destinationOf, payingNamed, endingRight, coinsApart, inTime, isPossible}
-
--- a test under a condition
-pub implied : (a b : Bool) → (not a || b) ≡ true → a ≡ true → b ≡ true
-implied true b h e = h
-implied false b h e = clash e refl
 
 pub implies : (a b : Bool) → (a ≡ true → b ≡ true) → (not a || b) ≡ true
 implies true b h = h refl

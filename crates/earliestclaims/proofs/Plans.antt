@@ -30,7 +30,8 @@ use Rattle.endings.specs.Earliest.{earliest}
 use Rattle.endings.specs.Plan.{planned, planEntry, planAt, plan}
 use Rattle.earliestclaims.proofs.Possible.{Possible}
 use Rattle.earliestclaims.proofs.Lowest.{opening-lock, earliest-opening, earliest-spend, from-above, from-lock}
-use Rattle.blockclaims.proofs.Places.{place-member, member-place, rising-places, before-number, before-block, before-once, place-before}
+use Rattle.blockclaims.proofs.Places.{place-member, member-place, rising-places, before-block, before-once, place-before}
+use Rattle.ledger.proofs.Rising.{before-number}
 
 module _ (s : List ℕ) (ok : Checked s) where
   -- all of one line are of one coin

@@ -3,10 +3,10 @@
 use Prim.Native.Nat.{ℕ, zero, suc, _+_}
 use mathlib.Core.Path.{_≡_, refl, sym, ap, fun-ext, _∙_}
 use mathlib.Core.Bool.{Bool, true, false}
-use mathlib.Core.List.{List, [], _∷_, _++_, flatMap, append-assoc}
+use mathlib.Core.List.{List, [], _∷_, _++_, flatMap}
 use lib.Dec.{eqb}
 use Rattle.laws.specs.Booleans.{pick, split}
-use Rattle.laws.specs.Gather.{gather}
+use Rattle.laws.specs.Gather.{gather, flat-append}
 use Rattle.sheet.specs.Refusal.{accepted}
 use Rattle.slots.specs.declared.Step.{Step}
 use Rattle.slots.specs.declared.Step.the-variants.{Share, Give, SendToPool, HandToMiner, Include, Mine, Bump}
@@ -25,13 +25,8 @@ use Rattle.handins.proofs.Rows.{read-early}
 
 -- two lists whose elements give the same, end to end
 module _ {A B : Type 0} (f : A → List B) where
-  flat-append : (l m : List A) → flatMap f (l ++ m) ≡ flatMap f l ++ flatMap f m
-  unfolding flatMap
-  flat-append [] m = refl
-  flat-append (x ∷ l) m = rw (flat-append l m, append-assoc)
-
   append-same : (l l′ m m′ : List A) → flatMap f l ≡ flatMap f l′ → flatMap f m ≡ flatMap f m′ → flatMap f (l ++ m) ≡ flatMap f (l′ ++ m′)
-  append-same l l′ m m′ e h = flat-append l m ∙ rw (e, h) (sym (flat-append l′ m′))
+  append-same l l′ m m′ e h = flat-append f l m ∙ rw (e, h) (sym (flat-append f l′ m′))
 
   gather-same : (g h : ℕ → List A) → ((k : ℕ) → flatMap f (g k) ≡ flatMap f (h k)) → (n : ℕ) → flatMap f (gather n g) ≡ flatMap f (gather n h)
   unfolding gather

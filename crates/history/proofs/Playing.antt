@@ -17,6 +17,7 @@ use Rattle.position.specs.Play.{FourBytes, journalSteps, step, play, acceptedOf
 use Rattle.history.specs.declared.play.Played.{Played}
 use Rattle.history.specs.Forms.Steps.{taken, playedOne}
 use Rattle.runs.proofs.Groups.{groupsFrom, groups-all, groups-next, groups-none}
+use Rattle.position.proofs.RowSteps.{play-next}
 
 pub taken-length : (n : ℕ) (b : FourBytes) → length (taken n b) ≡ pick (eqb n 0) 1 0
 unfolding taken
@@ -27,10 +28,6 @@ pub one-at-most : (n m : ℕ) → m ≡ pick (eqb n 0) 1 0 → m ≤ 1
 one-at-most n m e = rw e (split (eqb n 0) (λ h. rw h (omega arith)) (λ h. rw h (omega arith)))
 
 module _ (s u : List ℕ) where
-  play-next : (b : FourBytes) (bs : List FourBytes) (p : Position) → play s u (b ∷ bs) p ≡ play s u bs (step s u p b .position)
-  unfolding play
-  play-next b bs p = refl
-
   play-none : (p : Position) → play s u [] p ≡ p
   unfolding play
   play-none p = refl
@@ -63,7 +60,7 @@ module _ (s u : List ℕ) where
     -- a turn, where r is what the code got from group k
     play-turn : (k : ℕ) (p : Position) (r : Stepped) → 4 * k + 4 ≤ length j → r ≡ step s u p (stepAt j (4 * k))
         → play s u (groupsFrom j k) p ≡ play s u (groupsFrom j (k + 1)) (r .position)
-    play-turn k p r h e = rw (groups-next j k h, e) (play-next (stepAt j (4 * k)) (groupsFrom j (k + 1)) p)
+    play-turn k p r h e = rw (groups-next j k h, e) (play-next s u (stepAt j (4 * k)) (groupsFrom j (k + 1)) p)
 
     pub accepted-turn : (k : ℕ) (p : Position) (r : Stepped) → 4 * k + 4 ≤ length j → r ≡ step s u p (stepAt j (4 * k))
         → acceptedOf s u (groupsFrom j k) p ≡ taken (r .refusal) (stepAt j (4 * k)) ++ acceptedOf s u (groupsFrom j (k + 1)) (r .position)

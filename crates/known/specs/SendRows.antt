@@ -26,7 +26,8 @@ use Rattle.position.specs.Position.{start}
 use Rattle.position.specs.StepRefusal.{stepRefusal}
 use Rattle.position.specs.Play.{FourBytes, journalSteps, decodeBytes, takeStep, takeDecoded, step, runFrom, callTests, run}
 use Rattle.position.proofs.Opened.{opened}
-use Rattle.runs.proofs.Runs.{run-next, run-stops, run-ends, row-append, run-allowed}
+use Rattle.runs.proofs.Runs.{row-append, run-allowed}
+use Rattle.position.proofs.RowSteps.{run-next, run-stops, run-ends}
 use Rattle.known.specs.Case.{sendGets, swapSheet, passes, sendPlace, getsThere, holds}
 use Rattle.known.specs.Known.{setup3, careful30, mine, successAt2, revokeAt5, unsharedAt5, rows, known}
 use Rattle.known.specs.Heights.{refund1Height, revokeHeight}

@@ -5,30 +5,21 @@ use mathlib.Core.Path.{_≡_, refl, ap, fun-ext}
 use mathlib.Core.Bool.{Bool, false, not, _&&_, _||_, and-false}
 use mathlib.Core.List.{List}
 use lib.Dec.{eqb, ltb}
-use lib.ListN.{getD, replicate}
 use Rattle.laws.specs.Below.{anyBelow}
 use Rattle.laws.specs.Climb.{climb-still}
 use Rattle.sheet.specs.Field.{count, parent}
 use Rattle.slots.specs.declared.Slot.{Slot}
-use Rattle.slots.specs.Slot.{emptySlot, standing}
+use Rattle.slots.specs.Slot.{standing}
 use Rattle.slots.specs.Conflict.{conflict, conflictIn, otherConflictIn}
 use Rattle.slots.specs.Ancestry.{inAncestry, meetsOther}
 use Rattle.slots.specs.Invalidated.{invalidated}
-use Rattle.position.specs.Position.{start, slot, inPool, inBlock, blockOf, isConfirmed}
+use Rattle.position.specs.Position.{start, inPool, inBlock, blockOf, isConfirmed}
 use Rattle.position.specs.Report.{status}
-
-all-empty : (n t : ℕ) → getD (replicate n emptySlot) t emptySlot ≡ emptySlot
-all-empty zero t = refl
-all-empty (suc n) zero = refl
-all-empty (suc n) (suc t) = all-empty n t
-
-slot-empty : (s : List ℕ) (t : ℕ) → slot (start s) t ≡ emptySlot
-unfolding slot start
-slot-empty s t = all-empty 32 t
+use Rattle.position.proofs.Starts.{start-slot}
 
 none-confirmed : (s : List ℕ) → isConfirmed (start s) ≡ (λ k. false)
 unfolding isConfirmed blockOf
-none-confirmed s = fun-ext (λ k. ap (λ (x : Slot). ltb 0 (x .height)) (slot-empty s k))
+none-confirmed s = fun-ext (λ k. ap (λ (x : Slot). ltb 0 (x .height)) (start-slot s k))
 
 none-below : (n : ℕ) (p : ℕ → Bool) → ((k : ℕ) → p k ≡ false) → anyBelow n p ≡ false
 unfolding anyBelow
@@ -47,4 +38,4 @@ none-invalidated s t = climb-still (parent s) (λ k above. otherConflictIn s (λ
 -- P8, for every sheet
 pub start-status : (s : List ℕ) (t : ℕ) → status s (start s) t ≡ 0
 unfolding status inPool inBlock standing
-start-status s t = rw (slot-empty, none-confirmed, none-invalidated)
+start-status s t = rw (start-slot, none-confirmed, none-invalidated)

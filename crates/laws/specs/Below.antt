@@ -127,3 +127,12 @@ pub any-same : (n : ℕ) (p q : ℕ → Bool) → ((k : ℕ) → k < n → p k �
 unfolding anyBelow
 any-same zero p q f = refl
 any-same (suc n) p q f = rw (any-same n p q (λ k h. f k (omega arith)), f n (omega arith))
+
+-- what does not hold of every number below n fails of one
+pub all-fails : (n : ℕ) (p : ℕ → Bool) → allBelow n p ≡ false → (k : ℕ) × (k < n) × (p k ≡ false)
+unfolding allBelow
+all-fails zero p e = clash {b = true} refl e
+all-fails (suc n) p e =
+    split (allBelow n p)
+    (λ y. (n, omega arith, rw y at e))
+    (λ y. let w = all-fails n p y in (w .0, omega (arith, w .1), w .2))

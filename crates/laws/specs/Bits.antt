@@ -13,22 +13,23 @@ use Rattle.laws.specs.Booleans.{either, clash, or-parts}
 use Rattle.laws.specs.Below.{all-at, all-from, all-first, all-upto, all-same}
 use Rattle.laws.specs.Mask.{bit, subset, unionBelow}
 
-pub digit : (n : ℕ) → n < 2 → (n ≡ 0) ⊎ (n ≡ 1)
-digit zero h = inl refl
-digit (suc zero) h = inr refl
-digit (suc (suc n)) h = absurd (omega arith)
+-- a number below two
+pub zero-or-one : (n : ℕ) → n < 2 → (n ≡ 0) ⊎ (n ≡ 1)
+zero-or-one zero h = inl refl
+zero-or-one (suc zero) h = inr refl
+zero-or-one (suc (suc n)) h = absurd (omega arith)
 
 or-digit : (a b : ℕ) → a < 2 → b < 2 → eqb (bitOr a b) 1 ≡ (eqb a 1 || eqb b 1)
 or-digit a b h k =
-    either (digit a h)
-    (λ e. either (digit b k) (λ f. rw (e, f)) (λ f. rw (e, f)))
-    (λ e. either (digit b k) (λ f. rw (e, f)) (λ f. rw (e, f)))
+    either (zero-or-one a h)
+    (λ e. either (zero-or-one b k) (λ f. rw (e, f)) (λ f. rw (e, f)))
+    (λ e. either (zero-or-one b k) (λ f. rw (e, f)) (λ f. rw (e, f)))
 
 and-digit : (a b : ℕ) → a < 2 → b < 2 → eqb (bitAnd a b) 1 ≡ (eqb a 1 && eqb b 1)
 and-digit a b h k =
-    either (digit a h)
-    (λ e. either (digit b k) (λ f. rw (f, e)) (λ f. rw (f, e)))
-    (λ e. either (digit b k) (λ f. rw (f, e)) (λ f. rw (f, e)))
+    either (zero-or-one a h)
+    (λ e. either (zero-or-one b k) (λ f. rw (f, e)) (λ f. rw (f, e)))
+    (λ e. either (zero-or-one b k) (λ f. rw (f, e)) (λ f. rw (f, e)))
 
 pub bit-or : (a b i : ℕ) → bit (bitOr a b) i ≡ (bit a i || bit b i)
 unfolding bit

@@ -57,3 +57,7 @@ or-neither false b h = (refl, h)
 pub fails-by : (b : Bool) → (b ≡ true → ⊥) → b ≡ false
 fails-by true h = absurd (h refl)
 fails-by false h = refl
+
+-- a test under a condition
+pub implied : (a b : Bool) → (not a || b) ≡ true → a ≡ true → b ≡ true
+implied a b h e = rw e at h

@@ -1,7 +1,6 @@
 -- The cases of a small number and of a two-way choice, and where an element of a changed list comes from.
 -- Assumes nothing.
-use Prim.Native.Nat.{ℕ, zero, suc, _<_}
-use native.Mathlib.Omega.{arith}
+use Prim.Native.Nat.{ℕ, _<_}
 use mathlib.Core.Path.{_≡_, refl}
 use mathlib.Core.Logic.{_⊎_, inl, inr}
 use mathlib.Core.Bool.{Bool, true, false}
@@ -12,12 +11,6 @@ use lib.Seq.{getD-set-same, getD-set-other, set-out}
 use borrow.Author.Tests.{eqb-true, eqb-false, ltb-true, ltb-false}
 use Rattle.laws.specs.Booleans.{pick, split}
 use Rattle.laws.specs.Each.{rewriteFirst, length-rewriteFirst, rewritten, not-rewritten}
-
--- a number below two
-pub zero-or-one : (n : ℕ) → n < 2 → (n ≡ 0) ⊎ (n ≡ 1)
-zero-or-one zero h = inl refl
-zero-or-one (suc zero) h = inr refl
-zero-or-one (suc (suc n)) h = absurd (omega arith)
 
 pub picked : {A : Type 0} (b : Bool) {x y w : A} → w ≡ pick b x y → ((b ≡ true) × (w ≡ x)) ⊎ ((b ≡ false) × (w ≡ y))
 picked true q = inl (refl, q)

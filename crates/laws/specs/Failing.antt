@@ -5,7 +5,7 @@ use mathlib.Core.Path.{_≡_, refl, sym, ap, _∙_}
 use mathlib.Core.Bool.{Bool, true, false, not, _&&_}
 use mathlib.Core.List.{List, [], _∷_, _++_}
 use lib.Dec.{eqb, ltb}
-use borrow.Author.Tests.{ltb-true, not-true, not-false}
+use borrow.Author.Tests.{eqb-true, eqb-false, ltb-true, not-true, not-false}
 use Rattle.laws.specs.Booleans.{pick, split, clash, and-parts}
 
 -- the number of the first test that fails, 0 where none does
@@ -84,3 +84,10 @@ pub failed-append : (a b : List (ℕ × Bool)) → (firstFailing a ≡ 0 → ⊥
 unfolding firstFailing
 failed-append [] b h = absurd (h refl)
 failed-append (x ∷ xs) b h = split (x .1) (λ e. rw e (failed-append xs b (λ z. h (rw e z)))) (λ e. rw e)
+
+-- a list whose answer is 0 has a front whose answer is 0
+pub front-passes : (a b : List (ℕ × Bool)) → firstFailing (a ++ b) ≡ 0 → firstFailing a ≡ 0
+front-passes a b h =
+    split (eqb (firstFailing a) 0)
+    (λ e. eqb-true (firstFailing a) 0 e)
+    (λ e. sym (failed-append a b (eqb-false (firstFailing a) 0 e)) ∙ h)

@@ -4,7 +4,7 @@ use Prim.Native.Nat.{ℕ, zero, suc, _+_, _*_, _≤_, _<_}
 use native.Mathlib.Omega.{arith}
 use mathlib.Core.Path.{_≡_, refl, sym, _∙_}
 use mathlib.Core.Bool.{Bool, true, _&&_}
-use mathlib.Core.List.{List, [], _∷_, _++_, flatMap}
+use mathlib.Core.List.{List, [], _∷_, _++_, flatMap, append-assoc}
 use lib.ListN.{length, getD, length-append, List·getD-append}
 use lib.Seq.{getD-append-add}
 use native.Mathlib.Numerals.{add-one}
@@ -84,3 +84,9 @@ module _ {A : Type 0} (f : ℕ → List A) (w : ℕ) (wide : (k : ℕ) → lengt
       either (eq-or-lt-of-le (le-of-suc-le-suc h))
       (λ e. rw (e, ← length-gather n) (getD-append-add (gather n f) (f n) j d))
       (λ m. List·getD-append (gather n f) (f n) d (w * t + j) (rw (length-gather n) (in-front n t j m l)) ∙ gather-at n t j d m l)
+
+-- what the elements of two lists give, end to end
+pub flat-append : {A B : Type 0} (f : A → List B) (l m : List A) → flatMap f (l ++ m) ≡ flatMap f l ++ flatMap f m
+unfolding flatMap
+flat-append f [] m = refl
+flat-append f (x ∷ l) m = rw (flat-append f l m, append-assoc)

@@ -2,14 +2,15 @@
 -- Assumes nothing.
 use Prim.Native.Nat.{ℕ, zero, suc, _+_, _/_, _%_, _^_, _≤_, _<_}
 use native.Mathlib.Omega.{arith}
-use native.Mathlib.Numerals.{add-one, one-add}
+use native.Mathlib.Numerals.{add-one}
 use native.Mathlib.Nat.{div-one, lt-of-lt-of-le}
 use mathlib.Core.Path.{_≡_, refl, sym, ap, ap₂, _∙_}
 use lib.Count.{ones, onesIn, ones-step}
 use lib.Dec.{eqb}
-use lib.Pow.{pow-mono, shr-shr, shr-lt, field, mod-mod-pow}
+use lib.Pow.{pow-mono, shr-lt, field, mod-mod-pow}
 use Rattle.laws.specs.Booleans.{pick}
 use Rattle.laws.specs.Mask.{bit}
+use Rattle.laws.specs.Bits.{bit-half}
 use Rattle.laws.specs.Sum.{sumBelow, bitsBelow, sum-same, sum-front}
 
 digit : (x : ℕ) → x < 2 → pick (eqb x 1) 1 0 ≡ x
@@ -22,16 +23,12 @@ lowest : (m : ℕ) → pick (bit m 0) 1 0 ≡ m % 2
 unfolding bit
 lowest m = digit (m / 1 % 2) (omega arith) ∙ ap (λ x. x % 2) (div-one m)
 
-half-bit : (m i : ℕ) → bit m (suc i) ≡ bit (m / 2) i
-unfolding bit
-half-bit m i = ap (λ x. eqb (x % 2) 1) (ap (λ k. m / 2 ^ k) (sym (one-add i)) ∙ sym (shr-shr m 1 i))
-
 half : (n m : ℕ) → bitsBelow (suc n) m ≡ m % 2 + bitsBelow n (m / 2)
 unfolding bitsBelow
 half n m =
     sum-front n (λ i. pick (bit m i) 1 0)
     ∙ ap₂ (λ (x y : ℕ). x + y) (lowest m)
-    (sum-same n (λ i. pick (bit m (suc i)) 1 0) (λ i. pick (bit (m / 2) i) 1 0) (λ i h. ap (λ b. pick b 1 0) (half-bit m i)))
+    (sum-same n (λ i. pick (bit m (suc i)) 1 0) (λ i. pick (bit (m / 2) i) 1 0) (λ i h. ap (λ b. pick b 1 0) (bit-half m i)))
 
 -- a mask of n bits
 pub ones-bits : (n m : ℕ) → m < 2 ^ n → ones m ≡ bitsBelow n m

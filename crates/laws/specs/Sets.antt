@@ -13,7 +13,7 @@ use borrow.Author.Tests.{eq-eqb, ne-eqb}
 use Rattle.laws.specs.Booleans.{pick, split, clash, either, and-parts, beq-same}
 use Rattle.laws.specs.Below.{allBelow, anyBelow, all-at, any-some, any-none}
 use Rattle.laws.specs.Mask.{bit}
-use Rattle.laws.specs.Bits.{digit, bit-or, bit-and, no-bit, bit-half}
+use Rattle.laws.specs.Bits.{zero-or-one, bit-or, bit-and, no-bit, bit-half}
 
 -- the set with t too, where the test holds
 unfoldable pub joined : ℕ → Bool → ℕ → ℕ
@@ -53,7 +53,7 @@ ones : ℕ → ℕ
 ones zero = 0
 ones (suc n) = 2 * ones n + 1
 
-bit-first : (m : ℕ) → bit m 0 ≡ eqb (m % 2) 1
+pub bit-first : (m : ℕ) → bit m 0 ≡ eqb (m % 2) 1
 unfolding bit
 bit-first m = rw (div-one m)
 
@@ -62,7 +62,7 @@ unfolding ones
 left-bit zero m k h l = absurd (not-suc-le-zero l)
 left-bit (suc n) m zero h l =
     rw (bit-first (2 * ones n + 1 - m), bit-first m)
-    (either (digit (m % 2) (omega arith))
+    (either (zero-or-one (m % 2) (omega arith))
     (λ e. let f : (2 * ones n + 1 - m) % 2 ≡ 1 = omega arith in rw (e, f))
     (λ e. let f : (2 * ones n + 1 - m) % 2 ≡ 0 = omega arith in rw (e, f)))
 left-bit (suc n) m (suc k) h l =
@@ -104,9 +104,9 @@ set-small m (suc n) p l = joined-small m (setBelow n p) n (p n) (set-small m n p
 -- two words of n bits with the same bits
 digit-same : (a b : ℕ) → a < 2 → b < 2 → eqb a 1 ≡ eqb b 1 → a ≡ b
 digit-same a b h k e =
-    either (digit a h)
-    (λ x. either (digit b k) (λ y. x ∙ sym y) (λ y. clash {b = true} refl (rw (x, y) at (sym e))))
-    (λ x. either (digit b k) (λ y. clash {b = true} refl (rw (x, y) at e)) (λ y. x ∙ sym y))
+    either (zero-or-one a h)
+    (λ x. either (zero-or-one b k) (λ y. x ∙ sym y) (λ y. clash {b = true} refl (rw (x, y) at (sym e))))
+    (λ x. either (zero-or-one b k) (λ y. clash {b = true} refl (rw (x, y) at e)) (λ y. x ∙ sym y))
 
 word-same : (n a b : ℕ) → a < 2 ^ n → b < 2 ^ n → ((k : ℕ) → k < n → bit a k ≡ bit b k) → a ≡ b
 word-same zero a b h k f = omega arith

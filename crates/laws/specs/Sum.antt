@@ -63,7 +63,7 @@ unfolding sumBelow
 sum-times zero w f = sym (mul-zero w)
 sum-times (suc n) w f = rw (sum-times n w f) (sym (mul-add w (sumBelow n f) (f n)))
 
-sum-zero : (n : ℕ) → sumBelow n (λ k. 0) ≡ 0
+pub sum-zero : (n : ℕ) → sumBelow n (λ k. 0) ≡ 0
 unfolding sumBelow
 sum-zero zero = refl
 sum-zero (suc n) = rw (sum-zero n)

@@ -10,15 +10,15 @@ use lib.Bits.{bitOr, or-step, or-shr, or-mod, or-comm, or-self}
 use lib.Dec.{eqb}
 use borrow.Author.Tests.{ne-eqb}
 use Rattle.laws.specs.Booleans.{either, clash}
-use Rattle.laws.specs.Bits.{digit}
+use Rattle.laws.specs.Bits.{zero-or-one}
 use Rattle.laws.specs.Mask.{unionBelow}
 use Rattle.laws.specs.Sets.{joined, setBelow, set-same}
 
 or-digits : (x y z : ℕ) → x < 2 → y < 2 → z < 2 → max (bitOr x y) z ≡ max x (bitOr y z)
 or-digits x y z h k l =
-    either (digit x h)
-    (λ e. either (digit y k) (λ f. either (digit z l) (λ g. rw (e, f, g)) (λ g. rw (e, f, g))) (λ f. either (digit z l) (λ g. rw (e, f, g)) (λ g. rw (e, f, g))))
-    (λ e. either (digit y k) (λ f. either (digit z l) (λ g. rw (e, f, g)) (λ g. rw (e, f, g))) (λ f. either (digit z l) (λ g. rw (e, f, g)) (λ g. rw (e, f, g))))
+    either (zero-or-one x h)
+    (λ e. either (zero-or-one y k) (λ f. either (zero-or-one z l) (λ g. rw (e, f, g)) (λ g. rw (e, f, g))) (λ f. either (zero-or-one z l) (λ g. rw (e, f, g)) (λ g. rw (e, f, g))))
+    (λ e. either (zero-or-one y k) (λ f. either (zero-or-one z l) (λ g. rw (e, f, g)) (λ g. rw (e, f, g))) (λ f. either (zero-or-one z l) (λ g. rw (e, f, g)) (λ g. rw (e, f, g))))
 
 or-both : (n b c : ℕ) → bitOr (bitOr (n / 2) (b / 2)) (c / 2) ≡ bitOr (n / 2) (bitOr (b / 2) (c / 2)) → bitOr (bitOr n b) c ≡ bitOr n (bitOr b c)
 or-both n b c ih =

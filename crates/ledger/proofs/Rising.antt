@@ -8,19 +8,27 @@ use mathlib.Core.List.{List, [], _∷_}
 use mathlib.Core.Option.{some}
 use lib.Dec.{eqb, ltb}
 use lib.ListN.{getElem?}
-use borrow.Author.Tests.{eqb-true, ltb-true}
-use Rattle.laws.specs.Booleans.{either, and-parts, or-parts}
+use borrow.Author.Tests.{eqb-true, eq-eqb, ltb-true, ltb-false, lt-ltb}
+use Rattle.laws.specs.Booleans.{split, either, and-parts, or-parts}
 use Rattle.laws.specs.All.{All, empty, also, all-weaken, none-some, some-same, all-place}
 use Rattle.ledger.specs.Entry.{Entry, before, inOrder}
 
-before-block : (a b : Entry) → before a b ≡ true → a .block ≤ b .block
+-- an entry before another is in no later block, and one of a lower number in no later block is before it
+pub before-le : (a b : Entry) → before a b ≡ true → a .block ≤ b .block
 unfolding before
-before-block a b h =
+before-le a b h =
     either (or-parts (ltb (a .block) (b .block)) (eqb (a .block) (b .block) && ltb (a .transaction) (b .transaction)) h)
     (λ y. omega (arith, ltb-true (a .block) (b .block) y))
     (λ y.
     let e = eqb-true (a .block) (b .block) (and-parts (eqb (a .block) (b .block)) (ltb (a .transaction) (b .transaction)) y .0) in
     omega arith)
+
+pub before-number : (a b : Entry) → a .block ≤ b .block → a .transaction < b .transaction → before a b ≡ true
+unfolding before
+before-number a b h k =
+    split (ltb (a .block) (b .block))
+    (λ y. rw y)
+    (λ y. rw (y, eq-eqb (a .block) (b .block) (omega (arith, ltb-false (a .block) (b .block) y)), lt-ltb (a .transaction) (b .transaction) k))
 
 order-rest : (a : Entry) (l : List Entry) → inOrder (a ∷ l) ≡ true → inOrder l ≡ true
 unfolding inOrder
@@ -32,7 +40,7 @@ unfolding inOrder
 above-first a [] h = empty
 above-first a (b ∷ l) h =
     let w = and-parts (before a b) (inOrder (b ∷ l)) h in
-    let m = before-block a b (w .0) in
+    let m = before-le a b (w .0) in
     also m (all-weaken (λ e n. omega arith) (above-first b l (w .1)))
 
 pub blocks-rise : (l : List Entry) → inOrder l ≡ true → (i j : ℕ) (e f : Entry) → i < j → getElem? l i ≡ some e → getElem? l j ≡ some f → e .block ≤ f .block

@@ -20,6 +20,7 @@ use Rattle.position.specs.Position.{start}
 use Rattle.position.specs.Effect.{effect}
 use Rattle.position.specs.Play.{FourBytes, journalSteps, journalBytes, step, runFrom, journalRight, callTests, run, play, acceptedOf}
 use Rattle.position.proofs.StepCases.{StepCase, taken, turned-down, step-case}
+use Rattle.position.proofs.RowSteps.{run-next, play-next}
 
 -- a journal's bytes are its steps
 pub journal-steps : (l : List FourBytes) → journalSteps (journalBytes l) ≡ l
@@ -33,13 +34,8 @@ journal-length [] = refl
 journal-length (b ∷ l) = omega (arith, journal-length l)
 
 module _ (s u : List ℕ) where
-  -- the first step of a row, and of a list's accepted ones
-  run-next : (b : FourBytes) (bs : List FourBytes) (c : ℕ) (p : Position) → eqb (step s u p b .refusal) accepted ≡ true → runFrom s u (b ∷ bs) c p ≡ runFrom s u bs (c + 1) (step s u p b .position)
-  unfolding runFrom
-  run-next b bs c p h = rw (h, runFrom)
-
   run-taken : (b : FourBytes) (bs : List FourBytes) (c : ℕ) (p q : Position) → step s u p b ≡ record { refusal = accepted; position = q } → runFrom s u (b ∷ bs) c p ≡ runFrom s u bs (c + 1) q
-  run-taken b bs c p q e = run-next b bs c p (rw e) ∙ rw e
+  run-taken b bs c p q e = run-next s u b bs c p (rw e) ∙ rw e
 
   accepted-taken : (b : FourBytes) (bs : List FourBytes) (p q : Position) → step s u p b ≡ record { refusal = accepted; position = q } → acceptedOf s u (b ∷ bs) p ≡ b ∷ acceptedOf s u bs q
   unfolding acceptedOf
@@ -49,10 +45,6 @@ module _ (s u : List ℕ) where
   unfolding acceptedOf
   accepted-refused b bs p n m e = rw (e, m)
 
-  pub play-next : (b : FourBytes) (bs : List FourBytes) (p : Position) → play s u (b ∷ bs) p ≡ play s u bs (step s u p b .position)
-  unfolding play
-  play-next b bs p = refl
-
   -- all steps taken, after c others
   abbrev pub allTaken : List FourBytes → ℕ → Position → Ran
   allTaken bs c p = record { refusal = accepted; accepted = c + length (acceptedOf s u bs p); position = play s u bs p }
@@ -60,13 +52,13 @@ module _ (s u : List ℕ) where
   first-run : (b : FourBytes) (bs : List FourBytes) → ((c : ℕ) (p : Position) → runFrom s u (acceptedOf s u bs p) c p ≡ allTaken bs c p)
       → (c : ℕ) (p : Position) → StepCase s u p b → runFrom s u (acceptedOf s u (b ∷ bs) p) c p ≡ allTaken (b ∷ bs) c p
   first-run b bs rest c p (taken x d f r e) =
-      rw (accepted-taken b bs p (effect s p x) e, run-taken b (acceptedOf s u bs (effect s p x)) c p (effect s p x) e, rest (c + 1) (effect s p x), play-next b bs p, e)
+      rw (accepted-taken b bs p (effect s p x) e, run-taken b (acceptedOf s u bs (effect s p x)) c p (effect s p x) e, rest (c + 1) (effect s p x), play-next s u b bs p, e)
       (counted (play s u bs (effect s p x)) (omega arith))
     where
       counted : {m n : ℕ} (q : Position) → m ≡ n → _≡_ {A = Ran} (record { refusal = accepted; accepted = m; position = q }) (record { refusal = accepted; accepted = n; position = q })
       counted q h = rw h
   first-run b bs rest c p (turned-down n m e) =
-      rw (accepted-refused b bs p n m e, rest c p, play-next b bs p, e)
+      rw (accepted-refused b bs p n m e, rest c p, play-next s u b bs p, e)
 
   pub accepted-run : (bs : List FourBytes) (c : ℕ) (p : Position) → runFrom s u (acceptedOf s u bs p) c p ≡ allTaken bs c p
   unfolding runFrom acceptedOf play

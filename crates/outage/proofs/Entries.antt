@@ -19,13 +19,14 @@ use Rattle.position.specs.Effect.{effect}
 use Rattle.position.specs.Play.{FourBytes, confirms, confirmedEntries, play}
 use Rattle.position.proofs.StepCases.{StepCase, taken, turned-down, step-case}
 use Rattle.moves.proofs.AfterBlocks.{mine-mined}
-use Rattle.moves.proofs.Journals.{play-next}
+use Rattle.position.proofs.RowSteps.{play-next}
 use Rattle.agreement.specs.Claim.{entriesOf, positionOf}
 use Rattle.agreement.proofs.Sound.{Sound}
 use Rattle.agreement.proofs.SoundSteps.{sound-start, sound-step}
 use Rattle.agreement.proofs.Confirming.{StepConfirms, nothing, the-block, step-confirms, entries-taken, entries-refused}
 use Rattle.agreement.proofs.Order.{order-append, block-in, entries-after}
-use Rattle.outage.proofs.Play.{few, later-play}
+use Rattle.outage.proofs.Play.{later-play}
+use Rattle.agreement.proofs.EachKind.{wide}
 
 module _ (s u : List ℕ) (h : sheetRefusal s ≡ 0) (k : setupRefusal s u ≡ 0) where
   abbrev Rest : List FourBytes → Type 0
@@ -35,7 +36,7 @@ module _ (s u : List ℕ) (h : sheetRefusal s ≡ 0) (k : setupRefusal s u ≡ 0
       → All (λ e. e .block ≤ play s u bs (effect s p x) .mined) (confirms s p (Read x) ++ confirmedEntries s u bs (effect s p x))
   step-then bs rest p g x q (nothing e c) = rw e (rest (effect s p x) q)
   step-then bs rest p g x q (the-block e a) =
-      let m = ap (λ (r : Position). r .mined) a ∙ mine-mined s p (few s u (sheet-checked s h) p g) (g .beyond) in
+      let m = ap (λ (r : Position). r .mined) a ∙ mine-mined s p (wide s u (sheet-checked s h) p g) (g .beyond) in
       let t = later-play s u h k bs (effect s p x) q .time in
       rw e (all-append (all-weaken (λ y w. omega (arith, w .block)) (block-in s p)) (rest (effect s p x) q))
 

@@ -1,4 +1,3 @@
-pub mod Least
 pub mod Locks
 pub mod Chain
 pub mod Sandwich

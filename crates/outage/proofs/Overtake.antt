@@ -39,7 +39,8 @@ use Rattle.outage.proofs.Locks.{Form, fixed, hangs, form}
 use Rattle.outage.proofs.Entries.{order-behind}
 use Rattle.outage.proofs.Chain.{parent-some}
 use Rattle.outage.proofs.Sandwich.{Counts, above, rises, rival-spends, counts-other, soonest-counted}
-use Rattle.outage.proofs.Reach.{from-by, order-then, before-by, enter-on, Alive, Reach, reach-parent, parent-later, alive}
+use Rattle.outage.proofs.Reach.{from-by, order-then, enter-on, Alive, Reach, reach-parent, parent-later, alive}
+use Rattle.ledger.proofs.Rising.{before-number}
 
 module _ {s : List ℕ} (ok : Checked s) (d : ℕ) (block to : ℕ → ℕ) (mined : ℕ) (kept : Kept) (lk : Linked s block to kept) (t : ℕ) (l : t < count s) where
   abbrev e : ℕ
@@ -99,7 +100,7 @@ module _ {s : List ℕ} (ok : Checked s) (d : ℕ) (block to : ℕ → ℕ) (min
         let p = parent-lower ok (v .k) (v .low) spends-too in
         let q = same in
         let f = v .fits in
-        order-then entry (all-weaken (λ x w. before-by x entry (omega (arith, w .1)) (omega (arith, w .2))) (v .front .each)) (v .front .order)
+        order-then entry (all-weaken (λ x w. before-number x entry (omega (arith, w .1)) (omega (arith, w .2))) (v .front .each)) (v .front .order)
 
     pub later-blocks : All (λ x. mined < x .block) (v .front .list ++ (entry ∷ []))
     later-blocks = all-append (all-weaken (λ x w. w .0) (v .front .each)) (also (omega (arith, v .next)) empty)

@@ -1,13 +1,11 @@
 -- Every list of steps leads to a later chain.
 -- Assumes nothing.
-use Prim.Native.Nat.{ℕ, _≤_}
+use Prim.Native.Nat.{ℕ}
 use native.Mathlib.Omega.{arith}
 use mathlib.Core.Path.{_≡_, refl, sym, _∙_}
 use mathlib.Core.Logic.{inl, inr}
 use mathlib.Core.List.{List, [], _∷_}
-use lib.ListN.{length}
 use Rattle.laws.specs.Booleans.{split, either}
-use Rattle.sheet.specs.Field.{count}
 use Rattle.sheet.specs.Check.{sheetRefusal}
 use Rattle.sheet.specs.Setup.{setupRefusal}
 use Rattle.sheet.specs.Checked.{Checked}
@@ -23,6 +21,7 @@ use Rattle.moves.proofs.Quiet.{Quiet, lasting}
 use Rattle.agreement.proofs.Sound.{Sound}
 use Rattle.agreement.proofs.SoundSteps.{sound-step}
 use Rattle.outage.proofs.Chain.{Later}
+use Rattle.agreement.proofs.EachKind.{wide}
 
 -- q's chain is no earlier than p's
 abbrev pub LaterIn : List ℕ → Position → Position → Type 0
@@ -44,18 +43,15 @@ later-then s p q r a b =
     }
 
 module _ (s u : List ℕ) (ok : Checked s) (p : Position) (g : Sound s u p) where
-  pub few : count s ≤ length (p .slots)
-  few = omega (arith, g .sized, ok .sized .few)
-
   later-quiet : (q : Position) → Quiet p q → LaterIn s p q
   later-quiet q r = record { time = omega (arith, r .mined); blocks = λ t l. inl (r .heights t) }
 
   later-mine : LaterIn s p (afterMine s p)
   later-mine =
       record {
-        time = omega (arith, mine-mined s p few (g .beyond));
+        time = omega (arith, mine-mined s p (wide s u ok p g) (g .beyond));
         blocks = λ t l.
-            rw (mine-blocks s p few (g .beyond))
+            rw (mine-blocks s p (wide s u ok p g) (g .beyond))
             (split (inBlock p t)
             (λ b. rw b (inr (g .block .free t t l l b (conflict-self s t), omega arith)))
             (λ b. rw b (inl refl)));
@@ -64,7 +60,7 @@ module _ (s u : List ℕ) (ok : Checked s) (p : Position) (g : Sound s u p) wher
   later-case : (b : FourBytes) → StepCase s u p b → LaterIn s p (step s u p b .position)
   later-case b (taken x d f r e) =
       rw e
-      (either (lasting s u p few (g .beyond) x f r)
+      (either (lasting s u p (wide s u ok p g) (g .beyond) x f r)
       (later-quiet (effect s p x))
       (λ y. rw (y .0) later-mine))
   later-case b (turned-down n m e) = rw e (later-same s p)

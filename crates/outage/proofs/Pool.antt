@@ -7,7 +7,6 @@ use mathlib.Core.Logic.{_⊎_, inl, inr}
 use mathlib.Core.Bool.{true, false, not, false≢true}
 use mathlib.Core.List.{List, [], _∷_}
 use lib.Dec.{eqb, ltb}
-use lib.ListN.{length}
 use borrow.Author.Tests.{eqb-true, eqb-false, ltb-true, ltb-false, lt-ltb, not-true}
 use Rattle.laws.specs.Booleans.{split, either, clash, and-parts, or-parts, or-neither}
 use Rattle.sheet.specs.Field.{count, parent, opening}
@@ -47,7 +46,8 @@ use Rattle.outage.specs.Claim.{Fate, waits, done, ousted}
 use Rattle.soonest.specs.Soonest.{lockAt}
 use Rattle.outage.proofs.Locks.{lock-is, lock-after, lock-reached}
 use Rattle.outage.proofs.Sandwich.{deadline-le, deadline-from, rival-lock}
-use Rattle.outage.proofs.Play.{LaterIn, few, later-step, later-play}
+use Rattle.outage.proofs.Play.{LaterIn, later-step, later-play}
+use Rattle.agreement.proofs.EachKind.{wide}
 
 -- every pool entry is before its deadline
 abbrev pub Early : List ℕ → List ℕ → Position → Type 0
@@ -98,9 +98,6 @@ module _ (s u : List ℕ) (ok : Checked s) (p q : Position) (later : LaterIn s p
       either (later .blocks k lk) (λ z. rw z h) (λ z. absurd (omega (arith, z .0)))
 
 module _ (s u : List ℕ) (ok : Checked s) (p : Position) (g : Sound s u p) where
-  abbrev wide : count s ≤ length (p .slots)
-  wide = few s u ok p g
-
   -- an entry after a step was there before, or was sent before its deadline
   came : (x : Step) → fieldsRight s u x ≡ true → stepRefusal s u p x ≡ 0 → (t : ℕ) → inPool (effect s p x) t ≡ true
       → (inPool p t ≡ true) ⊎ (p .mined < deadlineIn s u p t)
@@ -115,8 +112,8 @@ module _ (s u : List ℕ) (ok : Checked s) (p : Position) (g : Sound s u p) wher
       inl
   came (HandToMiner party k to) f r t h = inl (rw (hand-pool k (destinationNumber to) p .there) at h)
   came (Include party k to) f r t h = inl (rw (include-pool k p .there) at h)
-  came (Mine party k to) f r t h = inl (and-parts (inPool p t) (not (leavesPool s (inBlock p) t)) (rw (mine-pool s p wide (g .beyond)) at h) .0)
-  came (Bump party k to) f r t h = inl (rw (bump-pool s p wide (g .beyond) k .there) at h)
+  came (Mine party k to) f r t h = inl (and-parts (inPool p t) (not (leavesPool s (inBlock p) t)) (rw (mine-pool s p (wide s u ok p g) (g .beyond)) at h) .0)
+  came (Bump party k to) f r t h = inl (rw (bump-pool s p (wide s u ok p g) (g .beyond) k .there) at h)
 
   abbrev mined : Position
   mined = afterMine s p
@@ -125,8 +122,8 @@ module _ (s u : List ℕ) (ok : Checked s) (p : Position) (g : Sound s u p) wher
   first-block : (k : ℕ) → blockOf p k ≡ 0 → p .mined < blockOf mined k → blockOf mined k ≡ p .mined + 1
   first-block k z h =
       split (inBlock p k)
-      (λ b. rw (mine-blocks s p wide (g .beyond), b))
-      (λ b. let y : p .mined < blockOf p k = rw (mine-blocks s p wide (g .beyond), b) at h in absurd (omega arith))
+      (λ b. rw (mine-blocks s p (wide s u ok p g) (g .beyond), b))
+      (λ b. let y : p .mined < blockOf p k = rw (mine-blocks s p (wide s u ok p g) (g .beyond), b) at h in absurd (omega arith))
 
   staying : (t : ℕ) → leavesPool s (inBlock p) t ≡ false → (inBlock p t ≡ false) × (meetsOther s (inBlock p) t ≡ false)
   unfolding leavesPool
@@ -154,10 +151,10 @@ module _ (s u : List ℕ) (ok : Checked s) (p : Position) (g : Sound s u p) wher
 
     early-mine : 0 < perDay u → LaterIn s p mined → anyOwed s u p ≡ false → Early s u mined
     early-mine day later none t l i =
-        let w = and-parts (inPool p t) (not (leavesPool s (inBlock p) t)) (rw (mine-pool s p wide (g .beyond)) at i) in
+        let w = and-parts (inPool p t) (not (leavesPool s (inBlock p) t)) (rw (mine-pool s p (wide s u ok p g) (g .beyond)) at i) in
         let out = staying t (not-true (leavesPool s (inBlock p) t) (w .1)) .0 in
         let e = early t l (w .0) in
-        let m = mine-mined s p wide (g .beyond) in
+        let m = mine-mined s p (wide s u ok p g) (g .beyond) in
         let next : p .mined + 1 < deadlineIn s u p t =
         split (eqb (p .mined + 1) (deadlineIn s u p t))
         (λ y. absurd (not-owed s u p none t l (w .0) out (eqb-true (p .mined + 1) (deadlineIn s u p t) y)))
@@ -192,7 +189,7 @@ module _ (s u : List ℕ) (ok : Checked s) (p : Position) (g : Sound s u p) wher
 
     mined-now : (k : ℕ) → inBlock p k ≡ true → isConfirmed mined k ≡ true
     unfolding isConfirmed
-    mined-now k b = lt-ltb 0 (blockOf mined k) (rw (mine-blocks s p wide (g .beyond), b) (omega arith))
+    mined-now k b = lt-ltb 0 (blockOf mined k) (rw (mine-blocks s p (wide s u ok p g) (g .beyond), b) (omega arith))
 
     fate-mine : LaterIn s p mined → Early s u mined → (t : ℕ) → t < count s → inPool p t ≡ true → Stands s p t → Fate s u mined t
     unfolding leavesPool
@@ -206,7 +203,7 @@ module _ (s u : List ℕ) (ok : Checked s) (p : Position) (g : Sound s u p) wher
         let c = met-at s u ok p g (w .2) l at (w .1) (w .3) (w .4) (w .5) in
         ousted (w .1) (w .3) c (mined-now (w .1) (w .5)) (no-later-on s u ok p mined later t l at (w .1) c (ousted-by t l i (w .1) (w .3) c (w .5))))
         (λ h.
-        let j : inPool mined t ≡ true = rw (mine-pool s p wide (g .beyond), i, b, h) in
+        let j : inPool mined t ≡ true = rw (mine-pool s p (wide s u ok p g) (g .beyond), i, b, h) in
         waits j (after t l j)))
 
     abbrev Next : Position → Type 0
@@ -215,7 +212,7 @@ module _ (s u : List ℕ) (ok : Checked s) (p : Position) (g : Sound s u p) wher
     next-case : 0 < perDay u → (b : FourBytes) → LaterIn s p (step s u p b .position) → StepCase s u p b → Next (step s u p b .position)
     next-case day b later (taken x d f r e) =
         rw e
-        (either (lasting s u p wide (g .beyond) x f r)
+        (either (lasting s u p (wide s u ok p g) (g .beyond) x f r)
         (λ y.
         let a = early-quiet x f r y in
         (a, λ t l i at. let j = y .pool t i in waits j (a t l j)))

@@ -43,6 +43,7 @@ use Rattle.outages.specs.Verdict.{soonestBlockIn}
 use Rattle.soonest.proofs.Bounds.{greater-left, greater-right}
 use Rattle.outage.proofs.Entries.{order-behind}
 use Rattle.outage.proofs.Chain.{soonest-there, soonest-open, parent-soonest, parent-some, opening-none}
+use Rattle.ledger.proofs.Rising.{before-number}
 
 -- the ledger's lock is the lock height
 pub from-by : (s : List ℕ) (d e t : ℕ) → (opening s t ≡ false → 0 < e) → LockPair s t → lockFrom s d e t ≡ lockAt s d e t
@@ -61,13 +62,6 @@ order-then x (also a empty) h = rw a
 order-then x (also {x = y} a (also {x = z} {l = l} b r)) h =
     let w = and-parts (before y z) (inOrder (z ∷ l)) h in
     rw (w .0) (order-then x (also b r) (w .1))
-
-pub before-by : (a b : Entry) → a .block ≤ b .block → a .transaction < b .transaction → before a b ≡ true
-unfolding before
-before-by a b h k =
-    split (ltb (a .block) (b .block))
-    (λ y. rw y)
-    (λ y. rw (y, eq-eqb (a .block) (b .block) (omega (arith, ltb-false (a .block) (b .block) y)), lt-ltb (a .transaction) (b .transaction) k))
 
 -- a list behind one that the ledger took
 pub enter-on : (s : List ℕ) (d : ℕ) (a b : List Entry) (kept after : Kept) → enter s d a kept ≡ record { accepts = true; kept = after } → enter s d (a ++ b) kept ≡ enter s d b after
@@ -113,7 +107,7 @@ module _ {s : List ℕ} (ok : Checked s) (d : ℕ) (block to : ℕ → ℕ) (min
           stands = keep-own s entry after (coinOf s t) (eq-eqb (coinOf s t) (coinOf s t) refl);
           names = refl;
           when = refl;
-          order = order-then entry (all-weaken (λ e w. before-by e entry (omega (arith, w .1)) (w .2)) each) order;
+          order = order-then entry (all-weaken (λ e w. before-number e entry (omega (arith, w .1)) (w .2)) each) order;
           each =
               all-append
               (all-weaken (λ e w. (w .0, omega (arith, w .1), omega (arith, w .2))) each)

@@ -22,8 +22,8 @@ use Rattle.position.specs.Position.{start}
 use Rattle.position.specs.Play.{FourBytes, journalSteps, step, runFrom, callTests, run, play}
 use Rattle.position.specs.Answers.{Written, passOn}
 use Rattle.position.proofs.Passing.{passed-on, fitted-room, answer-run}
-use Rattle.moves.proofs.Journals.{play-next}
-use Rattle.runs.proofs.Runs.{run-next, run-stops, run-ends, run-allowed, run-checked}
+use Rattle.runs.proofs.Runs.{run-allowed, run-checked}
+use Rattle.position.proofs.RowSteps.{run-next, run-stops, run-ends, play-next}
 use Rattle.runs.proofs.Calls.{sheet-passes, setup-passes}
 use Rattle.outages.specs.Verdict.{verdict, outageRow, outageBytes}
 use Rattle.outages.specs.Answer.{outageAnswer}

@@ -20,7 +20,7 @@ use Rattle.slots.proofs.Parents.{parent-below}
 use Rattle.agreement.proofs.Sound.{Settled}
 use Rattle.soonest.specs.Soonest.{greater, lockAt, sinceLocked, mayRise, countsAt, soonestParent, soonestDeadline}
 use Rattle.soonest.proofs.Bounds.{greater-left, greater-le, greater-mono}
-use Rattle.outage.proofs.Least.{least-top, least-le, least-from, least-reached}
+use Rattle.laws.specs.Least.{least-top, least-le, least-from, least-reached}
 use Rattle.outage.proofs.Locks.{Form, fixed, hangs, form, lock-is}
 use Rattle.outage.proofs.Chain.{Later, lock-at-rises, parent-rises, parent-there, parent-some}
 

@@ -1,6 +1,7 @@
 pub mod Opened
 pub mod Decoding
 pub mod StepCases
+pub mod RowSteps
 pub mod Changed
 pub mod Views
 pub mod Starts

@@ -11,7 +11,7 @@ use lib.Dec.{eqb}
 use lib.ListN.{length, getD, replicate}
 use Rattle.laws.specs.Booleans.{split, either, clash, and-parts}
 use Rattle.laws.specs.Each.{rewritten}
-use Rattle.laws.specs.Gather.{gather, gather-empty, gather-same, length-flat}
+use Rattle.laws.specs.Gather.{gather, gather-empty, gather-same, length-flat, flat-append}
 use Rattle.laws.specs.Sets.{set-bit}
 use Rattle.sheet.specs.Refusal.{accepted}
 use Rattle.slots.specs.declared.Step.{Step}
@@ -43,15 +43,10 @@ gather-past f m (suc n) h e =
     (λ l. let low = le-of-suc-le-suc l in rw (gather-past f m n low e, e n low) (append-nil (gather m f)))
 
 module _ {A B : Type 0} (f : A → List B) where
-  pub flat-append : (a b : List A) → flatMap f (a ++ b) ≡ flatMap f a ++ flatMap f b
-  unfolding flatMap
-  flat-append [] b = refl
-  flat-append (x ∷ a) b = ap (λ r. f x ++ r) (flat-append a b) ∙ sym (append-assoc (f x) (flatMap f a) (flatMap f b))
-
   pub flat-gather : (n : ℕ) (g : ℕ → List A) → flatMap f (gather n g) ≡ gather n (λ k. flatMap f (g k))
   unfolding gather flatMap
   flat-gather zero g = refl
-  flat-gather (suc n) g = flat-append (gather n g) (g n) ∙ ap (λ r. r ++ flatMap f (g n)) (flat-gather n g)
+  flat-gather (suc n) g = flat-append f (gather n g) (g n) ∙ ap (λ r. r ++ flatMap f (g n)) (flat-gather n g)
 
 module _ (s u : List ℕ) (p : Position) where
   -- "4 bytes a step"

@@ -6,7 +6,7 @@ use mathlib.Core.Path.{_≡_, refl, sym, ap, _∙_}
 use mathlib.Core.Bool.{Bool, true, false, not, and-false}
 use mathlib.Core.List.{List, [], _∷_, _++_, map}
 use lib.Dec.{eqb}
-use lib.ListN.{length, getD, replicate}
+use lib.ListN.{length}
 use Rattle.laws.specs.Booleans.{pick, split}
 use Rattle.laws.specs.Failing.{firstFailing, passed-append}
 use Rattle.sheet.specs.Refusal.{accepted, journalLength}
@@ -14,11 +14,10 @@ use Rattle.sheet.specs.Field.{parties, isParty, startKeys}
 use Rattle.sheet.specs.Check.{arrayTests, sheetTests, sheetRefusal}
 use Rattle.sheet.specs.Setup.{conduct, partiesRight, conductRight, setupTests}
 use Rattle.slots.specs.Destination.{destinations}
-use Rattle.slots.specs.Slot.{emptySlot}
 use Rattle.slots.specs.Invalidated.{invalidated}
 use Rattle.position.specs.declared.Position.{Position}
 use Rattle.position.specs.declared.Ran.{Ran}
-use Rattle.position.specs.Position.{slotCount, startHeld, start, slot, keys, blockOf, isConfirmed, confirmedTo}
+use Rattle.position.specs.Position.{startHeld, start, keys, blockOf, isConfirmed, confirmedTo}
 use Rattle.position.specs.Play.{FourBytes, journalSteps, step, runFrom, journalRight, callTests, run}
 use Rattle.position.specs.Report.{status, payee, unconfirmed}
 use Rattle.rings.specs.Renaming.{Renaming, RenamedSheet, Renamed, renamedStep, renamedJournal, RunRenamed, RowRenamed}
@@ -29,16 +28,8 @@ use Rattle.rings.proofs.RenamedSlots.{none-renamed}
 use Rattle.rings.proofs.RenamedPositions.{pool-same, block-same, heights-same, confirmed-same}
 use Rattle.rings.proofs.RenamedRules as moved
 use Rattle.rings.proofs.RenamedSteps.{step-renamed}
-
--- the empty journal's position
-none-at : (n t : ℕ) → getD (replicate n emptySlot) t emptySlot ≡ emptySlot
-none-at zero t = refl
-none-at (suc n) zero = refl
-none-at (suc n) (suc t) = none-at n t
-
-none-yet : (s : List ℕ) (t : ℕ) → slot (start s) t ≡ emptySlot
-unfolding slot start
-none-yet s t = none-at slotCount t
+use Rattle.position.proofs.Starts.{start-slot}
+use Rattle.position.proofs.RowSteps.{run-next, run-stops}
 
 start-keys : (s : List ℕ) (a : ℕ) → a < destinations → keys (start s) a ≡ startKeys s a
 unfolding keys start startHeld startKeys isParty
@@ -84,18 +75,8 @@ module _ (u : List ℕ) (o : conduct u ≡ 0) where
   unfolding setupTests
   setup-same s w = rw (parties-right s, parties-right w, conduct-right s w)
 
--- a run goes on, or stops; it starts, or a check fails
+-- a run starts, or a check fails
 module _ (s u : List ℕ) where
-  goes-on : (b : FourBytes) (bs : List FourBytes) (n : ℕ) (p : Position) → eqb (step s u p b .refusal) accepted ≡ true
-      → runFrom s u (b ∷ bs) n p ≡ runFrom s u bs (n + 1) (step s u p b .position)
-  unfolding runFrom
-  goes-on b bs n p h = rw (h, runFrom)
-
-  stops : (b : FourBytes) (bs : List FourBytes) (n : ℕ) (p : Position) → eqb (step s u p b .refusal) accepted ≡ false
-      → runFrom s u (b ∷ bs) n p ≡ record { refusal = step s u p b .refusal; accepted = n; position = p }
-  unfolding runFrom
-  stops b bs n p h = rw (h, runFrom)
-
   starts-run : (j : List ℕ) → eqb (firstFailing (callTests s u j)) accepted ≡ true → run s u j ≡ runFrom s u (journalSteps j) 0 (start s)
   unfolding run
   starts-run j h = rw (h, run)
@@ -121,7 +102,7 @@ module _ (ρ : Renaming) (s w u : List ℕ) (c : RenamedSheet ρ s w) where
   pub start-renamed : Renamed ρ (start s) (start w)
   start-renamed =
       record {
-        slots-same = λ t. rw (none-yet s t, none-yet w t) (none-renamed ρ);
+        slots-same = λ t. rw (start-slot s t, start-slot w t) (none-renamed ρ);
         keys-same = λ a l. start-keys w (ρ .to a) (known ρ a l) ∙ c .starts a ∙ sym (start-keys s a l);
         mined-same = none-mined;
         places = as-long;
@@ -146,8 +127,8 @@ module _ (ρ : Renaming) (s w u : List ℕ) (c : RenamedSheet ρ s w) where
         let x = step-renamed ρ s w u c o p q r b in
         let e = ap (λ (k : ℕ). eqb k accepted) (x .refusal-same) in
         split (eqb (step s u p b .refusal) accepted)
-        (λ h. rw (goes-on s u b bs n p h, goes-on w u d ds n q (e ∙ h)) (from-renamed bs (n + 1) (step s u p b .position) (step w u q d .position) (x .after)))
-        (λ h. rw (stops s u b bs n p h, stops w u d ds n q (e ∙ h)) (x .refusal-same, refl, r))
+        (λ h. rw (run-next s u b bs n p h, run-next w u d ds n q (e ∙ h)) (from-renamed bs (n + 1) (step s u p b .position) (step w u q d .position) (x .after)))
+        (λ h. rw (run-stops s u b bs n p h, run-stops w u d ds n q (e ∙ h)) (x .refusal-same, refl, r))
 
     module _ (f : sheetRefusal s ≡ accepted) (g : sheetRefusal w ≡ accepted) (j : List ℕ) where
       call-same : firstFailing (callTests w u (renamedJournal ρ j)) ≡ firstFailing (callTests s u j)

@@ -25,7 +25,8 @@ use Rattle.position.specs.Play.{FourBytes, journalSteps, decodeBytes, takeStep,
 use Rattle.position.specs.Answers.{passOn}
 use Rattle.position.proofs.Passing.{passed-on, not-passed-on, fitted-bounds}
 use Rattle.runs.proofs.Calls.{journal-whole}
-use Rattle.runs.proofs.Runs.{run-next, run-stops, run-ends, run-allowed, run-refused}
+use Rattle.runs.proofs.Runs.{run-allowed, run-refused}
+use Rattle.position.proofs.RowSteps.{run-next, run-stops, run-ends}
 
 -- a journal has four bytes for each step
 pub steps-bytes : (j : List ℕ) → 4 * length (journalSteps j) ≤ length j

@@ -6,22 +6,15 @@ use mathlib.Core.Bool.{Bool, true, false, not}
 use mathlib.Core.List.{List, [], _∷_, _++_}
 use lib.Dec.{eqb, leb}
 use lib.ListN.{length}
-use borrow.Author.Tests.{eqb-true, eqb-false, leb-true}
-use Rattle.laws.specs.Booleans.{split, and-parts}
-use Rattle.laws.specs.Failing.{firstFailing, passed, passed-append, failed-append, fails, passes, none-left}
+use borrow.Author.Tests.{eqb-true, leb-true}
+use Rattle.laws.specs.Booleans.{and-parts}
+use Rattle.laws.specs.Failing.{firstFailing, passed, passed-append, failed-append, fails, passes, none-left, front-passes}
 use Rattle.sheet.specs.Refusal.{journalLength}
 use Rattle.sheet.specs.Check.{arrayTests, sheetTests, sheetRefusal}
 use Rattle.sheet.specs.Setup.{setupTests, setupRefusal}
 use Rattle.sheet.specs.Checked.{Fit}
 use Rattle.position.specs.Play.{journalRight, callTests}
 use Rattle.sheet.proofs.Theorems.{fit}
-
--- a list whose answer is 0 has a front whose answer is 0
-front-passes : (a b : List (ℕ × Bool)) → firstFailing (a ++ b) ≡ 0 → firstFailing a ≡ 0
-front-passes a b h =
-    split (eqb (firstFailing a) 0)
-    (λ e. eqb-true (firstFailing a) 0 e)
-    (λ e. sym (failed-append a b (eqb-false (firstFailing a) 0 e)) ∙ h)
 
 module _ (s u j : List ℕ) where
   abbrev journalTests : List (ℕ × Bool)

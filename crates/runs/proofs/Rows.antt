@@ -33,7 +33,7 @@ use Rattle.dated.proofs.Stepping as dated
 use Rattle.runs.specs.declared.row.RowRan.{RowRan}
 use Rattle.runs.specs.Forms.Row.{notedIf, stoppedAt, runRow}
 use Rattle.runs.proofs.Groups.{groupsFrom, groups-all, groups-next, groups-none}
-use Rattle.runs.proofs.Runs.{run-next, run-stops, run-ends}
+use Rattle.position.proofs.RowSteps.{run-next, run-stops, run-ends}
 
 module _ (asked : Bool) (s u : List ℕ) where
   -- a row by its first step

@@ -3,7 +3,6 @@
 use Prim.Native.Nat.{ℕ, _+_, _-_, _≤_}
 use native.Mathlib.Omega.{arith}
 use mathlib.Core.Path.{_≡_, refl, sym, ap, _∙_}
-use mathlib.Core.Bool.{true, false}
 use mathlib.Core.List.{List, [], _∷_, _++_}
 use lib.Dec.{eqb}
 use lib.ListN.{length, take, drop}
@@ -20,48 +19,36 @@ use Rattle.position.specs.Forms.Journal.{stepAt}
 use Rattle.position.proofs.StepCases.{refused-same}
 use Rattle.runs.proofs.Groups.{groups-all, groups-none, part-step}
 use Rattle.runs.proofs.Calls.{call-fit}
+use Rattle.position.proofs.RowSteps.{run-next, run-stops, run-ends}
 
--- a row of steps, by its first
 module _ (s u : List ℕ) where
-  pub run-next : (b : FourBytes) (bs : List FourBytes) (c : ℕ) (p : Position) → eqb (step s u p b .refusal) accepted ≡ true → runFrom s u (b ∷ bs) c p ≡ runFrom s u bs (c + 1) (step s u p b .position)
-  unfolding runFrom
-  run-next b bs c p h = rw (h, runFrom)
-
-  pub run-stops : (b : FourBytes) (bs : List FourBytes) (c : ℕ) (p : Position) → eqb (step s u p b .refusal) accepted ≡ false → runFrom s u (b ∷ bs) c p ≡ record { refusal = step s u p b .refusal; accepted = c; position = p }
-  unfolding runFrom
-  run-stops b bs c p h = rw (h, runFrom)
-
-  pub run-ends : (c : ℕ) (p : Position) → runFrom s u [] c p ≡ record { refusal = accepted; accepted = c; position = p }
-  unfolding runFrom
-  run-ends c p = refl
-
   -- a row that is accepted goes on with what follows it
   pub row-append : (bs cs : List FourBytes) (c : ℕ) (p : Position) → runFrom s u bs c p .refusal ≡ 0
       → runFrom s u (bs ++ cs) c p ≡ runFrom s u cs (runFrom s u bs c p .accepted) (runFrom s u bs c p .position)
-  row-append [] cs c p h = rw (run-ends c p)
+  row-append [] cs c p h = rw (run-ends s u c p)
   row-append (b ∷ bs) cs c p h =
       split (eqb (step s u p b .refusal) accepted)
       (λ e.
-      let n = run-next b bs c p e in
-      run-next b (bs ++ cs) c p e ∙ rw n (row-append bs cs (c + 1) (step s u p b .position) (rw n at h)))
-      (λ e. absurd (eqb-false (step s u p b .refusal) accepted e (rw (run-stops b bs c p e) at h)))
+      let n = run-next s u b bs c p e in
+      run-next s u b (bs ++ cs) c p e ∙ rw n (row-append bs cs (c + 1) (step s u p b .position) (rw n at h)))
+      (λ e. absurd (eqb-false (step s u p b .refusal) accepted e (rw (run-stops s u b bs c p e) at h)))
 
   -- all steps of a row are counted where none is refused
   pub row-counts : (bs : List FourBytes) (c : ℕ) (p : Position) → runFrom s u bs c p .refusal ≡ 0 → runFrom s u bs c p .accepted ≡ c + length bs
-  row-counts [] c p h = rw (run-ends c p) (omega arith)
+  row-counts [] c p h = rw (run-ends s u c p) (omega arith)
   row-counts (b ∷ bs) c p h =
       split (eqb (step s u p b .refusal) accepted)
       (λ e.
-      let n = run-next b bs c p e in
+      let n = run-next s u b bs c p e in
       rw n (omega (arith, row-counts bs (c + 1) (step s u p b .position) (rw n at h))))
-      (λ e. absurd (eqb-false (step s u p b .refusal) accepted e (rw (run-stops b bs c p e) at h)))
+      (λ e. absurd (eqb-false (step s u p b .refusal) accepted e (rw (run-stops s u b bs c p e) at h)))
 
   -- a row of one step
   pub one-step : (b : FourBytes) (p : Position) → record { refusal = runFrom s u (b ∷ []) 0 p .refusal; position = runFrom s u (b ∷ []) 0 p .position } ≡ step s u p b
   one-step b p =
       split (eqb (step s u p b .refusal) accepted)
-      (λ e. let z = eqb-true (step s u p b .refusal) accepted e in rw (run-next b [] 0 p e, run-ends 1 (step s u p b .position), ← z) refl)
-      (λ e. let z = refused-same s u p b e in rw (run-stops b [] 0 p e) (ap (λ (q : Position). record { refusal = step s u p b .refusal; position = q }) (sym z)))
+      (λ e. let z = eqb-true (step s u p b .refusal) accepted e in rw (run-next s u b [] 0 p e, run-ends s u 1 (step s u p b .position), ← z) refl)
+      (λ e. let z = refused-same s u p b e in rw (run-stops s u b [] 0 p e) (ap (λ (q : Position). record { refusal = step s u p b .refusal; position = q }) (sym z)))
 
 module _ (s u j : List ℕ) where
   -- the step that starts at place i, run as a journal of one step, where r is what the code found

@@ -10,7 +10,7 @@ use Rattle.laws.specs.Booleans.{split, either}
 use Rattle.position.specs.declared.Position.{Position}
 use Rattle.position.specs.Position.{start}
 use Rattle.position.specs.Play.{FourBytes, step, runFrom}
-use Rattle.runs.proofs.Runs.{run-ends}
+use Rattle.position.proofs.RowSteps.{run-ends}
 use Rattle.shrink.specs.Shrink.{stillRefused, canGo, roundFrom, round}
 use Rattle.shrink.specs.Forms.Round.{goesAt, keptStep, positionPast, roundAt}
 use Rattle.shrink.proofs.Rows.{row-longer, still-append, first-accepted}

@@ -11,7 +11,7 @@ use Rattle.laws.specs.Booleans.{split}
 use Rattle.sheet.specs.Refusal.{accepted}
 use Rattle.position.specs.declared.Position.{Position}
 use Rattle.position.specs.Play.{FourBytes, journalSteps, step, runFrom}
-use Rattle.runs.proofs.Runs.{run-next, run-stops, run-ends}
+use Rattle.position.proofs.RowSteps.{run-next, run-stops, run-ends}
 use Rattle.shrink.specs.Shrink.{stillRefused}
 use Rattle.shrink.proofs.Rows.{parts-still}
 

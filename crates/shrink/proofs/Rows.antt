@@ -13,7 +13,8 @@ use Rattle.laws.specs.Booleans.{split, and-parts}
 use Rattle.sheet.specs.Refusal.{accepted}
 use Rattle.position.specs.declared.Position.{Position}
 use Rattle.position.specs.Play.{FourBytes, journalSteps, journalBytes, step, runFrom}
-use Rattle.runs.proofs.Runs.{run-next, run-stops, run-ends, row-append, row-counts}
+use Rattle.runs.proofs.Runs.{row-append, row-counts}
+use Rattle.position.proofs.RowSteps.{run-next, run-stops, run-ends}
 use Rattle.shrink.specs.Shrink.{stillRefused}
 
 -- four bytes a step

@@ -14,7 +14,7 @@ use Rattle.position.specs.declared.Position.{Position}
 use Rattle.position.specs.Position.{start}
 use Rattle.position.specs.Play.{FourBytes, journalSteps, step, runFrom}
 use Rattle.position.specs.Forms.Journal.{stepAt}
-use Rattle.runs.proofs.Runs.{run-next, run-ends}
+use Rattle.position.proofs.RowSteps.{run-next, run-ends}
 use Rattle.runs.proofs.Groups.{groupsFrom, groups-all, groups-next}
 use Rattle.shrink.specs.Shrink.{stillRefused}
 use Rattle.shrink.specs.Forms.Round.{sameStep, goesAt, triedAt, positionPast}

@@ -1,8 +1,7 @@
 -- The zeros at the low end of a mask, and the next member of a set.
 -- Assumes nothing.
 use Prim.Native.Nat.{ℕ, zero, suc, _+_, _-_, _/_, _%_, _^_, _≤_, _<_}
-use native.Mathlib.Nat.{div-one, not-suc-le-zero, le-of-suc-le-suc}
-use native.Mathlib.Numerals.{one-add}
+use native.Mathlib.Nat.{not-suc-le-zero, le-of-suc-le-suc}
 use native.Mathlib.Omega.{arith}
 use mathlib.Core.Path.{_≡_, refl, sym, ap, _∙_}
 use mathlib.Core.Bool.{true, false}
@@ -12,24 +11,18 @@ use lib.Pow.{shr-shr}
 use borrow.Author.Tests.{eq-eqb}
 use Rattle.laws.specs.Mask.{bit}
 use Rattle.slots.specs.Forms.Next.{Next}
+use Rattle.laws.specs.Bits.{bit-half}
+use Rattle.laws.specs.Sets.{bit-first}
 
-lowest : (m : ℕ) → bit m 0 ≡ eqb (m % 2) 1
-unfolding bit
-lowest m = ap (λ x. eqb (x % 2) 1) (div-one m)
-
-half-bit : (m i : ℕ) → bit m (suc i) ≡ bit (m / 2) i
-unfolding bit
-half-bit m i = ap (λ x. eqb (x % 2) 1) (ap (λ k. m / 2 ^ k) (sym (one-add i)) ∙ sym (shr-shr m 1 i))
-
--- the bits of a mask without its lowest ones
+-- the bits of a mask without its bit-first ones
 shifted : (m a i : ℕ) → bit (m / 2 ^ a) i ≡ bit m (a + i)
 unfolding bit
 shifted m a i = ap (λ x. eqb (x % 2) 1) (shr-shr m a i)
 
 -- no bit is set below the zeros' number, and the bit there is, unless all are zeros
 below-digit : (d m r : ℕ) → m % 2 ≡ d → ((i : ℕ) → i < r → bit (m / 2) i ≡ false) → (i : ℕ) → i < under d r → bit m i ≡ false
-below-digit zero m r e h zero l = lowest m ∙ rw e
-below-digit zero m r e h (suc i) l = half-bit m i ∙ h i (le-of-suc-le-suc l)
+below-digit zero m r e h zero l = bit-first m ∙ rw e
+below-digit zero m r e h (suc i) l = bit-half m i ∙ h i (le-of-suc-le-suc l)
 below-digit (suc d) m r e h i l = absurd (not-suc-le-zero l)
 
 below-trailing : (k m i : ℕ) → i < trailingZeros k m → bit m i ≡ false
@@ -38,8 +31,8 @@ below-trailing zero m i l = absurd (not-suc-le-zero l)
 below-trailing (suc k) m i l = below-digit (m % 2) m (trailingZeros k (m / 2)) refl (below-trailing k (m / 2)) i l
 
 at-digit : (d k m r : ℕ) → m % 2 ≡ d → (r < k → bit (m / 2) r ≡ true) → under d r < suc k → bit m (under d r) ≡ true
-at-digit zero k m r e h l = half-bit m r ∙ h (le-of-suc-le-suc l)
-at-digit (suc d) k m r e h l = lowest m ∙ eq-eqb (m % 2) 1 (omega (arith, e))
+at-digit zero k m r e h l = bit-half m r ∙ h (le-of-suc-le-suc l)
+at-digit (suc d) k m r e h l = bit-first m ∙ eq-eqb (m % 2) 1 (omega (arith, e))
 
 at-trailing : (k m : ℕ) → trailingZeros k m < k → bit m (trailingZeros k m) ≡ true
 unfolding trailingZeros

@@ -1,15 +1,15 @@
 -- Where a limit is broken, the claim is false of a transaction that breaks it.
 -- Assumes nothing.
-use Prim.Native.Nat.{ℕ, zero, suc, _+_, _-_, _%_, _≤_, _<_}
+use Prim.Native.Nat.{ℕ, _+_, _-_, _%_, _≤_, _<_}
 use native.Mathlib.Nat.{mul-le-mul}
 use native.Mathlib.Omega.{arith}
 use mathlib.Core.Path.{_≡_, refl, sym, _∙_}
-use mathlib.Core.Bool.{Bool, true, false, true≢false}
+use mathlib.Core.Bool.{true, false, true≢false}
 use mathlib.Core.List.{List}
 use mathlib.Core.Logic.{_⊎_, inl, inr}
 use lib.Dec.{eqb, leb, lit<}
 use borrow.Author.Tests.{eqb-true, eqb-false, lt-leb, le-leb, leb-false, ltb-false}
-use Rattle.laws.specs.Below.{allBelow}
+use Rattle.laws.specs.Below.{allBelow, all-fails}
 use Rattle.laws.specs.Booleans.{split, either}
 use Rattle.laws.specs.Failing.{firstFailing}
 use Rattle.sheet.specs.Field.{count, lockType, days}
@@ -26,15 +26,6 @@ use Rattle.timelocks.specs.Claim.{fieldsOf, real, SameLock}
 use Rattle.timelocks.proofs.Answers.{by-sheet, by-setup, by-limits}
 use Rattle.timelocks.proofs.Admitted.{time-admitted, cut-admitted}
 use Rattle.timelocks.proofs.SameLocks.{fields-absolute, fields-since, height-absolute, height-since}
-
--- what does not hold of every number below n fails of one
-all-fails : (n : ℕ) (p : ℕ → Bool) → allBelow n p ≡ false → (k : ℕ) × (k < n) × (p k ≡ false)
-unfolding allBelow
-all-fails zero p e = absurd (true≢false e)
-all-fails (suc n) p e =
-    split (allBelow n p)
-    (λ y. (n, omega arith, rw y at e))
-    (λ y. let w = all-fails n p y in (w .0, omega (arith, w .1), w .2))
 
 -- 255 days of 1,000 blocks at most
 blocks-small : (s : List ℕ) (d t : ℕ) → days s t ≤ 255 → d ≤ 1000 → lockBlocks s d t ≤ 255000
