@@ -19,29 +19,8 @@ Inv-loop sheet setup view position n per-day counts₀ t₀ counts t = (t ≤ n)
 abbrev μ-loop : tie.MeasureT-loop
 μ-loop sheet setup view position n per-day counts₀ t₀ counts t = n - t
 
-count-requires : tie.Need-count-requires Inv-loop μ-loop
-count-requires c κs = search needs
-
-per-day-requires : tie.Need-per-day-requires Inv-loop μ-loop
-per-day-requires c κs = search needs
-
 loop-holds : tie.Need-loop-holds Inv-loop μ-loop
 loop-holds c = (search needs, rewrite-start _ _)
-
-mul-stays : tie.Need-mul-stays Inv-loop μ-loop
-mul-stays c = search needs
-
-array-read-stays : tie.Need-array-read-stays Inv-loop μ-loop
-array-read-stays c = search needs
-
-stays-requires : tie.Need-stays-requires Inv-loop μ-loop
-stays-requires c κs = search needs
-
-add-t : tie.Need-add-t Inv-loop μ-loop
-add-t c = search needs
-
-loop-less : tie.Need-loop-less Inv-loop μ-loop
-loop-less c = search needs
 
 loop-again : tie.Need-loop-again Inv-loop μ-loop
 loop-again c =
@@ -54,42 +33,12 @@ loop-again c =
     (c .before .stays .ensures) (c .if1 .taken) in
     (search needs, rewrite-past _ _ _ _ 0 (i .inv .1) e)
 
-mul-x : tie.Need-mul-x Inv-loop μ-loop
-mul-x c = search needs
-
-element-copy-out-x : tie.Need-element-copy-out-x Inv-loop μ-loop
-element-copy-out-x c = search needs
-
-slot-above-requires : tie.Need-slot-above-requires Inv-loop μ-loop
-slot-above-requires c κs = search needs
-
-mul-above : tie.Need-mul-above Inv-loop μ-loop
-mul-above c = search needs
-
-element-copy-out-above : tie.Need-element-copy-out-above Inv-loop μ-loop
-element-copy-out-above c = search needs
-
-block-above-requires : tie.Need-block-above-requires Inv-loop μ-loop
-block-above-requires c κs = search needs
-
 first-open-requires : tie.Need-first-open-requires Inv-loop μ-loop
 first-open-requires c κs =
     let k = c .before .before .before .before .before .before .before .before .before .before .before .before in
     let n = c .before .before .before .before .before .before .before .before .before .count in
     let w = may-open _ _ _ _ _ (c .before .before .before .before .before .stays .ensures) (c .before .before .before .before .if1 .left) in
     (k .pre .0 .checked, (omega (arith, c .before .before .before .before .before .before .loop-test .taken, n .ensures .is), w .1))
-
-mul-counts : tie.Need-mul-counts Inv-loop μ-loop
-mul-counts c = search needs
-
-array-write-counts : tie.Need-array-write-counts Inv-loop μ-loop
-array-write-counts c = search needs
-
-add-t-2 : tie.Need-add-t-2 Inv-loop μ-loop
-add-t-2 c = search needs
-
-loop-less-2 : tie.Need-loop-less-2 Inv-loop μ-loop
-loop-less-2 c = search needs
 
 loop-again-2 : tie.Need-loop-again-2 Inv-loop μ-loop
 unfolding sinceIn slot
@@ -115,25 +64,12 @@ noted-spec =
     (tie.spec
     Inv-loop
     μ-loop
-    count-requires
-    per-day-requires
+    (λ c κs. search needs) (λ c κs. search needs)
     loop-holds
-    mul-stays
-    array-read-stays
-    stays-requires
-    add-t
-    loop-less
+    (λ c. search needs) (λ c. search needs) (λ c κs. search needs) (λ c. search needs) (λ c. search needs)
     loop-again
-    mul-x
-    element-copy-out-x
-    slot-above-requires
-    mul-above
-    element-copy-out-above
-    block-above-requires
+    (λ c. search needs) (λ c. search needs) (λ c κs. search needs) (λ c. search needs) (λ c. search needs) (λ c κs. search needs)
     first-open-requires
-    mul-counts
-    array-write-counts
-    add-t-2
-    loop-less-2
+    (λ c. search needs) (λ c. search needs) (λ c. search needs) (λ c. search needs)
     loop-again-2
     returns)

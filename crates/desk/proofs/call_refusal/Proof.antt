@@ -4,14 +4,8 @@ use borrow.Author.Needs.{needs}
 use Rattle.desk.proofs.call_refusal.Statement.{statement}
 use Rattle.desk.proofs.call_refusal.Tie as tie
 
-sheet-refusal-requires : tie.Need-sheet-refusal-requires
-sheet-refusal-requires c κs = search needs
-
 returns : tie.Need-returns
 returns c = by-sheet _ _ _ (c .before .sheet-refusal .ensures) (c .if1 .taken)
-
-bundle-right-requires : tie.Need-bundle-right-requires
-bundle-right-requires c κs = search needs
 
 returns-2 : tie.Need-returns-2
 returns-2 c = by-bundle _ _ _ _ (c .before .before .before .sheet-refusal .ensures) (c .before .before .if1 .left) (c .before .bundle-right .ensures) (c .if2 .taken)
@@ -21,4 +15,4 @@ returns-3 c = by-none _ _ _ _ (c .before .before .before .sheet-refusal .ensures
 
 pub call-refusal-spec : {M : Type 1} → statement M
 call-refusal-spec =
-    tie.close (tie.spec sheet-refusal-requires returns bundle-right-requires returns-2 returns-3)
+    tie.close (tie.spec (λ c κs. search needs) returns (λ c κs. search needs) returns-2 returns-3)

@@ -7,9 +7,6 @@ use borrow.Author.Needs.{needs}
 use Rattle.desk.proofs.desk.Statement.{statement}
 use Rattle.desk.proofs.desk.Tie as tie
 
-call-refusal-requires : tie.Need-call-refusal-requires
-call-refusal-requires c κs = search needs
-
 returns : tie.Need-returns
 returns c = let a = c .before .before .before .before .before .args in gives-refused (a .sheet .now) (a .bundle .now) (a .out .now) _ (c .before .call-refusal .ensures) (c .if1 .taken)
 
@@ -18,9 +15,6 @@ swaps-requires c κs =
     let a = c .before .before .before .before .before .args in
     let z = sym (c .before .call-refusal .ensures) ∙ c .if1 .left in
     arrays-some _ (arrays _ (bundle-passes (a .sheet .now) (a .bundle .now) z))
-
-mul-if2 : tie.Need-mul-if2
-mul-if2 c = search needs
 
 returns-2 : tie.Need-returns-2
 returns-2 c =
@@ -35,9 +29,6 @@ write-answers-requires c κs =
     let z = sym (c .before .before .before .before .call-refusal .ensures) ∙ c .before .before .before .if1 .left in
     (sheet-passes (a .sheet .now) (a .bundle .now) z, (bundle-passes (a .sheet .now) (a .bundle .now) z, omega (arith, c .before .if2 .left, c .before .before .swaps .ensures .is)))
 
-same-length : tie.Need-same-length
-same-length c = search needs
-
 returns-3 : tie.Need-returns-3
 returns-3 c =
     let a = c .before .before .before .before .before .before .before .before .before .before .before .args in
@@ -47,4 +38,4 @@ returns-3 c =
     (c .before .before .write-answers .ensures)
 
 pub desk-spec : {M : Type 1} → statement M
-desk-spec = tie.close (tie.spec call-refusal-requires returns swaps-requires mul-if2 returns-2 write-answers-requires same-length returns-3)
+desk-spec = tie.close (tie.spec (λ c κs. search needs) returns swaps-requires (λ c. search needs) returns-2 write-answers-requires (λ c. search needs) returns-3)

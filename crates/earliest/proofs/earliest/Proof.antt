@@ -5,9 +5,6 @@ use borrow.Author.Needs.{needs}
 use Rattle.earliest.proofs.earliest.Statement.{statement}
 use Rattle.earliest.proofs.earliest.Tie as tie
 
-earliest-refusal-requires : tie.Need-earliest-refusal-requires
-earliest-refusal-requires c κs = search needs
-
 returns : tie.Need-returns
 returns c = gives-refused _ _ _ _ _ _ (c .before .earliest-refusal .ensures) (c .if1 .taken)
 
@@ -17,9 +14,6 @@ per-day-requires c κs = let p = unrefused _ _ _ _ _ (c .before .earliest-refusa
 write-plan-requires : tie.Need-write-plan-requires
 write-plan-requires c κs = let p = unrefused _ _ _ _ _ (c .before .before .before .earliest-refusal .ensures) (c .before .before .if1 .left) in (sheet-checked _ (p .sheet), (p .right, rw (c .before .per-day .ensures) (p .possible)))
 
-same-length : tie.Need-same-length
-same-length c = search needs
-
 returns-2 : tie.Need-returns-2
 returns-2 c = gives-planned _ _ _ _ _ _ _ _ _ _ (c .before .before .before .before .before .before .earliest-refusal .ensures) (c .before .before .before .before .before .if1 .left) (c .before .before .before .before .per-day .ensures) (c .before .before .write-plan .ensures)
 
@@ -27,9 +21,9 @@ pub earliest-spec : {M : Type 1} → statement M
 earliest-spec =
     tie.close
     (tie.spec
-    earliest-refusal-requires
+    (λ c κs. search needs)
     returns
     per-day-requires
     write-plan-requires
-    same-length
+    (λ c. search needs)
     returns-2)

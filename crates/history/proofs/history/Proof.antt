@@ -9,20 +9,8 @@ use borrow.Author.Needs.{needs}
 use Rattle.history.proofs.history.Statement.{statement}
 use Rattle.history.proofs.history.Tie as tie
 
-sheet-refusal-requires : tie.Need-sheet-refusal-requires
-sheet-refusal-requires c κs = search needs
-
-unplayed-requires : tie.Need-unplayed-requires
-unplayed-requires c κs = search needs
-
 returns : tie.Need-returns
 returns c = sheet-refused _ _ _ _ _ _ _ (c .before .before .sheet-refusal .ensures) (c .before .if1 .taken) (c .unplayed .ensures)
-
-setup-refusal-requires : tie.Need-setup-refusal-requires
-setup-refusal-requires c κs = search needs
-
-unplayed-requires-2 : tie.Need-unplayed-requires-2
-unplayed-requires-2 c κs = search needs
 
 returns-2 : tie.Need-returns-2
 returns-2 c =
@@ -38,9 +26,6 @@ play-steps-requires c κs =
 mul-used : tie.Need-mul-used
 mul-used c = omega (arith, accepted-fits _ _ _ _ _ (c .before .before .play-steps .ensures .1))
 
-unplayed-requires-3 : tie.Need-unplayed-requires-3
-unplayed-requires-3 c κs = search needs
-
 returns-3 : tie.Need-returns-3
 returns-3 c =
     let h = sym (c .before .before .before .before .before .before .before .before .sheet-refusal .ensures) ∙ c .before .before .before .before .before .before .before .if1 .left in
@@ -54,12 +39,6 @@ count-requires c κs =
     let z = fit _ _ h k .checked .sized in
     omega (arith, z .head, z .size)
 
-mul-if4 : tie.Need-mul-if4
-mul-if4 c = search needs
-
-unplayed-requires-4 : tie.Need-unplayed-requires-4
-unplayed-requires-4 c κs = search needs
-
 returns-4 : tie.Need-returns-4
 returns-4 c =
     let h = sym (c .before .before .before .before .before .before .before .before .before .before .sheet-refusal .ensures) ∙ c .before .before .before .before .before .before .before .before .before .if1 .left in
@@ -72,15 +51,9 @@ write-accepted-requires c κs =
     let k = sym (c .before .before .before .before .before .before .before .before .setup-refusal .ensures) ∙ c .before .before .before .before .before .before .before .if2 .left in
     (fit _ _ h k, bytes-room _ _ _ (now (c .before .before .before .before .before .before .before .before .before .before .before .before .before .before .before .before .args .accepted)) _ (c .before .before .before .before .before .before .play-steps .ensures .1) (c .before .before .before .if3 .left))
 
-slice-reshare-prefix-report : tie.Need-slice-reshare-prefix-report
-slice-reshare-prefix-report c = search needs
-
 slice-aggregate-report : tie.Need-slice-aggregate-report
 slice-aggregate-report c =
     part-length _ _ _ _ _ (c .before .before .before .before .before .before .before .before .before .before .play-steps .ensures .1) (c .before .before .before .before .before .before .before .if3 .left) _ (c .before .before .before .write-accepted .ensures)
-
-report-requires : tie.Need-report-requires
-report-requires c κs = search needs
 
 holders-in-requires : tie.Need-holders-in-requires
 holders-in-requires c κs =
@@ -93,12 +66,6 @@ reported-holders-requires c κs =
     let h = sym (c .before .before .before .before .before .before .before .before .before .before .before .before .before .before .before .before .before .before .before .before .sheet-refusal .ensures) ∙ c .before .before .before .before .before .before .before .before .before .before .before .before .before .before .before .before .before .before .before .if1 .left in
     let k = sym (c .before .before .before .before .before .before .before .before .before .before .before .before .before .before .before .before .before .before .setup-refusal .ensures) ∙ c .before .before .before .before .before .before .before .before .before .before .before .before .before .before .before .before .before .if2 .left in
     (fit _ _ h k .checked .sized, search needs)
-
-same-length : tie.Need-same-length
-same-length c = search needs
-
-same-length-2 : tie.Need-same-length-2
-same-length-2 c = search needs
 
 returns-5 : tie.Need-returns-5
 returns-5 c =
@@ -113,26 +80,22 @@ pub history-spec : {M : Type 1} → statement M
 history-spec =
     tie.close
     (tie.spec
-    sheet-refusal-requires
-    unplayed-requires
+    (λ c κs. search needs) (λ c κs. search needs)
     returns
-    setup-refusal-requires
-    unplayed-requires-2
+    (λ c κs. search needs) (λ c κs. search needs)
     returns-2
     play-steps-requires
     mul-used
-    unplayed-requires-3
+    (λ c κs. search needs)
     returns-3
     count-requires
-    mul-if4
-    unplayed-requires-4
+    (λ c. search needs) (λ c κs. search needs)
     returns-4
     write-accepted-requires
-    slice-reshare-prefix-report
+    (λ c. search needs)
     slice-aggregate-report
-    report-requires
+    (λ c κs. search needs)
     holders-in-requires
     reported-holders-requires
-    same-length
-    same-length-2
+    (λ c. search needs) (λ c. search needs)
     returns-5)

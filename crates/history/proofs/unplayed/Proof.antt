@@ -3,11 +3,8 @@ use borrow.Author.Needs.{needs}
 use Rattle.history.proofs.unplayed.Statement.{statement}
 use Rattle.history.proofs.unplayed.Tie as tie
 
-start-requires : tie.Need-start-requires
-start-requires c κs = search needs
-
 returns : tie.Need-returns
 returns c = rw (c .start .ensures)
 
 pub unplayed-spec : {M : Type 1} → statement M
-unplayed-spec = tie.close (tie.spec start-requires returns)
+unplayed-spec = tie.close (tie.spec (λ c κs. search needs) returns)

@@ -5,20 +5,14 @@ use borrow.Author.Needs.{needs}
 use Rattle.lists.proofs.list.Statement.{statement}
 use Rattle.lists.proofs.list.Tie as tie
 
-ran-requires : tie.Need-ran-requires
-ran-requires c κs = search needs
-
 returns : tie.Need-returns
 returns c = gives-refused _ _ _ _ _ (c .before .before .ran .ensures) (c .if1 .taken)
 
 write-list-requires : tie.Need-write-list-requires
 write-list-requires c κs = ran-fit _ _ _ _ (c .before .before .before .ran .ensures) (c .before .if1 .left)
 
-same-length : tie.Need-same-length
-same-length c = search needs
-
 returns-2 : tie.Need-returns-2
 returns-2 c = gives-passed _ _ _ _ _ _ _ _ (c .before .before .before .before .before .before .ran .ensures) (c .before .before .before .before .if1 .left) (c .before .before .write-list .ensures)
 
 pub list-spec : {M : Type 1} → statement M
-list-spec = tie.close (tie.spec ran-requires returns write-list-requires same-length returns-2)
+list-spec = tie.close (tie.spec (λ c κs. search needs) returns write-list-requires (λ c. search needs) returns-2)

@@ -7,9 +7,6 @@ use borrow.Author.Needs.{needs}
 use Rattle.outages.proofs.outage.Statement.{statement}
 use Rattle.outages.proofs.outage.Tie as tie
 
-ran-requires : tie.Need-ran-requires
-ran-requires c κs = search needs
-
 returns : tie.Need-returns
 returns c =
     let a = c .before .before .before .before .before .before .before .args in
@@ -19,9 +16,6 @@ count-requires : tie.Need-count-requires
 count-requires c κs =
     let h = ran-fit _ _ _ _ (c .before .before .ran .ensures) (c .if1 .left) .checked .sized in
     omega (arith, h .head, h .size)
-
-mul-if2 : tie.Need-mul-if2
-mul-if2 c = search needs
 
 returns-2 : tie.Need-returns-2
 returns-2 c =
@@ -36,9 +30,6 @@ write-rows-requires c κs =
     let h = ran-fit _ _ _ _ (c .before .before .before .before .before .before .ran .ensures) (c .before .before .before .before .if1 .left) in
     (h, omega (arith, c .before .before .if2 .left, c .before .before .before .count .ensures .is))
 
-same-length : tie.Need-same-length
-same-length c = search needs
-
 returns-3 : tie.Need-returns-3
 returns-3 c =
     let k = c .before .before .before .before .before .before in
@@ -49,4 +40,4 @@ returns-3 c =
     (omega (arith, c .before .before .before .before .before .if2 .left, k .count .ensures .is))) (refl, c .before .before .write-rows .ensures)
 
 pub outage-spec : {M : Type 1} → statement M
-outage-spec = tie.close (tie.spec ran-requires returns count-requires mul-if2 returns-2 write-rows-requires same-length returns-3)
+outage-spec = tie.close (tie.spec (λ c κs. search needs) returns count-requires (λ c. search needs) returns-2 write-rows-requires (λ c. search needs) returns-3)

@@ -29,12 +29,10 @@ pub page-spec : {M : Type 1} → statement M
 page-spec =
     tie.close
     (tie.spec
-    (λ c. search needs)
-    (λ c κs. search needs)
+    (λ c. search needs) (λ c κs. search needs)
     (λ c. page-refused (reported (c .before .before)) _ (c .if1 .taken))
     count-requires
-    (λ c. search needs)
-    (λ c. search needs)
+    (λ c. search needs) (λ c. search needs)
     (λ c. page-short (reported (c .before .before .before .before)) (c .before .before .if1 .left) (c .before .count .ensures .is) _ (omega (arith, c .if2 .taken)))
     (λ c. search needs)
     (λ c. omega (arith, few (reported (c .before .before .before .before)) (c .before .before .if1 .left) (c .before .count .ensures .is)))

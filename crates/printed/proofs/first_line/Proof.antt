@@ -4,14 +4,8 @@ use borrow.Author.Needs.{needs}
 use Rattle.printed.proofs.first_line.Statement.{statement}
 use Rattle.printed.proofs.first_line.Tie as tie
 
-ran-requires : tie.Need-ran-requires
-ran-requires c κs = search needs
-
 returns : tie.Need-returns
 returns c = first-refused _ _ _ _ (c .before .before .ran .ensures) (c .if1 .taken)
-
-cast-t7 : tie.Need-cast-t7
-cast-t7 c = search needs
 
 count-requires : tie.Need-count-requires
 count-requires c κs = counted _ _ _ _ (c .before .before .before .before .ran .ensures) (c .before .before .if1 .left)
@@ -20,4 +14,4 @@ returns-2 : tie.Need-returns-2
 returns-2 c = first-accepted _ _ _ _ (c .before .before .before .before .before .ran .ensures) _ (c .before .before .before .if1 .left) (c .count .ensures .is)
 
 pub first-line-spec : {M : Type 1} → statement M
-first-line-spec = tie.close (tie.spec ran-requires returns cast-t7 count-requires returns-2)
+first-line-spec = tie.close (tie.spec (λ c κs. search needs) returns (λ c. search needs) count-requires returns-2)

@@ -5,14 +5,8 @@ use borrow.Author.Needs.{needs}
 use Rattle.refusals.proofs.setup_gives.Statement.{statement}
 use Rattle.refusals.proofs.setup_gives.Tie as tie
 
-setup-refusal-requires : tie.Need-setup-refusal-requires
-setup-refusal-requires c κs = search needs
-
 expect-requires : tie.Need-expect-requires
 expect-requires c κs = eq-eqb _ _ (c .setup-refusal .ensures ∙ c .before .before .before .pre)
 
-returns : tie.Need-returns
-returns c = search needs
-
 pub setup-gives-spec : {M : Type 1} → statement M
-setup-gives-spec = tie.close (tie.spec setup-refusal-requires expect-requires returns)
+setup-gives-spec = tie.close (tie.spec (λ c κs. search needs) expect-requires (λ c. search needs))

@@ -5,14 +5,8 @@ use borrow.Author.Needs.{needs}
 use Rattle.refusals.proofs.sheet_gives.Statement.{statement}
 use Rattle.refusals.proofs.sheet_gives.Tie as tie
 
-sheet-refusal-requires : tie.Need-sheet-refusal-requires
-sheet-refusal-requires c κs = search needs
-
 expect-requires : tie.Need-expect-requires
 expect-requires c κs = eq-eqb _ _ (c .sheet-refusal .ensures ∙ c .before .before .pre)
 
-returns : tie.Need-returns
-returns c = search needs
-
 pub sheet-gives-spec : {M : Type 1} → statement M
-sheet-gives-spec = tie.close (tie.spec sheet-refusal-requires expect-requires returns)
+sheet-gives-spec = tie.close (tie.spec (λ c κs. search needs) expect-requires (λ c. search needs))

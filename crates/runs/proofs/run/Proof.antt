@@ -6,23 +6,11 @@ use borrow.Author.Needs.{needs}
 use Rattle.runs.proofs.run.Statement.{statement}
 use Rattle.runs.proofs.run.Tie as tie
 
-ran-requires : tie.Need-ran-requires
-ran-requires c κs = search needs
-
-cast-at : tie.Need-cast-at
-cast-at c = search needs
-
-mul-at : tie.Need-mul-at
-mul-at c = search needs
-
 sub-result : tie.Need-sub-result
 sub-result c = ran-bounds _ _ _ _ (c .before .ran .ensures) .1
 
 part-result-start : tie.Need-part-result-start
 part-result-start c = ran-bounds _ _ _ _ (c .before .ran .ensures) .1
-
-part-result-end : tie.Need-part-result-end
-part-result-end c = search needs
 
 returns : tie.Need-returns
 unfolding runPart
@@ -31,4 +19,4 @@ returns c = let e = c .before .before .ran .ensures in (rw (to-end, e), (rw e, r
 pub run-spec : {M : Type 1} → statement M
 run-spec =
     tie.close
-    (tie.spec ran-requires cast-at mul-at sub-result part-result-start part-result-end returns)
+    (tie.spec (λ c κs. search needs) (λ c. search needs) (λ c. search needs) sub-result part-result-start (λ c. search needs) returns)

@@ -5,9 +5,6 @@ use borrow.Author.Needs.{needs}
 use Rattle.shrink.proofs.long_refusal.Statement.{statement}
 use Rattle.shrink.proofs.long_refusal.Tie as tie
 
-sheet-refusal-requires : tie.Need-sheet-refusal-requires
-sheet-refusal-requires c κs = search needs
-
 returns : tie.Need-returns
 returns c = long-sheet _ _ _ _ (c .before .sheet-refusal .ensures) (c .if1 .taken)
 
@@ -26,4 +23,4 @@ returns-4 c = long-none _ _ _ _ (c .before .before .call-refusal .ensures) (c .b
 pub long-refusal-spec : {M : Type 1} → statement M
 long-refusal-spec =
     tie.close
-    (tie.spec sheet-refusal-requires returns call-refusal-requires returns-2 returns-3 returns-4)
+    (tie.spec (λ c κs. search needs) returns call-refusal-requires returns-2 returns-3 returns-4)

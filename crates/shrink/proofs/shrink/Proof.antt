@@ -7,14 +7,8 @@ use borrow.Author.Needs.{needs}
 use Rattle.shrink.proofs.shrink.Statement.{statement}
 use Rattle.shrink.proofs.shrink.Tie as tie
 
-long-refusal-requires : tie.Need-long-refusal-requires
-long-refusal-requires c κs = search needs
-
 returns : tie.Need-returns
 returns c = answer-long _ _ _ _ _ (c .before .long-refusal .ensures) (c .if1 .taken)
-
-start-requires : tie.Need-start-requires
-start-requires c κs = search needs
 
 run-from-requires : tie.Need-run-from-requires
 run-from-requires c κs =
@@ -27,15 +21,6 @@ returns-2 c =
     let e = ran-whole _ _ _ z _ (c .before .before .before .start .ensures) _ (c .before .before .run-from .ensures) in
     answer-none _ _ _ _ z (rw e at (c .if2 .taken))
 
-cast-end : tie.Need-cast-end
-cast-end c = search needs
-
-mul-end : tie.Need-mul-end
-mul-end c = search needs
-
-add-end : tie.Need-add-end
-add-end c = search needs
-
 slice-aggregate-write-shrunk : tie.Need-slice-aggregate-write-shrunk
 slice-aggregate-write-shrunk c = sym (row-length _ _ _ (sym (c .before .before .before .before .before .before .before .long-refusal .ensures) ∙ c .before .before .before .before .before .before .if1 .left) _ (c .before .before .before .before .before .start .ensures) _ (c .before .before .before .before .run-from .ensures) (c .before .before .if2 .left))
 
@@ -45,9 +30,6 @@ write-shrunk-requires c κs =
     let l = row-length _ _ _ (sym (c .before .before .before .before .before .before .before .before .long-refusal .ensures) ∙ c .before .before .before .before .before .before .before .if1 .left) _ (c .before .before .before .before .before .before .start .ensures) _ (c .before .before .before .before .before .run-from .ensures) (c .before .before .before .if2 .left) in
     (call-fit _ _ _ (calls-pass _ _ _ z), (omega (arith, l, calls-short _ _ _ z, row-fits _ _ _ (sym (c .before .before .before .before .before .before .before .before .long-refusal .ensures) ∙ c .before .before .before .before .before .before .before .if1 .left) _ (c .before .before .before .before .before .before .start .ensures) _ (c .before .before .before .before .before .run-from .ensures) (c .before .before .before .if2 .left)), (omega (arith, l), row-still _ _ _ (sym (c .before .before .before .before .before .before .before .before .long-refusal .ensures) ∙ c .before .before .before .before .before .before .before .if1 .left) _ (c .before .before .before .before .before .before .start .ensures) _ (c .before .before .before .before .before .run-from .ensures) (c .before .before .before .if2 .left))))
 
-same-length : tie.Need-same-length
-same-length c = search needs
-
 returns-3 : tie.Need-returns-3
 returns-3 c = rw (answer-row _ _ _ (sym (c .before .before .before .before .before .before .before .before .before .before .before .long-refusal .ensures) ∙ c .before .before .before .before .before .before .before .before .before .before .if1 .left) _ (c .before .before .before .before .before .before .before .before .before .start .ensures) _ (c .before .before .before .before .before .before .before .before .run-from .ensures) (c .before .before .before .before .before .before .if2 .left) _) (c .before .before .write-shrunk .ensures)
 
@@ -55,15 +37,13 @@ pub shrink-spec : {M : Type 1} → statement M
 shrink-spec =
     tie.close
     (tie.spec
-    long-refusal-requires
+    (λ c κs. search needs)
     returns
-    start-requires
+    (λ c κs. search needs)
     run-from-requires
     returns-2
-    cast-end
-    mul-end
-    add-end
+    (λ c. search needs) (λ c. search needs) (λ c. search needs)
     slice-aggregate-write-shrunk
     write-shrunk-requires
-    same-length
+    (λ c. search needs)
     returns-3)

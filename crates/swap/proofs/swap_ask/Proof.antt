@@ -6,9 +6,6 @@ use borrow.Author.Needs.{needs}
 use Rattle.swap.proofs.swap_ask.Statement.{statement}
 use Rattle.swap.proofs.swap_ask.Tie as tie
 
-ask-requires : tie.Need-ask-requires
-ask-requires c κs = search needs
-
 mul-result : tie.Need-mul-result
 mul-result c =
     let h = asked-bounds _ _ _ _ _ (c .before .ask .ensures) in
@@ -24,4 +21,4 @@ unfolding packed
 returns c = rw (c .before .before .ask .ensures)
 
 pub swap-ask-spec : {M : Type 1} → statement M
-swap-ask-spec = tie.close (tie.spec ask-requires mul-result add-result returns)
+swap-ask-spec = tie.close (tie.spec (λ c κs. search needs) mul-result add-result returns)

@@ -6,9 +6,6 @@ use borrow.Author.Needs.{needs}
 use Rattle.swap.proofs.swap_blocks.Statement.{statement}
 use Rattle.swap.proofs.swap_blocks.Tie as tie
 
-blocks-requires : tie.Need-blocks-requires
-blocks-requires c κs = search needs
-
 mul-result : tie.Need-mul-result
 mul-result c =
     let a = c .before .before .before .before .args in
@@ -19,4 +16,4 @@ unfolding packed
 returns c = search needs
 
 pub swap-blocks-spec : {M : Type 1} → statement M
-swap-blocks-spec = tie.close (tie.spec blocks-requires mul-result returns)
+swap-blocks-spec = tie.close (tie.spec (λ c κs. search needs) mul-result returns)

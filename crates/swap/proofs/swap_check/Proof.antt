@@ -7,9 +7,6 @@ use borrow.Author.Needs.{needs}
 use Rattle.swap.proofs.swap_check.Statement.{statement}
 use Rattle.swap.proofs.swap_check.Tie as tie
 
-sheet-refusal-requires : tie.Need-sheet-refusal-requires
-sheet-refusal-requires c κs = search needs
-
 mul-result : tie.Need-mul-result
 mul-result c = record { fits = omega (arith, c .sheet-refusal .ensures, sheet-refusal-below (now (c .before .before .args .sheet))) }
 
@@ -18,4 +15,4 @@ unfolding packed
 returns c = search needs
 
 pub swap-check-spec : {M : Type 1} → statement M
-swap-check-spec = tie.close (tie.spec sheet-refusal-requires mul-result returns)
+swap-check-spec = tie.close (tie.spec (λ c κs. search needs) mul-result returns)

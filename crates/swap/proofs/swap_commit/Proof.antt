@@ -6,20 +6,14 @@ use borrow.Author.Needs.{needs}
 use Rattle.swap.proofs.swap_commit.Statement.{statement}
 use Rattle.swap.proofs.swap_commit.Tie as tie
 
-commit-requires : tie.Need-commit-requires
-commit-requires c κs = search needs
-
 mul-result : tie.Need-mul-result
 mul-result c =
     let a = c .before .before .before .before .before .before .before .before .args in
     record { fits = omega (arith, c .before .before .commit .ensures .0, commit-below (a .sheet .now) (a .setup .now) (a .step .now) (a .count) (a .buffer .now) (a .size)) }
-
-same-length : tie.Need-same-length
-same-length c = search needs
 
 returns : tie.Need-returns
 unfolding packed
 returns c = (omega (arith, c .before .before .commit .ensures .0), c .before .before .commit .ensures .1)
 
 pub swap-commit-spec : {M : Type 1} → statement M
-swap-commit-spec = tie.close (tie.spec commit-requires mul-result same-length returns)
+swap-commit-spec = tie.close (tie.spec (λ c κs. search needs) mul-result (λ c. search needs) returns)

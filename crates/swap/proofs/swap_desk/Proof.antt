@@ -6,20 +6,14 @@ use borrow.Author.Needs.{needs}
 use Rattle.swap.proofs.swap_desk.Statement.{statement}
 use Rattle.swap.proofs.swap_desk.Tie as tie
 
-desk-requires : tie.Need-desk-requires
-desk-requires c κs = search needs
-
 mul-result : tie.Need-mul-result
 mul-result c =
     let a = c .before .before .before .before .before .before .before .args in
     record { fits = omega (arith, c .before .before .desk .ensures .0, desk-below (a .sheet .now) (a .bundle .now) (a .out .now)) }
-
-same-length : tie.Need-same-length
-same-length c = search needs
 
 returns : tie.Need-returns
 unfolding packed
 returns c = (omega (arith, c .before .before .desk .ensures .0), c .before .before .desk .ensures .1)
 
 pub swap-desk-spec : {M : Type 1} → statement M
-swap-desk-spec = tie.close (tie.spec desk-requires mul-result same-length returns)
+swap-desk-spec = tie.close (tie.spec (λ c κs. search needs) mul-result (λ c. search needs) returns)

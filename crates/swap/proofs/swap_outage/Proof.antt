@@ -6,20 +6,14 @@ use borrow.Author.Needs.{needs}
 use Rattle.swap.proofs.swap_outage.Statement.{statement}
 use Rattle.swap.proofs.swap_outage.Tie as tie
 
-outage-requires : tie.Need-outage-requires
-outage-requires c κs = search needs
-
 mul-result : tie.Need-mul-result
 mul-result c =
     let a = c .before .before .before .before .before .before .before .before .args in
     record { fits = omega (arith, c .before .before .outage .ensures .0, outage-below (a .sheet .now) (a .setup .now) (a .journal .now) (a .blocks) (a .out .now)) }
-
-same-length : tie.Need-same-length
-same-length c = search needs
 
 returns : tie.Need-returns
 unfolding packed
 returns c = (omega (arith, c .before .before .outage .ensures .0), c .before .before .outage .ensures .1)
 
 pub swap-outage-spec : {M : Type 1} → statement M
-swap-outage-spec = tie.close (tie.spec outage-requires mul-result same-length returns)
+swap-outage-spec = tie.close (tie.spec (λ c κs. search needs) mul-result (λ c. search needs) returns)

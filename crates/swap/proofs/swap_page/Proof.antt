@@ -6,20 +6,14 @@ use borrow.Author.Needs.{needs}
 use Rattle.swap.proofs.swap_page.Statement.{statement}
 use Rattle.swap.proofs.swap_page.Tie as tie
 
-page-requires : tie.Need-page-requires
-page-requires c κs = search needs
-
 mul-result : tie.Need-mul-result
 mul-result c =
     let a = c .before .before .before .before .before .before .before .before .args in
     record { fits = omega (arith, c .before .before .page .ensures .0, page-below (a .sheet .now) (a .setup .now) (a .journal .now) (a .out .now)) }
-
-same-length : tie.Need-same-length
-same-length c = search needs
 
 returns : tie.Need-returns
 unfolding packed
 returns c = (omega (arith, c .before .before .page .ensures .0), c .before .before .page .ensures .1)
 
 pub swap-page-spec : {M : Type 1} → statement M
-swap-page-spec = tie.close (tie.spec page-requires mul-result same-length returns)
+swap-page-spec = tie.close (tie.spec (λ c κs. search needs) mul-result (λ c. search needs) returns)

@@ -6,20 +6,14 @@ use borrow.Author.Needs.{needs}
 use Rattle.swap.proofs.swap_report.Statement.{statement}
 use Rattle.swap.proofs.swap_report.Tie as tie
 
-report-requires : tie.Need-report-requires
-report-requires c κs = search needs
-
 mul-result : tie.Need-mul-result
 mul-result c =
     let a = c .before .before .before .before .before .before .before .before .args in
     record { fits = omega (arith, c .before .before .report .ensures .0, report-below (a .sheet .now) (a .setup .now) (a .journal .now) (a .out .now)) }
-
-same-length : tie.Need-same-length
-same-length c = search needs
 
 returns : tie.Need-returns
 unfolding packed
 returns c = (omega (arith, c .before .before .report .ensures .0), c .before .before .report .ensures .1)
 
 pub swap-report-spec : {M : Type 1} → statement M
-swap-report-spec = tie.close (tie.spec report-requires mul-result same-length returns)
+swap-report-spec = tie.close (tie.spec (λ c κs. search needs) mul-result (λ c. search needs) returns)

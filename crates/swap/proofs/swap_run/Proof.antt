@@ -24,9 +24,6 @@ module _ (s u j : List ℕ) (x y : ℕ) (e : x ≡ run s u j .refusal) (f : y �
   unfolding runPart
   part-starts = rw (count-packed x y (rw f (run-bounds s u j .2)), f)
 
-run-requires : tie.Need-run-requires
-run-requires c κs = search needs
-
 mul-result : tie.Need-mul-result
 mul-result c =
     let a = c .before .before .before .before .before .before .args in
@@ -44,4 +41,4 @@ returns c =
     (packs _ _ _ _ _ (e .0) (e .1), part-starts _ _ _ _ _ (e .0) (e .1))
 
 pub swap-run-spec : {M : Type 1} → statement M
-swap-run-spec = tie.close (tie.spec run-requires mul-result add-result returns)
+swap-run-spec = tie.close (tie.spec (λ c κs. search needs) mul-result add-result returns)

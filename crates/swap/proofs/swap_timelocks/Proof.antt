@@ -6,20 +6,14 @@ use borrow.Author.Needs.{needs}
 use Rattle.swap.proofs.swap_timelocks.Statement.{statement}
 use Rattle.swap.proofs.swap_timelocks.Tie as tie
 
-timelocks-requires : tie.Need-timelocks-requires
-timelocks-requires c κs = search needs
-
 mul-result : tie.Need-mul-result
 mul-result c =
     let a = c .before .before .before .before .before .before .before .args in
     record { fits = omega (arith, c .before .before .timelocks .ensures .0, timelocks-below (a .sheet .now) (a .setup .now) (a .base) (a .out .now)) }
-
-same-length : tie.Need-same-length
-same-length c = search needs
 
 returns : tie.Need-returns
 unfolding packed
 returns c = (omega (arith, c .before .before .timelocks .ensures .0), c .before .before .timelocks .ensures .1)
 
 pub swap-timelocks-spec : {M : Type 1} → statement M
-swap-timelocks-spec = tie.close (tie.spec timelocks-requires mul-result same-length returns)
+swap-timelocks-spec = tie.close (tie.spec (λ c κs. search needs) mul-result (λ c. search needs) returns)

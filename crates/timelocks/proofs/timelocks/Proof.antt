@@ -6,9 +6,6 @@ use borrow.Author.Needs.{needs}
 use Rattle.timelocks.proofs.timelocks.Statement.{statement}
 use Rattle.timelocks.proofs.timelocks.Tie as tie
 
-field-refusal-requires : tie.Need-field-refusal-requires
-field-refusal-requires c κs = search needs
-
 returns : tie.Need-returns
 returns c =
     let a = c .before .before .before .before .before .args in
@@ -18,9 +15,6 @@ count-requires : tie.Need-count-requires
 count-requires c κs =
     let h = field-fit _ _ _ (sym (c .before .field-refusal .ensures) ∙ c .if1 .left) .checked .sized in
     omega (arith, h .head, h .size)
-
-mul-if2 : tie.Need-mul-if2
-mul-if2 c = search needs
 
 returns-2 : tie.Need-returns-2
 returns-2 c =
@@ -40,9 +34,6 @@ write-fields-requires c κs =
       (rw (c .before .per-day .ensures) (all-absolute _ _ _ z), omega (arith, c .before .before .if2 .left, c .before .before .before .count .ensures .is)),
     )
 
-same-length : tie.Need-same-length
-same-length c = search needs
-
 returns-3 : tie.Need-returns-3
 returns-3 c =
     let k = c .before .before .before .before .before .before in
@@ -57,12 +48,12 @@ pub timelocks-spec : {M : Type 1} → statement M
 timelocks-spec =
     tie.close
     (tie.spec
-    field-refusal-requires
+    (λ c κs. search needs)
     returns
     count-requires
-    mul-if2
+    (λ c. search needs)
     returns-2
     per-day-requires
     write-fields-requires
-    same-length
+    (λ c. search needs)
     returns-3)

@@ -5,12 +5,6 @@ use borrow.Author.Needs.{needs}
 use Rattle.asks.proofs.ask.ask.Statement.{statement}
 use Rattle.asks.proofs.ask.ask.Tie as tie
 
-length-right-requires : tie.Need-length-right-requires
-length-right-requires c κs = search needs
-
-open-run-requires : tie.Need-open-run-requires
-open-run-requires c κs = search needs
-
 returns : tie.Need-returns
 returns c = ask-refused _ _ _ _ _ _ (c .before .before .before .length-right .ensures) (c .before .before .open-run .ensures) (c .if1 .taken)
 
@@ -23,4 +17,4 @@ returns-2 c = ask-passed _ _ _ _ _ _ (c .before .before .before .before .before 
 pub ask-spec : {M : Type 1} → statement M
 ask-spec =
     tie.close
-    (tie.spec length-right-requires open-run-requires returns step-number-requires returns-2)
+    (tie.spec (λ c κs. search needs) (λ c κs. search needs) returns step-number-requires returns-2)

@@ -4,14 +4,8 @@ use borrow.Author.Needs.{needs}
 use Rattle.asks.proofs.ask.length_refusal.Statement.{statement}
 use Rattle.asks.proofs.ask.length_refusal.Tie as tie
 
-sheet-refusal-requires : tie.Need-sheet-refusal-requires
-sheet-refusal-requires c κs = search needs
-
 returns : tie.Need-returns
 returns c = by-sheet _ _ _ _ (c .before .sheet-refusal .ensures) (c .if1 .taken)
-
-setup-refusal-requires : tie.Need-setup-refusal-requires
-setup-refusal-requires c κs = search needs
 
 returns-2 : tie.Need-returns-2
 returns-2 c = by-setup _ _ _ _ _ (c .before .before .before .sheet-refusal .ensures) (c .before .before .if1 .left) (c .before .setup-refusal .ensures) (c .if2 .taken)
@@ -21,4 +15,4 @@ returns-3 c = by-length _ _ _ _ (c .before .before .before .sheet-refusal .ensur
 
 pub length-refusal-spec : {M : Type 1} → statement M
 length-refusal-spec =
-    tie.close (tie.spec sheet-refusal-requires returns setup-refusal-requires returns-2 returns-3)
+    tie.close (tie.spec (λ c κs. search needs) returns (λ c κs. search needs) returns-2 returns-3)

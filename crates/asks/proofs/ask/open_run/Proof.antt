@@ -5,21 +5,12 @@ use borrow.Author.Needs.{needs}
 use Rattle.asks.proofs.ask.open_run.Statement.{statement}
 use Rattle.asks.proofs.ask.open_run.Tie as tie
 
-ran-requires : tie.Need-ran-requires
-ran-requires c κs = search needs
-
 returns : tie.Need-returns
 returns c = rw (c .before .if1 .taken) (c .ran .ensures ∙ open-right _ _ _)
-
-length-refusal-requires : tie.Need-length-refusal-requires
-length-refusal-requires c κs = search needs
-
-start-requires : tie.Need-start-requires
-start-requires c κs = search needs
 
 returns-2 : tie.Need-returns-2
 returns-2 c = rw (c .before .before .if1 .left, c .before .length-refusal .ensures, c .start .ensures) (open-wrong _ _ _)
 
 pub open-run-spec : {M : Type 1} → statement M
 open-run-spec =
-    tie.close (tie.spec ran-requires returns length-refusal-requires start-requires returns-2)
+    tie.close (tie.spec (λ c κs. search needs) returns (λ c κs. search needs) (λ c κs. search needs) returns-2)

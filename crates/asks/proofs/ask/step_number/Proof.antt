@@ -9,12 +9,9 @@ use Rattle.asks.proofs.ask.step_number.Tie as tie
 returns : tie.Need-returns
 returns c = number-other _ _ _ _ (c .if1 .taken)
 
-step-at-requires : tie.Need-step-at-requires
-step-at-requires c κs = search needs
-
 returns-2 : tie.Need-returns-2
 unfolding stepAt stepOf
 returns-2 c = rw (c .step-at .ensures) (number-four _ _ _ _ (c .before .if1 .left))
 
 pub step-number-spec : {M : Type 1} → statement M
-step-number-spec = tie.close (tie.spec returns step-at-requires returns-2)
+step-number-spec = tie.close (tie.spec returns (λ c κs. search needs) returns-2)

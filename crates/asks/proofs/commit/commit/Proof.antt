@@ -8,12 +8,6 @@ use borrow.Author.Needs.{needs}
 use Rattle.asks.proofs.commit.commit.Statement.{statement}
 use Rattle.asks.proofs.commit.commit.Tie as tie
 
-commit-refusal-requires : tie.Need-commit-refusal-requires
-commit-refusal-requires c κs = search needs
-
-same-length : tie.Need-same-length
-same-length c = search needs
-
 returns : tie.Need-returns
 returns c =
     let a = c .before .before .before .before .before .before .before .args in
@@ -30,17 +24,11 @@ part-write-step-start c =
     let a = c .before .before .before .before .before .before .before .args in
     pass (a .sheet .now) (a .setup .now) (a .step .now) (a .count) (a .buffer .now) (a .size) (sym (c .before .commit-refusal .ensures) ∙ c .if1 .left) .within
 
-part-write-step-end : tie.Need-part-write-step-end
-part-write-step-end c = search needs
-
 write-step-requires : tie.Need-write-step-requires
 write-step-requires c κs =
     let a = c .before .before .before .before .before .before .before .before .args in
     let w = pass (a .sheet .now) (a .setup .now) (a .step .now) (a .count) (a .buffer .now) (a .size) (sym (c .before .before .commit-refusal .ensures) ∙ c .before .if1 .left) in
     (w .four, rw (to-end (a .buffer .now) (a .size)) (omega (arith, w .room, length-drop (a .size) (a .buffer .now))))
-
-same-length-2 : tie.Need-same-length-2
-same-length-2 c = search needs
 
 returns-2 : tie.Need-returns-2
 returns-2 c =
@@ -54,12 +42,11 @@ pub commit-spec : {M : Type 1} → statement M
 commit-spec =
     tie.close
     (tie.spec
-    commit-refusal-requires
-    same-length
+    (λ c κs. search needs) (λ c. search needs)
     returns
     sub-write-step
     part-write-step-start
-    part-write-step-end
+    (λ c. search needs)
     write-step-requires
-    same-length-2
+    (λ c. search needs)
     returns-2)

@@ -7,9 +7,6 @@ use borrow.Author.Needs.{needs}
 use Rattle.asks.proofs.commit.commit_refusal.Statement.{statement}
 use Rattle.asks.proofs.commit.commit_refusal.Tie as tie
 
-commit-run-requires : tie.Need-commit-run-requires
-commit-run-requires c κs = search needs
-
 returns : tie.Need-returns
 returns c = by-journal _ _ _ _ _ _ _ (c .before .before .commit-run .ensures) (c .if1 .taken)
 
@@ -42,7 +39,7 @@ pub commit-refusal-spec : {M : Type 1} → statement M
 commit-refusal-spec =
     tie.close
     (tie.spec
-    commit-run-requires
+    (λ c κs. search needs)
     returns
     returns-2
     step-number-requires

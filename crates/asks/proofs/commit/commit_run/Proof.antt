@@ -6,20 +6,11 @@ use borrow.Author.Needs.{needs}
 use Rattle.asks.proofs.commit.commit_run.Statement.{statement}
 use Rattle.asks.proofs.commit.commit_run.Tie as tie
 
-open-run-requires : tie.Need-open-run-requires
-open-run-requires c κs = search needs
-
 returns : tie.Need-returns
 returns c = run-beyond _ _ _ _ _ (c .before .if1 .taken) (c .open-run .ensures)
 
-length-right-requires : tie.Need-length-right-requires
-length-right-requires c κs = search needs
-
 slice-aggregate-open-run : tie.Need-slice-aggregate-open-run
 slice-aggregate-open-run c = let a = c .before .before .before .before .before .before .args in sym (length-take-le (a .n) (a .buffer .now) (c .before .before .if1 .left))
-
-open-run-requires-2 : tie.Need-open-run-requires-2
-open-run-requires-2 c κs = search needs
 
 returns-2 : tie.Need-returns-2
 returns-2 c = run-within _ _ _ _ _ (c .before .before .before .if1 .left) _ (c .before .before .length-right .ensures) (c .open-run2 .ensures)
@@ -28,9 +19,9 @@ pub commit-run-spec : {M : Type 1} → statement M
 commit-run-spec =
     tie.close
     (tie.spec
-    open-run-requires
+    (λ c κs. search needs)
     returns
-    length-right-requires
+    (λ c κs. search needs)
     slice-aggregate-open-run
-    open-run-requires-2
+    (λ c κs. search needs)
     returns-2)

@@ -5,15 +5,6 @@ use borrow.Author.Needs.{needs}
 use Rattle.blocks.proofs.block_list.entry_named.Statement.{statement}
 use Rattle.blocks.proofs.block_list.entry_named.Tie as tie
 
-wide-requires : tie.Need-wide-requires
-wide-requires c κs = search needs
-
-count-requires : tie.Need-count-requires
-count-requires c κs = search needs
-
-goes-to-requires : tie.Need-goes-to-requires
-goes-to-requires c κs = search needs
-
 returns : tie.Need-returns
 unfolding entryNamed
 returns c = simp (tests, ← (c .before .before .before .wide .ensures .is), ← (c .before .before .count .ensures .is), c .before .if1 .taken, ← (c .goes-to .ensures))
@@ -24,4 +15,4 @@ returns-2 c = simp (tests, ← (c .before .before .wide .ensures .is), ← (c .b
 
 pub entry-named-spec : {M : Type 1} → statement M
 entry-named-spec =
-    tie.close (tie.spec wide-requires count-requires goes-to-requires returns returns-2)
+    tie.close (tie.spec (λ c κs. search needs) (λ c κs. search needs) (λ c κs. search needs) returns returns-2)

@@ -21,23 +21,11 @@ returns c = named-broken _ _ (c .if1 .taken)
 loop-holds : tie.Need-loop-holds Inv-loop μ-loop
 loop-holds c = (search needs, named-whole _ _ (c .if1 .left))
 
-mul-listed-at : tie.Need-mul-listed-at Inv-loop μ-loop
-mul-listed-at c = search needs
-
 listed-at-requires : tie.Need-listed-at-requires Inv-loop μ-loop
 listed-at-requires c κs = omega (arith, c .loop-test .taken)
 
-entry-named-requires : tie.Need-entry-named-requires Inv-loop μ-loop
-entry-named-requires c κs = search needs
-
 returns-2 : tie.Need-returns-2 Inv-loop μ-loop
 returns-2 c = left-stopped (named _) unchanged _ _ _ _ _ _ (c .before .before .before .before .loop .inv .1) (omega (arith, c .before .before .before .loop-test .taken)) (c .before .before .listed-at .ensures) (c .before .entry-named .ensures) (c .if2 .taken)
-
-add-k : tie.Need-add-k Inv-loop μ-loop
-add-k c = search needs
-
-loop-less : tie.Need-loop-less Inv-loop μ-loop
-loop-less c = search needs
 
 loop-again : tie.Need-loop-again Inv-loop μ-loop
 loop-again c = (omega (arith, c .before .before .before .loop-test .taken), left-on (named _) unchanged _ _ _ _ _ _ _ (c .before .before .before .before .loop .inv .1) (omega (arith, c .before .before .before .loop-test .taken)) (c .before .before .listed-at .ensures) (c .before .entry-named .ensures) (c .if2 .left) refl)
@@ -53,11 +41,10 @@ fields-named-spec =
     μ-loop
     returns
     loop-holds
-    mul-listed-at
+    (λ c. search needs)
     listed-at-requires
-    entry-named-requires
+    (λ c κs. search needs)
     returns-2
-    add-k
-    loop-less
+    (λ c. search needs) (λ c. search needs)
     loop-again
     returns-3)

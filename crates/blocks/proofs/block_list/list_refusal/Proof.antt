@@ -7,22 +7,13 @@ use borrow.Author.Needs.{needs}
 use Rattle.blocks.proofs.block_list.list_refusal.Statement.{statement}
 use Rattle.blocks.proofs.block_list.list_refusal.Tie as tie
 
-fields-named-requires : tie.Need-fields-named-requires
-fields-named-requires c κs = search needs
-
 returns : tie.Need-returns
 unfolding listTests
 returns c = fails 29 _ _ _ (c .before .fields-named .ensures) (c .if1 .taken)
 
-entries-rise-requires : tie.Need-entries-rise-requires
-entries-rise-requires c κs = search needs
-
 returns-2 : tie.Need-returns-2
 unfolding listTests
 returns-2 c = passes 29 _ _ _ _ (c .before .before .before .fields-named .ensures) (c .before .before .if1 .left) (fails 30 _ _ _ (c .before .entries-rise .ensures) (c .if2 .taken))
-
-per-day-requires : tie.Need-per-day-requires
-per-day-requires c κs = search needs
 
 ledger-accepts-requires : tie.Need-ledger-accepts-requires
 ledger-accepts-requires c κs = (c .before .before .before .before .before .before .before .before .pre .checked, held _ _ (c .before .before .before .before .fields-named .ensures) (c .before .before .before .if1 .left))
@@ -39,11 +30,11 @@ pub list-refusal-spec : {M : Type 1} → statement M
 list-refusal-spec =
     tie.close
     (tie.spec
-    fields-named-requires
+    (λ c κs. search needs)
     returns
-    entries-rise-requires
+    (λ c κs. search needs)
     returns-2
-    per-day-requires
+    (λ c κs. search needs)
     ledger-accepts-requires
     returns-3
     returns-4)

@@ -3,12 +3,6 @@ use borrow.Author.Needs.{needs}
 use Rattle.blocks.proofs.block_list.rises.Statement.{statement}
 use Rattle.blocks.proofs.block_list.rises.Tie as tie
 
-block-within-requires : tie.Need-block-within-requires
-block-within-requires c κs = search needs
-
-before-requires : tie.Need-before-requires
-before-requires c κs = search needs
-
 returns : tie.Need-returns
 returns c = simp (← (c .before .before .block-within .ensures), c .before .if1 .taken, ← (c .before2 .ensures))
 
@@ -16,4 +10,4 @@ returns-2 : tie.Need-returns-2
 returns-2 c = simp (← (c .before .block-within .ensures), c .if1 .left)
 
 pub rises-spec : {M : Type 1} → statement M
-rises-spec = tie.close (tie.spec block-within-requires before-requires returns returns-2)
+rises-spec = tie.close (tie.spec (λ c κs. search needs) (λ c κs. search needs) returns returns-2)

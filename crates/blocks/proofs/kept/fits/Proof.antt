@@ -6,9 +6,6 @@ use borrow.Author.Needs.{needs}
 use Rattle.blocks.proofs.kept.fits.Statement.{statement}
 use Rattle.blocks.proofs.kept.fits.Tie as tie
 
-opens-requires : tie.Need-opens-requires
-opens-requires c κs = search needs
-
 returns : tie.Need-returns
 unfolding lastOf
 returns c = rw (eq-eqb _ 0 (c .before .if1 .taken)) (c .opens .ensures)
@@ -21,4 +18,4 @@ unfolding lastOf
 returns-2 c = rw (ne-eqb _ 0 (c .before .if1 .left)) (c .spends .ensures)
 
 pub fits-spec : {M : Type 1} → statement M
-fits-spec = tie.close (tie.spec opens-requires returns spends-requires returns-2)
+fits-spec = tie.close (tie.spec (λ c κs. search needs) returns spends-requires returns-2)

@@ -22,14 +22,8 @@ abbrev μ-loop : tie.MeasureT-loop
 loop-holds : tie.Need-loop-holds Inv-loop μ-loop
 loop-holds c = (search needs, search needs, named-all _ _ (c .before .before .pre .1), keeps-start _ _ _)
 
-mul-listed-at : tie.Need-mul-listed-at Inv-loop μ-loop
-mul-listed-at c = search needs
-
 listed-at-requires : tie.Need-listed-at-requires Inv-loop μ-loop
 listed-at-requires c κs = omega (arith, c .loop-test .taken)
-
-wide-requires : tie.Need-wide-requires Inv-loop μ-loop
-wide-requires c κs = search needs
 
 coin-of-requires : tie.Need-coin-of-requires Inv-loop μ-loop
 coin-of-requires c κs = (c .before .before .before .before .before .before .pre .0 .sized, turn-low _ _ (c .before .before .before .before .before .before .pre .0) _ _ (c .before .before .before .loop .inv .2) (omega (arith, c .before .before .loop-test .taken)) (c .before .listed-at .ensures) _ (c .wide .ensures .is))
@@ -52,12 +46,6 @@ mul-kept c = let b = turn-coin _ _ (c .before .before .before .before .before .b
 array-set-from-kept : tie.Need-array-set-from-kept Inv-loop μ-loop
 array-set-from-kept c = let b = turn-coin _ _ (c .before .before .before .before .before .before .before .before .before .before .pre .0) _ _ (c .before .before .before .before .before .before .before .loop .inv .2) (omega (arith, c .before .before .before .before .before .before .loop-test .taken)) (c .before .before .before .before .before .listed-at .ensures) _ (c .before .before .before .before .wide .ensures .is) _ (c .before .before .before .coin-of .ensures) in search needs
 
-add-k : tie.Need-add-k Inv-loop μ-loop
-add-k c = search needs
-
-loop-less : tie.Need-loop-less Inv-loop μ-loop
-loop-less c = search needs
-
 loop-again : tie.Need-loop-again Inv-loop μ-loop
 loop-again c = (omega (arith, c .before .before .before .before .before .before .loop-test .taken), simp (length-set) (c .before .before .before .before .before .before .before .loop .inv .1), named-next _ _ _ (c .before .before .before .before .before .before .before .loop .inv .2) (omega (arith, c .before .before .before .before .before .before .loop-test .taken)), left-on (right _ _) (next _) _ _ _ _ _ _ _ (c .before .before .before .before .before .before .before .loop .inv .3) (omega (arith, c .before .before .before .before .before .before .loop-test .taken)) (c .before .before .before .before .before .listed-at .ensures) (turn-right _ _ _ _ _ _ _ (c .before .before .before .before .wide .ensures .is) (c .before .before .before .coin-of .ensures) (c .before .fits2 .ensures)) (c .if1 .left) (turn-keeps _ _ _ _ _ _ _ (rw (c .before .before .before .before .before .before .before .loop .inv .1) (turn-coin _ _ (c .before .before .before .before .before .before .before .before .before .before .pre .0) _ _ (c .before .before .before .before .before .before .before .loop .inv .2) (omega (arith, c .before .before .before .before .before .before .loop-test .taken)) (c .before .before .before .before .before .listed-at .ensures) _ (c .before .before .before .before .wide .ensures .is) _ (c .before .before .before .coin-of .ensures))) (c .before .before .before .before .wide .ensures .is) (c .before .before .before .coin-of .ensures) (c .before .fits2 .ensures) (c .if1 .left)))
 
@@ -71,9 +59,9 @@ ledger-accepts-spec =
     Inv-loop
     μ-loop
     loop-holds
-    mul-listed-at
+    (λ c. search needs)
     listed-at-requires
-    wide-requires
+    (λ c κs. search needs)
     coin-of-requires
     mul-last
     array-copy-out-last
@@ -81,7 +69,6 @@ ledger-accepts-spec =
     returns
     mul-kept
     array-set-from-kept
-    add-k
-    loop-less
+    (λ c. search needs) (λ c. search needs)
     loop-again
     returns-2)

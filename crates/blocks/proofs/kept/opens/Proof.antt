@@ -4,18 +4,6 @@ use borrow.Author.Needs.{needs}
 use Rattle.blocks.proofs.kept.opens.Statement.{statement}
 use Rattle.blocks.proofs.kept.opens.Tie as tie
 
-wide-requires : tie.Need-wide-requires
-wide-requires c κs = search needs
-
-opening-requires : tie.Need-opening-requires
-opening-requires c κs = search needs
-
-lock-height-requires : tie.Need-lock-height-requires
-lock-height-requires c κs = search needs
-
-wide-requires-2 : tie.Need-wide-requires-2
-wide-requires-2 c κs = search needs
-
 returns : tie.Need-returns
 returns c = opens-right _ _ (c .before .before .before .before .before .before .pre .0) _ _ (c .before .before .before .before .before .before .pre .1) (c .before .before .before .before .wide .ensures .is) _ _ _ (c .before .before .before .opening .ensures) (c .before .before .if1 .taken) (c .before .lock-height .ensures .is) (c .wide2 .ensures .0)
 
@@ -26,9 +14,6 @@ pub opens-spec : {M : Type 1} → statement M
 opens-spec =
     tie.close
     (tie.spec
-    wide-requires
-    opening-requires
-    lock-height-requires
-    wide-requires-2
+    (λ c κs. search needs) (λ c κs. search needs) (λ c κs. search needs) (λ c κs. search needs)
     returns
     returns-2)

@@ -6,32 +6,14 @@ use borrow.Author.Needs.{needs}
 use Rattle.dated.proofs.opens.at_hand.Statement.{statement}
 use Rattle.dated.proofs.opens.at_hand.Tie as tie
 
-is-contract-requires : tie.Need-is-contract-requires
-is-contract-requires c κs = search needs
-
-sender-requires : tie.Need-sender-requires
-sender-requires c κs = search needs
-
-signed-requires : tie.Need-signed-requires
-signed-requires c κs = search needs
-
 returns : tie.Need-returns
 unfolding atHandIn
 returns c = rw (sym (c .before .before .before .is-contract .ensures) ∙ c .before .before .if1 .taken, ← (c .before .sender .ensures)) (c .signed .ensures)
-
-is-payee-requires : tie.Need-is-payee-requires
-is-payee-requires c κs = search needs
 
 returns-2 : tie.Need-returns-2
 unfolding atHandIn
 returns-2 c =
     rw (sym (c .before .before .before .is-contract .ensures) ∙ c .before .before .if1 .left, sym (c .before .is-payee .ensures) ∙ not-true _ (c .if2 .taken))
-
-sender-requires-2 : tie.Need-sender-requires-2
-sender-requires-2 c κs = search needs
-
-signed-requires-2 : tie.Need-signed-requires-2
-signed-requires-2 c κs = search needs
 
 returns-3 : tie.Need-returns-3
 unfolding atHandIn
@@ -42,12 +24,9 @@ pub at-hand-spec : {M : Type 1} → statement M
 at-hand-spec =
     tie.close
     (tie.spec
-    is-contract-requires
-    sender-requires
-    signed-requires
+    (λ c κs. search needs) (λ c κs. search needs) (λ c κs. search needs)
     returns
-    is-payee-requires
+    (λ c κs. search needs)
     returns-2
-    sender-requires-2
-    signed-requires-2
+    (λ c κs. search needs) (λ c κs. search needs)
     returns-3)

@@ -22,29 +22,14 @@ Inv-loop sheet view x t n k₀ k = (k ≤ n) × (n ≡ parties sheet) × (n ≤ 
 abbrev μ-loop : tie.MeasureT-loop
 μ-loop sheet view x t n k₀ k = n - k
 
-parties-requires : tie.Need-parties-requires Inv-loop μ-loop
-parties-requires c κs = search needs
-
 loop-holds : tie.Need-loop-holds Inv-loop μ-loop
 loop-holds c = (search needs, c .parties .ensures .is, c .parties .ensures .few, any-start _)
-
-party-at-requires : tie.Need-party-at-requires Inv-loop μ-loop
-party-at-requires c κs = search needs
-
-at-hand-requires : tie.Need-at-hand-requires Inv-loop μ-loop
-at-hand-requires c κs = search needs
 
 returns : tie.Need-returns Inv-loop μ-loop
 returns c =
     let l = c .before .before .before .before .loop in
     rw (← (l .inv .1))
     (sym (any-found _ _ _ (c .before .before .before .loop-test .taken) (at-place _ _ _ _ _ _ _ (c .before .before .party-at .ensures) (c .before .at-hand .ensures) ∙ c .if1 .taken)))
-
-add-k : tie.Need-add-k Inv-loop μ-loop
-add-k c = search needs
-
-loop-less : tie.Need-loop-less Inv-loop μ-loop
-loop-less c = search needs
 
 loop-again : tie.Need-loop-again Inv-loop μ-loop
 loop-again c =
@@ -60,12 +45,10 @@ at-hand-of-some-spec =
     (tie.spec
     Inv-loop
     μ-loop
-    parties-requires
+    (λ c κs. search needs)
     loop-holds
-    party-at-requires
-    at-hand-requires
+    (λ c κs. search needs) (λ c κs. search needs)
     returns
-    add-k
-    loop-less
+    (λ c. search needs) (λ c. search needs)
     loop-again
     returns-2)

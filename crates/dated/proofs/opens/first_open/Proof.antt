@@ -13,12 +13,9 @@ returns : tie.Need-returns
 unfolding firstOpenIn
 returns c = rw (sym (c .before .opens .ensures) ∙ not-true _ (c .if1 .taken))
 
-cast-result : tie.Need-cast-result
-cast-result c = search needs
-
 returns-2 : tie.Need-returns-2
 unfolding firstOpenIn
 returns-2 c = rw (sym (c .before .before .opens .ensures) ∙ not-false _ (c .before .if1 .left))
 
 pub first-open-spec : {M : Type 1} → statement M
-first-open-spec = tie.close (tie.spec opens-requires returns cast-result returns-2)
+first-open-spec = tie.close (tie.spec opens-requires returns (λ c. search needs) returns-2)

@@ -6,14 +6,8 @@ use borrow.Author.Needs.{needs}
 use Rattle.dated.proofs.opens.opens.Statement.{statement}
 use Rattle.dated.proofs.opens.opens.Tie as tie
 
-lock-reached-requires : tie.Need-lock-reached-requires
-lock-reached-requires c κs = search needs
-
 returns : tie.Need-returns
 returns c = under-lock _ _ _ _ _ _ (c .before .before .before .pre .1 .1) (sym (c .before .lock-reached .ensures) ∙ not-true _ (c .if1 .taken))
-
-at-hand-of-some-requires : tie.Need-at-hand-of-some-requires
-at-hand-of-some-requires c κs = search needs
 
 returns-2 : tie.Need-returns-2
 returns-2 c =
@@ -21,9 +15,6 @@ returns-2 c =
     (c .before .before .before .before .before .pre .1 .1)
     (sym (c .before .before .before .lock-reached .ensures) ∙ not-false _ (c .before .before .if1 .left))
     (sym (c .before .at-hand-of-some .ensures) ∙ not-true _ (c .if2 .taken))
-
-conflict-in-requires : tie.Need-conflict-in-requires
-conflict-in-requires c κs = search needs
 
 returns-3 : tie.Need-returns-3
 returns-3 c =
@@ -34,4 +25,4 @@ returns-3 c =
 
 pub opens-spec : {M : Type 1} → statement M
 opens-spec =
-    tie.close (tie.spec lock-reached-requires returns at-hand-of-some-requires returns-2 conflict-in-requires returns-3)
+    tie.close (tie.spec (λ c κs. search needs) returns (λ c κs. search needs) returns-2 (λ c κs. search needs) returns-3)

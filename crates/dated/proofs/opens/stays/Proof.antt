@@ -10,12 +10,9 @@ returns : tie.Need-returns
 unfolding stays
 returns c = rw (ne-eqb _ never (c .if1 .taken))
 
-parent-there-requires : tie.Need-parent-there-requires
-parent-there-requires c κs = search needs
-
 returns-2 : tie.Need-returns-2
 unfolding stays
 returns-2 c = rw (eq-eqb _ never (c .before .if1 .left), c .parent-there .ensures)
 
 pub stays-spec : {M : Type 1} → statement M
-stays-spec = tie.close (tie.spec returns parent-there-requires returns-2)
+stays-spec = tie.close (tie.spec returns (λ c κs. search needs) returns-2)

@@ -20,12 +20,6 @@ abbrev μ-loop : tie.MeasureT-loop
 swaps-requires : tie.Need-swaps-requires Inv-loop μ-loop
 swaps-requires c κs = arrays-some _ (arrays _ (c .before .before .before .pre .1 .0))
 
-mul-start : tie.Need-mul-start Inv-loop μ-loop
-mul-start c = search needs
-
-add-start : tie.Need-add-start Inv-loop μ-loop
-add-start c = search needs
-
 loop-holds : tie.Need-loop-holds Inv-loop μ-loop
 loop-holds c = (turns-start _ _ _ (all-room _ _ _ _ (c .swaps .ensures .is) (c .before .before .before .before .pre .1 .1)), start-first _ _ (c .swaps .ensures .is))
 
@@ -43,9 +37,6 @@ sub-write-pair c = omega (arith, c .before .before .before .loop .inv .0 .wrote)
 part-write-pair-start : tie.Need-part-write-pair-start Inv-loop μ-loop
 part-write-pair-start c = omega (arith, c .before .before .before .loop .inv .0 .wrote)
 
-part-write-pair-end : tie.Need-part-write-pair-end Inv-loop μ-loop
-part-write-pair-end c = search needs
-
 write-pair-requires : tie.Need-write-pair-requires Inv-loop μ-loop
 write-pair-requires c κs = eight-room _ _ _ _ _ _ _ (c .before .before .before .before .loop .inv .0) (c .before .before .before .loop-test .taken)
 
@@ -57,12 +48,6 @@ add-start-2 c =
 
 add-at : tie.Need-add-at Inv-loop μ-loop
 add-at c = omega (arith, eight-end _ _ _ _ _ _ _ (c .before .before .before .before .before .before .before .loop .inv .0) (c .before .before .before .before .before .before .loop-test .taken))
-
-add-i : tie.Need-add-i Inv-loop μ-loop
-add-i c = search needs
-
-loop-less : tie.Need-loop-less Inv-loop μ-loop
-loop-less c = search needs
 
 loop-again : tie.Need-loop-again Inv-loop μ-loop
 loop-again c =
@@ -82,19 +67,17 @@ write-answers-spec =
     Inv-loop
     μ-loop
     swaps-requires
-    mul-start
-    add-start
+    (λ c. search needs) (λ c. search needs)
     loop-holds
     length-of-requires
     swap-ran-requires
     sub-write-pair
     part-write-pair-start
-    part-write-pair-end
+    (λ c. search needs)
     write-pair-requires
     add-start-2
     add-at
-    add-i
-    loop-less
+    (λ c. search needs) (λ c. search needs)
     loop-again
     same-length
     returns)

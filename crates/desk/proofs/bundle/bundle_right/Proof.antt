@@ -8,15 +8,6 @@ use Rattle.desk.proofs.bundle.bundle_right.Tie as tie
 returns : tie.Need-returns
 returns c = right-empty _ (omega (arith, c .if1 .taken))
 
-swaps-requires : tie.Need-swaps-requires
-swaps-requires c κs = search needs
-
-mul-journals : tie.Need-mul-journals
-mul-journals c = search needs
-
-add-journals : tie.Need-add-journals
-add-journals c = search needs
-
 returns-2 : tie.Need-returns-2
 returns-2 c = right-short _ _ (c .before .swaps .ensures .is) (omega (arith, c .before .before .if1 .left)) (omega (arith, c .if2 .taken))
 
@@ -26,9 +17,6 @@ returns-3 c = right-many _ _ (c .before .before .swaps .ensures .is) (omega (ari
 lengths-sum-requires : tie.Need-lengths-sum-requires
 lengths-sum-requires c κs = right-arrays _ _ (c .before .before .swaps .ensures .is) (omega (arith, c .before .before .before .if1 .left)) (omega (arith, c .before .if2 .left)) (omega (arith, c .if3 .left))
 
-sub-result : tie.Need-sub-result
-sub-result c = search needs
-
 returns-4 : tie.Need-returns-4
 returns-4 c = right-sum _ _ (c .before .before .before .swaps .ensures .is) (omega (arith, c .before .before .before .before .if1 .left)) _ (omega (arith, c .before .before .if2 .left)) (omega (arith, c .before .if3 .left)) (c .lengths-sum .ensures)
 
@@ -37,11 +25,9 @@ bundle-right-spec =
     tie.close
     (tie.spec
     returns
-    swaps-requires
-    mul-journals
-    add-journals
+    (λ c κs. search needs) (λ c. search needs) (λ c. search needs)
     returns-2
     returns-3
     lengths-sum-requires
-    sub-result
+    (λ c. search needs)
     returns-4)

@@ -8,23 +8,8 @@ use Rattle.desk.proofs.bundle.length_of.Tie as tie
 swaps-requires : tie.Need-swaps-requires
 swaps-requires c κs = arrays-some _ (c .before .pre .0)
 
-mul-u32-at : tie.Need-mul-u32-at
-mul-u32-at c = search needs
-
-add-u32-at : tie.Need-add-u32-at
-add-u32-at c = search needs
-
-mul-u32-at-2 : tie.Need-mul-u32-at-2
-mul-u32-at-2 c = search needs
-
-add-u32-at-2 : tie.Need-add-u32-at-2
-add-u32-at-2 c = search needs
-
 u32-at-requires : tie.Need-u32-at-requires
 u32-at-requires c κs = lengths-end _ (c .before .before .pre .0) _ _ (c .swaps .ensures .is) (c .before .before .pre .1)
-
-cast-result : tie.Need-cast-result
-cast-result c = search needs
 
 returns : tie.Need-returns
 unfolding lengthOf
@@ -35,10 +20,7 @@ length-of-spec =
     tie.close
     (tie.spec
     swaps-requires
-    mul-u32-at
-    add-u32-at
-    mul-u32-at-2
-    add-u32-at-2
+    (λ c. search needs) (λ c. search needs) (λ c. search needs) (λ c. search needs)
     u32-at-requires
-    cast-result
+    (λ c. search needs)
     returns)

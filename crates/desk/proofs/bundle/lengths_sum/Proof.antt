@@ -24,15 +24,6 @@ loop-holds c = (search needs, search needs, sum-start _)
 length-of-requires : tie.Need-length-of-requires Inv-loop μ-loop
 length-of-requires c κs = (c .before .before .before .before .pre, omega (arith, c .loop-test .taken, c .before .before .swaps .ensures .is))
 
-add-sum : tie.Need-add-sum Inv-loop μ-loop
-add-sum c = search needs
-
-add-i : tie.Need-add-i Inv-loop μ-loop
-add-i c = search needs
-
-loop-less : tie.Need-loop-less Inv-loop μ-loop
-loop-less c = search needs
-
 loop-again : tie.Need-loop-again Inv-loop μ-loop
 loop-again c =
     let l = c .before .before .loop in
@@ -52,8 +43,6 @@ lengths-sum-spec =
     swaps-requires
     loop-holds
     length-of-requires
-    add-sum
-    add-i
-    loop-less
+    (λ c. search needs) (λ c. search needs) (λ c. search needs)
     loop-again
     returns)

@@ -5,12 +5,6 @@ use borrow.Author.Needs.{needs}
 use Rattle.earliest.proofs.members.block_in.Statement.{statement}
 use Rattle.earliest.proofs.members.block_in.Tie as tie
 
-has-requires : tie.Need-has-requires
-has-requires c κs = search needs
-
-earliest-block-requires : tie.Need-earliest-block-requires
-earliest-block-requires c κs = search needs
-
 returns : tie.Need-returns
 unfolding blockIn
 returns c = rw (sym (c .before .before .has .ensures) ∙ c .before .if1 .taken) (c .earliest-block .ensures .is)
@@ -20,4 +14,4 @@ unfolding blockIn
 returns-2 c = rw (sym (c .before .has .ensures) ∙ c .if1 .left)
 
 pub block-in-spec : {M : Type 1} → statement M
-block-in-spec = tie.close (tie.spec has-requires earliest-block-requires returns returns-2)
+block-in-spec = tie.close (tie.spec (λ c κs. search needs) (λ c κs. search needs) returns returns-2)

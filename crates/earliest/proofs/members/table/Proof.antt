@@ -15,26 +15,8 @@ Inv-loop sheet per-day found n blocks₀ t₀ blocks t = (t ≤ n) × (blocks �
 abbrev μ-loop : tie.MeasureT-loop
 μ-loop sheet per-day found n blocks₀ t₀ blocks t = n - t
 
-count-requires : tie.Need-count-requires Inv-loop μ-loop
-count-requires c κs = search needs
-
 loop-holds : tie.Need-loop-holds Inv-loop μ-loop
 loop-holds c = (search needs, rewrite-start _ _)
-
-block-in-requires : tie.Need-block-in-requires Inv-loop μ-loop
-block-in-requires c κs = search needs
-
-mul-blocks : tie.Need-mul-blocks Inv-loop μ-loop
-mul-blocks c = search needs
-
-array-write-blocks : tie.Need-array-write-blocks Inv-loop μ-loop
-array-write-blocks c = search needs
-
-add-t : tie.Need-add-t Inv-loop μ-loop
-add-t c = search needs
-
-loop-less : tie.Need-loop-less Inv-loop μ-loop
-loop-less c = search needs
 
 loop-again : tie.Need-loop-again Inv-loop μ-loop
 loop-again c = (search needs, rewrite-again _ _ _ _ 0 _ (c .before .before .loop .inv .1) (c .block-in .ensures))
@@ -49,12 +31,8 @@ table-spec =
     (tie.spec
     Inv-loop
     μ-loop
-    count-requires
+    (λ c κs. search needs)
     loop-holds
-    block-in-requires
-    mul-blocks
-    array-write-blocks
-    add-t
-    loop-less
+    (λ c κs. search needs) (λ c. search needs) (λ c. search needs) (λ c. search needs) (λ c. search needs)
     loop-again
     returns)

@@ -32,46 +32,6 @@ earliest-block-below t =
     (falls 1 earliest-block-kinds.ps _<_ μ-earliest-block t)
     earliest-block.Pre
 
-earliest-block-parent-requires : (t : ℕ) → earliest-block-lts.Need-parent-requires (
-  parent-reads.Asked,
-  parent-reads.Learnt,
-  earliest-block-below t,
-  earliest-block.Post,
-  earliest-from-reads.Asked,
-  earliest-from-reads.Learnt,
-) (earliest-block-at t) earliest-block.Post
-earliest-block-parent-requires t c κs = search needs
-
-earliest-block-earliest-block-requires : (t : ℕ) → earliest-block-lts.Need-earliest-block-requires (
-  parent-reads.Asked,
-  parent-reads.Learnt,
-  earliest-block-below t,
-  earliest-block.Post,
-  earliest-from-reads.Asked,
-  earliest-from-reads.Learnt,
-) (earliest-block-at t) earliest-block.Post
-earliest-block-earliest-block-requires t c κs = search needs
-
-earliest-block-earliest-from-requires : (t : ℕ) → earliest-block-lts.Need-earliest-from-requires (
-  parent-reads.Asked,
-  parent-reads.Learnt,
-  earliest-block-below t,
-  earliest-block.Post,
-  earliest-from-reads.Asked,
-  earliest-from-reads.Learnt,
-) (earliest-block-at t) earliest-block.Post
-earliest-block-earliest-from-requires t c κs = let p = c .before .before .before .before .pre .1 in (p .0, (p .1, omega (arith, c .earliest-block .ensures .small, c .before .if1 .taken)))
-
-earliest-block-returns : (t : ℕ) → earliest-block-lts.Need-returns (
-  parent-reads.Asked,
-  parent-reads.Learnt,
-  earliest-block-below t,
-  earliest-block.Post,
-  earliest-from-reads.Asked,
-  earliest-from-reads.Learnt,
-) (earliest-block-at t) earliest-block.Post
-earliest-block-returns t c = record { is = block-below _ _ _ _ (c .before .before .before .parent .ensures .is) _ _ (c .before .before .if1 .taken) (c .before .earliest-block .ensures .is) (c .earliest-from .ensures .is); small = c .earliest-from .ensures .small }
-
 earliest-block-earliest-from-requires-2 :
     (t : ℕ) → earliest-block-lts.Need-earliest-from-requires-2 (
       parent-reads.Asked,
@@ -82,16 +42,6 @@ earliest-block-earliest-from-requires-2 :
       earliest-from-reads.Learnt,
     ) (earliest-block-at t) earliest-block.Post
 earliest-block-earliest-from-requires-2 t c κs = search needs
-
-earliest-block-returns-2 : (t : ℕ) → earliest-block-lts.Need-returns-2 (
-  parent-reads.Asked,
-  parent-reads.Learnt,
-  earliest-block-below t,
-  earliest-block.Post,
-  earliest-from-reads.Asked,
-  earliest-from-reads.Learnt,
-) (earliest-block-at t) earliest-block.Post
-earliest-block-returns-2 t c = record { is = block-first _ _ _ _ (c .before .before .parent .ensures .is) _ (c .before .if1 .left) (c .earliest-from2 .ensures .is); small = c .earliest-from2 .ensures .small }
 
 pub +earliest-block-spec : {M : Type 1} → statement M
 +earliest-block-spec = close μ-earliest-block λ t. earliest-block-lts.spec (
@@ -104,9 +54,8 @@ pub +earliest-block-spec : {M : Type 1} → statement M
 )
     (earliest-block-at t)
     earliest-block.Post
-    (earliest-block-parent-requires t)
-    (earliest-block-earliest-block-requires t)
-    (earliest-block-earliest-from-requires t)
-    (earliest-block-returns t)
+    (λ c κs. search needs) (λ c κs. search needs)
+    (λ c κs. let p = c .before .before .before .before .pre .1 in (p .0, (p .1, omega (arith, c .earliest-block .ensures .small, c .before .if1 .taken))))
+    (λ c. record { is = block-below _ _ _ _ (c .before .before .before .parent .ensures .is) _ _ (c .before .before .if1 .taken) (c .before .earliest-block .ensures .is) (c .earliest-from .ensures .is); small = c .earliest-from .ensures .small })
     (earliest-block-earliest-from-requires-2 t)
-    (earliest-block-returns-2 t)
+    (λ c. record { is = block-first _ _ _ _ (c .before .before .parent .ensures .is) _ (c .before .if1 .left) (c .earliest-from2 .ensures .is); small = c .earliest-from2 .ensures .small })

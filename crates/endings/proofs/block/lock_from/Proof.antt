@@ -5,14 +5,8 @@ use borrow.Author.Needs.{needs}
 use Rattle.endings.proofs.block.lock_from.Statement.{statement}
 use Rattle.endings.proofs.block.lock_from.Tie as tie
 
-lock-type-requires : tie.Need-lock-type-requires
-lock-type-requires c κs = search needs
-
 returns : tie.Need-returns
 returns c = record { is = lock-none _ _ _ _ _ (c .before .lock-type .ensures) (c .if1 .taken); small = search needs }
-
-lock-blocks-requires : tie.Need-lock-blocks-requires
-lock-blocks-requires c κs = search needs
 
 returns-2 : tie.Need-returns-2
 returns-2 c = record { is = lock-days _ _ _ _ _ (c .before .before .before .lock-type .ensures) _ (c .before .lock-blocks .ensures .is) (c .before .before .if1 .left) (c .if2 .taken); small = omega (arith, c .before .lock-blocks .ensures .small) }
@@ -27,9 +21,9 @@ pub lock-from-spec : {M : Type 1} → statement M
 lock-from-spec =
     tie.close
     (tie.spec
-    lock-type-requires
+    (λ c κs. search needs)
     returns
-    lock-blocks-requires
+    (λ c κs. search needs)
     returns-2
     add-result
     returns-3)

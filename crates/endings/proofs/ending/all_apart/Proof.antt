@@ -17,23 +17,11 @@ Inv-loop sheet mask n x₀ x = (x ≤ n) × (allBelow x (λ k. allBelow (count s
 abbrev μ-loop : tie.MeasureT-loop
 μ-loop sheet mask n x₀ x = n - x
 
-count-requires : tie.Need-count-requires Inv-loop μ-loop
-count-requires c κs = search needs
-
 loop-holds : tie.Need-loop-holds Inv-loop μ-loop
 loop-holds c = (search needs, all-start _)
 
-apart-from-requires : tie.Need-apart-from-requires Inv-loop μ-loop
-apart-from-requires c κs = search needs
-
 returns : tie.Need-returns Inv-loop μ-loop
 returns c = sym (all-broken _ _ _ (omega (arith, c .before .before .loop-test .taken, c .before .before .before .before .count .ensures .is)) (sym (c .before .apart-from .ensures) ∙ not-true _ (c .if1 .taken)))
-
-add-x : tie.Need-add-x Inv-loop μ-loop
-add-x c = search needs
-
-loop-less : tie.Need-loop-less Inv-loop μ-loop
-loop-less c = search needs
 
 loop-again : tie.Need-loop-again Inv-loop μ-loop
 loop-again c = (search needs, all-more _ _ (c .before .before .before .loop .inv .1) (sym (c .before .apart-from .ensures) ∙ not-false _ (c .if1 .left)))
@@ -47,11 +35,10 @@ all-apart-spec =
     (tie.spec
     Inv-loop
     μ-loop
-    count-requires
+    (λ c κs. search needs)
     loop-holds
-    apart-from-requires
+    (λ c κs. search needs)
     returns
-    add-x
-    loop-less
+    (λ c. search needs) (λ c. search needs)
     loop-again
     returns-2)

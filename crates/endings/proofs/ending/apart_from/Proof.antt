@@ -15,23 +15,11 @@ Inv-loop sheet mask x n y₀ y = (y ≤ n) × (allBelow y (coinsApart sheet mask
 abbrev μ-loop : tie.MeasureT-loop
 μ-loop sheet mask x n y₀ y = n - y
 
-count-requires : tie.Need-count-requires Inv-loop μ-loop
-count-requires c κs = search needs
-
 loop-holds : tie.Need-loop-holds Inv-loop μ-loop
 loop-holds c = (search needs, all-start _)
 
-coins-apart-requires : tie.Need-coins-apart-requires Inv-loop μ-loop
-coins-apart-requires c κs = search needs
-
 returns : tie.Need-returns Inv-loop μ-loop
 returns c = rw (← (c .before .before .before .before .count .ensures .is)) (sym (all-broken _ _ _ (c .before .before .loop-test .taken) (sym (c .before .coins-apart .ensures) ∙ not-true _ (c .if1 .taken))))
-
-add-y : tie.Need-add-y Inv-loop μ-loop
-add-y c = search needs
-
-loop-less : tie.Need-loop-less Inv-loop μ-loop
-loop-less c = search needs
 
 loop-again : tie.Need-loop-again Inv-loop μ-loop
 loop-again c = (search needs, all-more _ _ (c .before .before .before .loop .inv .1) (sym (c .before .coins-apart .ensures) ∙ not-false _ (c .if1 .left)))
@@ -45,11 +33,10 @@ apart-from-spec =
     (tie.spec
     Inv-loop
     μ-loop
-    count-requires
+    (λ c κs. search needs)
     loop-holds
-    coins-apart-requires
+    (λ c κs. search needs)
     returns
-    add-y
-    loop-less
+    (λ c. search needs) (λ c. search needs)
     loop-again
     returns-2)

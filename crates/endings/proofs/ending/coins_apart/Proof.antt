@@ -4,23 +4,11 @@ use borrow.Author.Needs.{needs}
 use Rattle.endings.proofs.ending.coins_apart.Statement.{statement}
 use Rattle.endings.proofs.ending.coins_apart.Tie as tie
 
-has-requires : tie.Need-has-requires
-has-requires c κs = search needs
-
 returns : tie.Need-returns
 returns c = apart-first _ _ _ _ _ (c .before .has .ensures) (c .if1 .taken)
 
-has-requires-2 : tie.Need-has-requires-2
-has-requires-2 c κs = search needs
-
 returns-2 : tie.Need-returns-2
 returns-2 c = apart-second _ _ _ _ _ (c .before .before .before .has .ensures) _ (c .before .has2 .ensures) (c .before .before .if1 .left) (c .if2 .taken)
-
-coin-of-requires : tie.Need-coin-of-requires
-coin-of-requires c κs = search needs
-
-coin-of-requires-2 : tie.Need-coin-of-requires-2
-coin-of-requires-2 c κs = search needs
 
 returns-3 : tie.Need-returns-3
 returns-3 c = apart-coins _ _ _ _ _ (c .before .before .before .before .before .before .has .ensures) _ (c .before .before .before .before .has2 .ensures) (c .before .before .before .before .before .if1 .left) _ _ (c .before .before .coin-of .ensures) (c .before .coin-of2 .ensures) (c .before .before .before .if2 .left) (c .if3 .taken)
@@ -32,11 +20,10 @@ pub coins-apart-spec : {M : Type 1} → statement M
 coins-apart-spec =
     tie.close
     (tie.spec
-    has-requires
+    (λ c κs. search needs)
     returns
-    has-requires-2
+    (λ c κs. search needs)
     returns-2
-    coin-of-requires
-    coin-of-requires-2
+    (λ c κs. search needs) (λ c κs. search needs)
     returns-3
     returns-4)

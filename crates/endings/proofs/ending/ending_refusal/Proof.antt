@@ -6,18 +6,9 @@ use borrow.Author.Needs.{needs}
 use Rattle.endings.proofs.ending.ending_refusal.Statement.{statement}
 use Rattle.endings.proofs.ending.ending_refusal.Tie as tie
 
-ending-right-requires : tie.Need-ending-right-requires
-ending-right-requires c κs = search needs
-
 returns : tie.Need-returns
 unfolding endingTests
 returns c = fails 33 _ _ _ (c .before .ending-right .ensures) (c .if1 .taken)
-
-per-day-requires : tie.Need-per-day-requires
-per-day-requires c κs = search needs
-
-is-possible-requires : tie.Need-is-possible-requires
-is-possible-requires c κs = search needs
 
 returns-2 : tie.Need-returns-2
 unfolding endingTests
@@ -31,9 +22,8 @@ pub ending-refusal-spec : {M : Type 1} → statement M
 ending-refusal-spec =
     tie.close
     (tie.spec
-    ending-right-requires
+    (λ c κs. search needs)
     returns
-    per-day-requires
-    is-possible-requires
+    (λ c κs. search needs) (λ c κs. search needs)
     returns-2
     returns-3)

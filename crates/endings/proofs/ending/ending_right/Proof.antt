@@ -4,20 +4,8 @@ use borrow.Author.Needs.{needs}
 use Rattle.endings.proofs.ending.ending_right.Statement.{statement}
 use Rattle.endings.proofs.ending.ending_right.Tie as tie
 
-count-requires : tie.Need-count-requires
-count-requires c κs = search needs
-
-mask-within-requires : tie.Need-mask-within-requires
-mask-within-requires c κs = search needs
-
 returns : tie.Need-returns
 returns c = right-outside _ _ _ _ (mask-by _ _ _ _ (c .before .before .count .ensures .is) (c .before .mask-within .ensures)) (c .if1 .taken)
-
-ones-below-requires : tie.Need-ones-below-requires
-ones-below-requires c κs = search needs
-
-mul-if2 : tie.Need-mul-if2
-mul-if2 c = search needs
 
 returns-2 : tie.Need-returns-2
 returns-2 c = right-short _ _ _ _ (mask-by _ _ _ _ (c .before .before .before .before .count .ensures .is) (c .before .before .before .mask-within .ensures)) _ (ones-by _ _ _ _ (c .before .before .before .before .count .ensures .is) (c .before .ones-below .ensures .is)) (c .before .before .if1 .left) (c .if2 .taken)
@@ -32,11 +20,9 @@ pub ending-right-spec : {M : Type 1} → statement M
 ending-right-spec =
     tie.close
     (tie.spec
-    count-requires
-    mask-within-requires
+    (λ c κs. search needs) (λ c κs. search needs)
     returns
-    ones-below-requires
-    mul-if2
+    (λ c κs. search needs) (λ c. search needs)
     returns-2
     all-named-requires
     returns-3)

@@ -4,12 +4,6 @@ use Rattle.endings.specs.Ending.{isPossible}
 use Rattle.endings.proofs.ending.is_possible.Statement.{statement}
 use Rattle.endings.proofs.ending.is_possible.Tie as tie
 
-all-apart-requires : tie.Need-all-apart-requires
-all-apart-requires c κs = search needs
-
-all-in-time-requires : tie.Need-all-in-time-requires
-all-in-time-requires c κs = search needs
-
 returns : tie.Need-returns
 unfolding isPossible
 returns c = simp (← (c .before .before .all-apart .ensures), c .before .if1 .taken, ← (c .all-in-time .ensures))
@@ -19,4 +13,4 @@ unfolding isPossible
 returns-2 c = simp (← (c .before .all-apart .ensures), c .if1 .left)
 
 pub is-possible-spec : {M : Type 1} → statement M
-is-possible-spec = tie.close (tie.spec all-apart-requires all-in-time-requires returns returns-2)
+is-possible-spec = tie.close (tie.spec (λ c κs. search needs) (λ c κs. search needs) returns returns-2)

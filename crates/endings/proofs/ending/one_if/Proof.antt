@@ -4,9 +4,6 @@ use borrow.Author.Needs.{needs}
 use Rattle.endings.proofs.ending.one_if.Statement.{statement}
 use Rattle.endings.proofs.ending.one_if.Tie as tie
 
-has-requires : tie.Need-has-requires
-has-requires c κs = search needs
-
 returns : tie.Need-returns
 returns c = rw (sym (c .before .has .ensures) ∙ c .if1 .taken) (record { is = refl; few = search needs })
 
@@ -14,4 +11,4 @@ returns-2 : tie.Need-returns-2
 returns-2 c = rw (sym (c .before .has .ensures) ∙ c .if1 .left) (record { is = refl; few = search needs })
 
 pub one-if-spec : {M : Type 1} → statement M
-one-if-spec = tie.close (tie.spec has-requires returns returns-2)
+one-if-spec = tie.close (tie.spec (λ c κs. search needs) returns returns-2)

@@ -18,17 +18,8 @@ abbrev μ-loop : tie.MeasureT-loop
 loop-holds : tie.Need-loop-holds Inv-loop μ-loop
 loop-holds c = (search needs, search needs, sum-start _)
 
-one-if-requires : tie.Need-one-if-requires Inv-loop μ-loop
-one-if-requires c κs = search needs
-
 add-sum : tie.Need-add-sum Inv-loop μ-loop
 add-sum c = let h = c .one-if .ensures .few in let g = c .before .before .loop .inv .1 in search needs
-
-add-t : tie.Need-add-t Inv-loop μ-loop
-add-t c = search needs
-
-loop-less : tie.Need-loop-less Inv-loop μ-loop
-loop-less c = search needs
 
 loop-again : tie.Need-loop-again Inv-loop μ-loop
 loop-again c = (search needs, omega (arith, c .before .before .loop .inv .1, c .one-if .ensures .few), sum-more _ _ _ _ (c .before .before .loop .inv .2) (c .one-if .ensures .is))
@@ -44,9 +35,8 @@ ones-below-spec =
     Inv-loop
     μ-loop
     loop-holds
-    one-if-requires
+    (λ c κs. search needs)
     add-sum
-    add-t
-    loop-less
+    (λ c. search needs) (λ c. search needs)
     loop-again
     returns)

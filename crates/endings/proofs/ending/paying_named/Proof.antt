@@ -7,23 +7,11 @@ use borrow.Author.Needs.{needs}
 use Rattle.endings.proofs.ending.paying_named.Statement.{statement}
 use Rattle.endings.proofs.ending.paying_named.Tie as tie
 
-has-requires : tie.Need-has-requires
-has-requires c κs = search needs
-
 returns : tie.Need-returns
 returns c = named-out _ _ _ _ _ (c .before .has .ensures) (c .if1 .taken)
 
-ones-below-requires : tie.Need-ones-below-requires
-ones-below-requires c κs = search needs
-
-mul-u32-at : tie.Need-mul-u32-at
-mul-u32-at c = search needs
-
 u32-at-requires : tie.Need-u32-at-requires
 u32-at-requires c κs = let p = c .before .before .before .before .before .pre in ones-room _ _ _ _ _ (p .1 .0) (held _ _ (c .before .before .has .ensures) (c .before .if1 .left)) (c .ones-below .ensures .is) (p .1 .1)
-
-pays-requires : tie.Need-pays-requires
-pays-requires c κs = search needs
 
 returns-2 : tie.Need-returns-2
 unfolding destinationOf
@@ -33,10 +21,9 @@ pub paying-named-spec : {M : Type 1} → statement M
 paying-named-spec =
     tie.close
     (tie.spec
-    has-requires
+    (λ c κs. search needs)
     returns
-    ones-below-requires
-    mul-u32-at
+    (λ c κs. search needs) (λ c. search needs)
     u32-at-requires
-    pays-requires
+    (λ c κs. search needs)
     returns-2)

@@ -6,18 +6,9 @@ use borrow.Author.Needs.{needs}
 use Rattle.endings.proofs.ending.pays.Statement.{statement}
 use Rattle.endings.proofs.ending.pays.Tie as tie
 
-is-contract-requires : tie.Need-is-contract-requires
-is-contract-requires c κs = search needs
-
 returns : tie.Need-returns
 unfolding sharesTo
 returns c = simp (← (c .before .is-contract .ensures), c .if1 .taken)
-
-cast-is-payee : tie.Need-cast-is-payee
-cast-is-payee c = search needs
-
-is-payee-requires : tie.Need-is-payee-requires
-is-payee-requires c κs = search needs
 
 returns-2 : tie.Need-returns-2
 unfolding sharesTo
@@ -30,4 +21,4 @@ returns-3 c = rw (← (c .before .before .is-contract .ensures), c .before .if1 
 pub pays-spec : {M : Type 1} → statement M
 pays-spec =
     tie.close
-    (tie.spec is-contract-requires returns cast-is-payee is-payee-requires returns-2 returns-3)
+    (tie.spec (λ c κs. search needs) returns (λ c. search needs) (λ c κs. search needs) returns-2 returns-3)

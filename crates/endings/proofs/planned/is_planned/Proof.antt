@@ -16,24 +16,12 @@ Inv-loop sheet mask t n x₀ x = (x ≤ n) × (anyBelow x (λ k. bit mask k && i
 abbrev μ-loop : tie.MeasureT-loop
 μ-loop sheet mask t n x₀ x = n - x
 
-count-requires : tie.Need-count-requires Inv-loop μ-loop
-count-requires c κs = search needs
-
 loop-holds : tie.Need-loop-holds Inv-loop μ-loop
 loop-holds c = (search needs, any-start _)
-
-leads-to-requires : tie.Need-leads-to-requires Inv-loop μ-loop
-leads-to-requires c κs = search needs
 
 returns : tie.Need-returns Inv-loop μ-loop
 unfolding planned
 returns c = rw (← (c .before .before .before .before .count .ensures .is)) (sym (any-found _ _ _ (c .before .before .loop-test .taken) (sym (c .before .leads-to .ensures) ∙ c .if1 .taken)))
-
-add-x : tie.Need-add-x Inv-loop μ-loop
-add-x c = search needs
-
-loop-less : tie.Need-loop-less Inv-loop μ-loop
-loop-less c = search needs
 
 loop-again : tie.Need-loop-again Inv-loop μ-loop
 loop-again c = (search needs, any-more _ _ (c .before .before .before .loop .inv .1) (sym (c .before .leads-to .ensures) ∙ c .if1 .left))
@@ -48,11 +36,10 @@ is-planned-spec =
     (tie.spec
     Inv-loop
     μ-loop
-    count-requires
+    (λ c κs. search needs)
     loop-holds
-    leads-to-requires
+    (λ c κs. search needs)
     returns
-    add-x
-    loop-less
+    (λ c. search needs) (λ c. search needs)
     loop-again
     returns-2)

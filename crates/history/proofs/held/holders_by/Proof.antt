@@ -16,23 +16,8 @@ Inv-loop sheet report n held₀ coin₀ held coin = (coin ≤ n) × (held ≡ re
 abbrev μ-loop : tie.MeasureT-loop
 μ-loop sheet report n held₀ coin₀ held coin = n - coin
 
-count-requires : tie.Need-count-requires Inv-loop μ-loop
-count-requires c κs = search needs
-
 loop-holds : tie.Need-loop-holds Inv-loop μ-loop
 loop-holds c = (search needs, rewrite-start _ _)
-
-reported-holder-requires : tie.Need-reported-holder-requires Inv-loop μ-loop
-reported-holder-requires c κs = search needs
-
-array-write-held : tie.Need-array-write-held Inv-loop μ-loop
-array-write-held c = search needs
-
-add-coin : tie.Need-add-coin Inv-loop μ-loop
-add-coin c = search needs
-
-loop-less : tie.Need-loop-less Inv-loop μ-loop
-loop-less c = search needs
 
 loop-again : tie.Need-loop-again Inv-loop μ-loop
 loop-again c = (search needs, rewrite-again _ _ _ _ 255 _ (c .before .before .loop .inv .1) (c .reported-holder .ensures))
@@ -47,11 +32,8 @@ holders-by-spec =
     (tie.spec
     Inv-loop
     μ-loop
-    count-requires
+    (λ c κs. search needs)
     loop-holds
-    reported-holder-requires
-    array-write-held
-    add-coin
-    loop-less
+    (λ c κs. search needs) (λ c. search needs) (λ c. search needs) (λ c. search needs)
     loop-again
     returns)

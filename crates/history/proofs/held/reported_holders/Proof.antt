@@ -13,12 +13,6 @@ returns : tie.Need-returns
 unfolding reportedHolders
 returns c = simp (tests, c .if1 .taken)
 
-count-requires : tie.Need-count-requires
-count-requires c κs = search needs
-
-mul-size : tie.Need-mul-size
-mul-size c = search needs
-
 slice-aggregate-holders-by : tie.Need-slice-aggregate-holders-by
 slice-aggregate-holders-by c =
     sym (length-take-le _ _ (omega (arith, c .before .count .ensures .is, c .before .before .before .before .before .pre .1)))
@@ -36,4 +30,4 @@ returns-2 c = simp (tests, c .before .before .before .if1 .left, ← (c .before 
 pub reported-holders-spec : {M : Type 1} → statement M
 reported-holders-spec =
     tie.close
-    (tie.spec returns count-requires mul-size slice-aggregate-holders-by holders-by-requires returns-2)
+    (tie.spec returns (λ c κs. search needs) (λ c. search needs) slice-aggregate-holders-by holders-by-requires returns-2)

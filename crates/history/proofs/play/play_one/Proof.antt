@@ -9,9 +9,6 @@ use Rattle.history.proofs.play.play_one.Tie as tie
 step-at-requires : tie.Need-step-at-requires
 step-at-requires c κs = let p = c .before .before .before .before .pre in (p .0, p .1 .0)
 
-one-if-taken-requires : tie.Need-one-if-taken-requires
-one-if-taken-requires c κs = search needs
-
 add-accepted : tie.Need-add-accepted
 add-accepted c = let p = c .before .before .before .before .before .before .before .before .pre in omega (arith, one-at-most (c .before .before .before .step-at .result .refusal) _ (c .before .one-if-taken .ensures), p .1 .0, p .1 .1)
 
@@ -20,4 +17,4 @@ unfolding playedOne
 returns c = rw (c .before .one-if-taken .ensures, c .before .before .before .step-at .ensures)
 
 pub play-one-spec : {M : Type 1} → statement M
-play-one-spec = tie.close (tie.spec step-at-requires one-if-taken-requires add-accepted returns)
+play-one-spec = tie.close (tie.spec step-at-requires (λ c κs. search needs) add-accepted returns)

@@ -12,25 +12,13 @@ Inv-loop sheet setup steps n played₀ k₀ played k = Playing sheet setup steps
 abbrev μ-loop : tie.MeasureT-loop
 μ-loop sheet setup steps n played₀ k₀ played k = n - k
 
-start-requires : tie.Need-start-requires Inv-loop μ-loop
-start-requires c κs = search needs
-
 loop-holds : tie.Need-loop-holds Inv-loop μ-loop
 loop-holds c = playing-start _ _ _ _ (c .start .ensures)
-
-mul-play-one : tie.Need-mul-play-one Inv-loop μ-loop
-mul-play-one c = search needs
 
 play-one-requires : tie.Need-play-one-requires Inv-loop μ-loop
 play-one-requires c κs =
     let p = c .before .before .before .before .before .before .pre in
     (p, (omega (arith, c .loop-test .taken), omega (arith, c .before .loop .inv .low)))
-
-add-k : tie.Need-add-k Inv-loop μ-loop
-add-k c = search needs
-
-loop-less : tie.Need-loop-less Inv-loop μ-loop
-loop-less c = search needs
 
 loop-again : tie.Need-loop-again Inv-loop μ-loop
 loop-again c = playing-more _ _ _ _ _ _ (c .before .before .loop .inv) (omega (arith, c .before .loop-test .taken)) (c .play-one .ensures)
@@ -44,11 +32,10 @@ play-steps-spec =
     (tie.spec
     Inv-loop
     μ-loop
-    start-requires
+    (λ c κs. search needs)
     loop-holds
-    mul-play-one
+    (λ c. search needs)
     play-one-requires
-    add-k
-    loop-less
+    (λ c. search needs) (λ c. search needs)
     loop-again
     returns)

@@ -13,29 +13,17 @@ Inv-loop sheet setup steps out₀ n here₀ at₀ k₀ out here at k = Writing (
 abbrev μ-loop : tie.MeasureT-loop
 μ-loop sheet setup steps out₀ n here₀ at₀ k₀ out here at k = n - k
 
-start-requires : tie.Need-start-requires Inv-loop μ-loop
-start-requires c κs = search needs
-
 loop-holds : tie.Need-loop-holds Inv-loop μ-loop
 loop-holds c = writing-start _ _ _ _ (bytes-start _ _ _ _ (c .start .ensures)) (c .before .before .before .before .before .pre .1)
 
-mul-step-at : tie.Need-mul-step-at Inv-loop μ-loop
-mul-step-at c = search needs
-
 step-at-requires : tie.Need-step-at-requires Inv-loop μ-loop
 step-at-requires c κs = let p = c .before .before .before .before .before .before .before .pre in (p .0, omega (arith, c .loop-test .taken))
-
-mul-write-taken : tie.Need-mul-write-taken Inv-loop μ-loop
-mul-write-taken c = search needs
 
 sub-write-taken : tie.Need-sub-write-taken Inv-loop μ-loop
 sub-write-taken c = omega (arith, c .before .before .before .loop .inv .wrote)
 
 part-write-taken-start : tie.Need-part-write-taken-start Inv-loop μ-loop
 part-write-taken-start c = omega (arith, c .before .before .before .loop .inv .wrote)
-
-part-write-taken-end : tie.Need-part-write-taken-end Inv-loop μ-loop
-part-write-taken-end c = search needs
 
 write-taken-requires : tie.Need-write-taken-requires Inv-loop μ-loop
 write-taken-requires c κs =
@@ -47,12 +35,6 @@ add-at c =
     let t = c .before .before .before .before .before .before .loop-test .taken in
     let e = c .before .before .before .before .before .step-at .ensures in
     omega (arith, turn-end _ _ _ (c .before .before .before .before .before .before .before .loop .inv) _ (omega (arith, t)) e _ (c .before .before .write-taken .ensures .0))
-
-add-k : tie.Need-add-k Inv-loop μ-loop
-add-k c = search needs
-
-loop-less : tie.Need-loop-less Inv-loop μ-loop
-loop-less c = search needs
 
 loop-again : tie.Need-loop-again Inv-loop μ-loop
 loop-again c =
@@ -73,18 +55,17 @@ write-accepted-spec =
     (tie.spec
     Inv-loop
     μ-loop
-    start-requires
+    (λ c κs. search needs)
     loop-holds
-    mul-step-at
+    (λ c. search needs)
     step-at-requires
-    mul-write-taken
+    (λ c. search needs)
     sub-write-taken
     part-write-taken-start
-    part-write-taken-end
+    (λ c. search needs)
     write-taken-requires
     add-at
-    add-k
-    loop-less
+    (λ c. search needs) (λ c. search needs)
     loop-again
     same-length
     returns)

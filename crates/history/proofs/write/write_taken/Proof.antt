@@ -5,32 +5,8 @@ use borrow.Author.Needs.{needs}
 use Rattle.history.proofs.write.write_taken.Statement.{statement}
 use Rattle.history.proofs.write.write_taken.Tie as tie
 
-shared-slice-read-write-step : tie.Need-shared-slice-read-write-step
-shared-slice-read-write-step c = search needs
-
-add-write-step : tie.Need-add-write-step
-add-write-step c = search needs
-
-shared-slice-read-write-step-2 : tie.Need-shared-slice-read-write-step-2
-shared-slice-read-write-step-2 c = search needs
-
-add-write-step-2 : tie.Need-add-write-step-2
-add-write-step-2 c = search needs
-
-shared-slice-read-write-step-3 : tie.Need-shared-slice-read-write-step-3
-shared-slice-read-write-step-3 c = search needs
-
-add-write-step-3 : tie.Need-add-write-step-3
-add-write-step-3 c = search needs
-
-shared-slice-read-write-step-4 : tie.Need-shared-slice-read-write-step-4
-shared-slice-read-write-step-4 c = search needs
-
 write-step-requires : tie.Need-write-step-requires
 write-step-requires c κs = let a = c .before .before .before .before .before .before .before .args in rw (taken-bytes (now (a .steps)) (a .i) (a .refusal)) (c .before .before .before .before .before .before .before .pre .1)
-
-same-length : tie.Need-same-length
-same-length c = search needs
 
 returns : tie.Need-returns
 returns c = let a = c .before .before .before .before .before .before .before .before .before .before .args in rw (← (taken-bytes (now (a .steps)) (a .i) (a .refusal))) (c .before .before .write-step .ensures)
@@ -39,13 +15,8 @@ pub write-taken-spec : {M : Type 1} → statement M
 write-taken-spec =
     tie.close
     (tie.spec
-    shared-slice-read-write-step
-    add-write-step
-    shared-slice-read-write-step-2
-    add-write-step-2
-    shared-slice-read-write-step-3
-    add-write-step-3
-    shared-slice-read-write-step-4
+    (λ c. search needs) (λ c. search needs) (λ c. search needs) (λ c. search needs) (λ c. search needs) (λ c. search needs)
+    (λ c. search needs)
     write-step-requires
-    same-length
+    (λ c. search needs)
     returns)

@@ -47,9 +47,6 @@ sub-write-two c = omega (arith, one c)
 part-write-two-start : tie.Need-part-write-two-start
 part-write-two-start c = omega (arith, one c)
 
-part-write-two-end : tie.Need-part-write-two-end
-part-write-two-end c = search needs
-
 write-two-requires-2 : tie.Need-write-two-requires-2
 write-two-requires-2 c κs = let s = c .before .before .before .before .before .before in wrote-room _ _ _ (rest s) _ (one (c .before)) (fits s)
 
@@ -67,7 +64,7 @@ write-all-spec =
     write-two-requires
     sub-write-two
     part-write-two-start
-    part-write-two-end
+    (λ c. search needs)
     write-two-requires-2
     same-length
     returns)

@@ -5,9 +5,6 @@ use borrow.Author.Needs.{needs}
 use Rattle.lists.proofs.listing.write_fitting.Statement.{statement}
 use Rattle.lists.proofs.listing.write_fitting.Tie as tie
 
-sets-count-requires : tie.Need-sets-count-requires
-sets-count-requires c κs = search needs
-
 mul-if1 : tie.Need-mul-if1
 mul-if1 c =
     let a = c .before .before .args in
@@ -24,9 +21,6 @@ cast-t13 c =
     let a = c .before .before .before .before .before .before .before .args in
     record { fits = omega (arith, c .before .before .before .before .before .sets-count .ensures, sets-bound (a .alice) (a .bob) (a .carol) (a .miner)) }
 
-same-length : tie.Need-same-length
-same-length c = search needs
-
 returns-2 : tie.Need-returns-2
 returns-2 c = gives-whole _ _ _ _ _ _ (c .before .before .before .before .before .sets-count .ensures) _ (c .before .before .before .before .if1 .left) (c .before .before .write-all .ensures)
 
@@ -34,10 +28,10 @@ pub write-fitting-spec : {M : Type 1} → statement M
 write-fitting-spec =
     tie.close
     (tie.spec
-    sets-count-requires
+    (λ c κs. search needs)
     mul-if1
     returns
     write-all-requires
     cast-t13
-    same-length
+    (λ c. search needs)
     returns-2)

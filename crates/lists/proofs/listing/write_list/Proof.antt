@@ -33,12 +33,6 @@ open-sets-requires-4 c κs =
     let q = c .before .before .before .before .before .before .before .before .before .pre in
     (q, (c .before .before .before .before .before .view .ensures, (c .before .before .before .before .outlook .ensures, c .before .before .before .any-owed .ensures)))
 
-write-fitting-requires : tie.Need-write-fitting-requires
-write-fitting-requires c κs = search needs
-
-same-length : tie.Need-same-length
-same-length c = search needs
-
 returns : tie.Need-returns
 returns c = gives-sets _ _ _ _ _ _ _ _ _ _ _ (c .before .before .before .before .before .before .before .open-sets .ensures) (c .before .before .before .before .before .before .open-sets2 .ensures) (c .before .before .before .before .before .open-sets3 .ensures) (c .before .before .before .before .open-sets4 .ensures) (c .before .before .write-fitting .ensures)
 
@@ -53,6 +47,5 @@ write-list-spec =
     open-sets-requires-2
     open-sets-requires-3
     open-sets-requires-4
-    write-fitting-requires
-    same-length
+    (λ c κs. search needs) (λ c. search needs)
     returns)

@@ -48,9 +48,6 @@ sub-write-actor c = omega (arith, one c)
 part-write-actor-start : tie.Need-part-write-actor-start
 part-write-actor-start c = omega (arith, one c)
 
-part-write-actor-end : tie.Need-part-write-actor-end
-part-write-actor-end c = search needs
-
 write-actor-requires-2 : tie.Need-write-actor-requires-2
 write-actor-requires-2 c κs = let s = c .before .before .before .before .before .before in wrote-room _ _ _ (rest s) _ (one (c .before)) (fits s)
 
@@ -71,7 +68,7 @@ write-two-spec =
     write-actor-requires
     sub-write-actor
     part-write-actor-start
-    part-write-actor-end
+    (λ c. search needs)
     write-actor-requires-2
     add-result
     same-length

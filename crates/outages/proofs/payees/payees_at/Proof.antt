@@ -3,12 +3,6 @@ use borrow.Author.Needs.{needs}
 use Rattle.outages.proofs.payees.payees_at.Statement.{statement}
 use Rattle.outages.proofs.payees.payees_at.Tie as tie
 
-has-requires : tie.Need-has-requires
-has-requires c κs = search needs
-
-payees-requires : tie.Need-payees-requires
-payees-requires c κs = search needs
-
 returns : tie.Need-returns
 returns c = simp (← (c .before .before .has .ensures), c .before .if1 .taken, c .payees .ensures)
 
@@ -16,4 +10,4 @@ returns-2 : tie.Need-returns-2
 returns-2 c = simp (← (c .before .has .ensures), c .if1 .left)
 
 pub payees-at-spec : {M : Type 1} → statement M
-payees-at-spec = tie.close (tie.spec has-requires payees-requires returns returns-2)
+payees-at-spec = tie.close (tie.spec (λ c κs. search needs) (λ c κs. search needs) returns returns-2)

@@ -17,26 +17,8 @@ Inv-loop sheet t lines n found₀ k₀ found k = (k ≤ n) × (found ≡ unionBe
 abbrev μ-loop : tie.MeasureT-loop
 μ-loop sheet t lines n found₀ k₀ found k = n - k
 
-count-requires : tie.Need-count-requires Inv-loop μ-loop
-count-requires c κs = search needs
-
 loop-holds : tie.Need-loop-holds Inv-loop μ-loop
 loop-holds c = (search needs, union-start _)
-
-mul-payees-at : tie.Need-mul-payees-at Inv-loop μ-loop
-mul-payees-at c = search needs
-
-array-read-payees-at : tie.Need-array-read-payees-at Inv-loop μ-loop
-array-read-payees-at c = search needs
-
-payees-at-requires : tie.Need-payees-at-requires Inv-loop μ-loop
-payees-at-requires c κs = search needs
-
-add-k : tie.Need-add-k Inv-loop μ-loop
-add-k c = search needs
-
-loop-less : tie.Need-loop-less Inv-loop μ-loop
-loop-less c = search needs
 
 loop-again : tie.Need-loop-again Inv-loop μ-loop
 loop-again c = (search needs, union-more _ _ _ _ (c .before .before .loop .inv .1) (c .payees-at .ensures))
@@ -51,12 +33,8 @@ payees-below-spec =
     (tie.spec
     Inv-loop
     μ-loop
-    count-requires
+    (λ c κs. search needs)
     loop-holds
-    mul-payees-at
-    array-read-payees-at
-    payees-at-requires
-    add-k
-    loop-less
+    (λ c. search needs) (λ c. search needs) (λ c κs. search needs) (λ c. search needs) (λ c. search needs)
     loop-again
     returns)

@@ -38,9 +38,6 @@ two c =
     let s = c .before .before .before .before .before in
     wrote-more (head s) _ (stored s) (pair s) _ 2 8 (one s) (fits s) (sym (eight s)) (c .before .before .write-pair .ensures)
 
-slice-write-out : tie.Need-slice-write-out
-slice-write-out c = search needs
-
 slice-write-out-2 : tie.Need-slice-write-out-2
 slice-write-out-2 c = simp length-set (omega arith)
 
@@ -49,9 +46,6 @@ sub-write-pair c = omega (arith, one (c .before))
 
 part-write-pair-start : tie.Need-part-write-pair-start
 part-write-pair-start c = omega (arith, one (c .before))
-
-part-write-pair-end : tie.Need-part-write-pair-end
-part-write-pair-end c = search needs
 
 write-pair-requires : tie.Need-write-pair-requires
 write-pair-requires c κs =
@@ -67,11 +61,11 @@ pub write-row-spec : {M : Type 1} → statement M
 write-row-spec =
     tie.close
     (tie.spec
-    slice-write-out
+    (λ c. search needs)
     slice-write-out-2
     sub-write-pair
     part-write-pair-start
-    part-write-pair-end
+    (λ c. search needs)
     write-pair-requires
     same-length
     returns)

@@ -21,50 +21,17 @@ Inv-loop sheet setup blocks out₀ position n per-day view struck soonest lines 
 abbrev μ-loop : tie.MeasureT-loop
 μ-loop sheet setup blocks out₀ position n per-day view struck soonest lines at₀ t₀ out at t = n - t
 
-count-requires : tie.Need-count-requires Inv-loop μ-loop
-count-requires c κs = search needs
-
-per-day-requires : tie.Need-per-day-requires Inv-loop μ-loop
-per-day-requires c κs = search needs
-
-view-requires : tie.Need-view-requires Inv-loop μ-loop
-view-requires c κs = search needs
-
-conflicts-of-requires : tie.Need-conflicts-of-requires Inv-loop μ-loop
-conflicts-of-requires c κs = search needs
-
-soonest-blocks-requires : tie.Need-soonest-blocks-requires Inv-loop μ-loop
-soonest-blocks-requires c κs = search needs
-
-lines-requires : tie.Need-lines-requires Inv-loop μ-loop
-lines-requires c κs = search needs
-
 loop-holds : tie.Need-loop-holds Inv-loop μ-loop
 loop-holds c =
     let k = c .before .before .before .before .before .before .before .before .before in
     let n = c .before .before .before .before .before .count in
     turns-start _ _ _ (rows-room (k .args .sheet .now) (k .args .setup .now) (k .args .t1) (k .args .blocks) (n .result) _ (n .ensures .is) (k .pre .1))
 
-slot-above-requires : tie.Need-slot-above-requires Inv-loop μ-loop
-slot-above-requires c κs = search needs
-
-mul-above : tie.Need-mul-above Inv-loop μ-loop
-mul-above c = search needs
-
-element-copy-out-above : tie.Need-element-copy-out-above Inv-loop μ-loop
-element-copy-out-above c = search needs
-
-block-above-requires : tie.Need-block-above-requires Inv-loop μ-loop
-block-above-requires c κs = search needs
-
 sub-write-at : tie.Need-sub-write-at Inv-loop μ-loop
 sub-write-at c = omega (arith, c .before .before .before .before .loop .inv .wrote)
 
 part-write-at-start : tie.Need-part-write-at-start Inv-loop μ-loop
 part-write-at-start c = omega (arith, c .before .before .before .before .loop .inv .wrote)
-
-part-write-at-end : tie.Need-part-write-at-end Inv-loop μ-loop
-part-write-at-end c = search needs
 
 write-at-requires : tie.Need-write-at-requires Inv-loop μ-loop
 write-at-requires c κs =
@@ -80,12 +47,6 @@ add-at c =
     let k = c .before .before .before .before .before .before .before .before .before .before .before .before .before .before .before .before .before .before in
     let i = c .before .before .before .before .before .before .before .before .loop in
     omega (arith, turn-end _ _ _ _ _ _ 10 (i .inv) (c .before .before .before .before .before .before .before .loop-test .taken) (sym (row-length (k .args .sheet .now) (k .args .setup .now) (k .args .t1) (k .args .blocks) (i .t))))
-
-add-t : tie.Need-add-t Inv-loop μ-loop
-add-t c = search needs
-
-loop-less : tie.Need-loop-less Inv-loop μ-loop
-loop-less c = search needs
 
 loop-again : tie.Need-loop-again Inv-loop μ-loop
 unfolding sinceIn slot
@@ -113,24 +74,16 @@ write-rows-spec =
     (tie.spec
     Inv-loop
     μ-loop
-    count-requires
-    per-day-requires
-    view-requires
-    conflicts-of-requires
-    soonest-blocks-requires
-    lines-requires
+    (λ c κs. search needs) (λ c κs. search needs) (λ c κs. search needs) (λ c κs. search needs) (λ c κs. search needs)
+    (λ c κs. search needs)
     loop-holds
-    slot-above-requires
-    mul-above
-    element-copy-out-above
-    block-above-requires
+    (λ c κs. search needs) (λ c. search needs) (λ c. search needs) (λ c κs. search needs)
     sub-write-at
     part-write-at-start
-    part-write-at-end
+    (λ c. search needs)
     write-at-requires
     add-at
-    add-t
-    loop-less
+    (λ c. search needs) (λ c. search needs)
     loop-again
     same-length
     returns)

@@ -6,9 +6,6 @@ use borrow.Author.Needs.{needs}
 use Rattle.outages.proofs.verdict.covered.Statement.{statement}
 use Rattle.outages.proofs.verdict.covered.Tie as tie
 
-within-requires : tie.Need-within-requires
-within-requires c κs = search needs
-
 returns : tie.Need-returns
 unfolding isCovered
 returns c = simp (← (c .before .within .ensures), not-true (c .before .within .result) (c .if1 .taken))
@@ -22,4 +19,4 @@ unfolding isCovered
 returns-3 c = simp (tests, ← (c .before .before .within .ensures), not-false (c .before .before .within .result) (c .before .if1 .left), c .if2 .left)
 
 pub covered-spec : {M : Type 1} → statement M
-covered-spec = tie.close (tie.spec within-requires returns returns-2 returns-3)
+covered-spec = tie.close (tie.spec (λ c κs. search needs) returns returns-2 returns-3)

@@ -4,12 +4,6 @@ use borrow.Author.Needs.{needs}
 use Rattle.outages.proofs.verdict.safe.Statement.{statement}
 use Rattle.outages.proofs.verdict.safe.Tie as tie
 
-has-requires : tie.Need-has-requires
-has-requires c κs = search needs
-
-parent-there-requires : tie.Need-parent-there-requires
-parent-there-requires c κs = search needs
-
 returns : tie.Need-returns
 unfolding safeIn
 returns c = simp (← (c .before .before .has .ensures), c .before .if1 .taken, c .parent-there .ensures)
@@ -19,4 +13,4 @@ unfolding safeIn
 returns-2 c = simp (← (c .before .has .ensures), c .if1 .left)
 
 pub safe-spec : {M : Type 1} → statement M
-safe-spec = tie.close (tie.spec has-requires parent-there-requires returns returns-2)
+safe-spec = tie.close (tie.spec (λ c κs. search needs) (λ c κs. search needs) returns returns-2)

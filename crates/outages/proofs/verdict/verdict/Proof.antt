@@ -4,9 +4,6 @@ use borrow.Author.Needs.{needs}
 use Rattle.outages.proofs.verdict.verdict.Statement.{statement}
 use Rattle.outages.proofs.verdict.verdict.Tie as tie
 
-has-requires : tie.Need-has-requires
-has-requires c κs = search needs
-
 returns : tie.Need-returns
 unfolding verdictIn
 returns c = simp (← (c .before .has .ensures), c .if1 .taken)
@@ -15,18 +12,9 @@ returns-2 : tie.Need-returns-2
 unfolding verdictIn
 returns-2 c = simp (← (c .before .before .has .ensures), c .before .if1 .left, c .if2 .taken)
 
-safe-requires : tie.Need-safe-requires
-safe-requires c κs = search needs
-
 returns-3 : tie.Need-returns-3
 unfolding verdictIn
 returns-3 c = simp (← (c .before .before .before .before .has .ensures), c .before .before .before .if1 .left, c .before .before .if2 .left, ← (c .before .safe .ensures), c .if3 .taken)
-
-stealth-requires : tie.Need-stealth-requires
-stealth-requires c κs = search needs
-
-exposed-requires : tie.Need-exposed-requires
-exposed-requires c κs = search needs
 
 returns-4 : tie.Need-returns-4
 unfolding verdictIn
@@ -36,11 +24,10 @@ pub verdict-spec : {M : Type 1} → statement M
 verdict-spec =
     tie.close
     (tie.spec
-    has-requires
+    (λ c κs. search needs)
     returns
     returns-2
-    safe-requires
+    (λ c κs. search needs)
     returns-3
-    stealth-requires
-    exposed-requires
+    (λ c κs. search needs) (λ c κs. search needs)
     returns-4)

@@ -21,32 +21,14 @@ abbrev μ-loop : tie.MeasureT-loop
 loop-holds : tie.Need-loop-holds Inv-loop μ-loop
 loop-holds c = (search needs, search needs, sum-start _)
 
-mul-ones : tie.Need-mul-ones Inv-loop μ-loop
-mul-ones c = search needs
-
-array-read-ones : tie.Need-array-read-ones Inv-loop μ-loop
-array-read-ones c = search needs
-
-ones-requires : tie.Need-ones-requires Inv-loop μ-loop
-ones-requires c κs = search needs
-
 add-sum : tie.Need-add-sum Inv-loop μ-loop
 add-sum c = let h = c .ones .ensures .small in search needs
-
-add-i : tie.Need-add-i Inv-loop μ-loop
-add-i c = search needs
-
-loop-less : tie.Need-loop-less Inv-loop μ-loop
-loop-less c = search needs
 
 loop-again : tie.Need-loop-again Inv-loop μ-loop
 loop-again c =
     let l = c .before .before .loop in
     let n : l .sum + c .ones .result ≤ 32 * (l .i + 1) = omega (arith, l .inv .1, c .ones .ensures .small) in
     (search needs, n, sum-more _ _ _ _ (l .inv .2) (c .ones .ensures .is))
-
-ones-requires-2 : tie.Need-ones-requires-2 Inv-loop μ-loop
-ones-requires-2 c κs = search needs
 
 add-result : tie.Need-add-result Inv-loop μ-loop
 add-result c = let h = c .ones2 .ensures .small in search needs
@@ -70,13 +52,10 @@ open-count-spec =
     Inv-loop
     μ-loop
     loop-holds
-    mul-ones
-    array-read-ones
-    ones-requires
+    (λ c. search needs) (λ c. search needs) (λ c κs. search needs)
     add-sum
-    add-i
-    loop-less
+    (λ c. search needs) (λ c. search needs)
     loop-again
-    ones-requires-2
+    (λ c κs. search needs)
     add-result
     returns)

@@ -23,20 +23,11 @@ loop-holds : tie.Need-loop-holds Inv-loop μ-loop
 unfolding emittedAt
 loop-holds c = turns-start _ _ _ (c .before .pre)
 
-array-read-write-step : tie.Need-array-read-write-step Inv-loop μ-loop
-array-read-write-step c = search needs
-
-cast-write-step : tie.Need-cast-write-step Inv-loop μ-loop
-cast-write-step c = search needs
-
 sub-write-step : tie.Need-sub-write-step Inv-loop μ-loop
 sub-write-step c = omega (arith, c .before .loop .inv .wrote)
 
 part-write-step-start : tie.Need-part-write-step-start Inv-loop μ-loop
 part-write-step-start c = omega (arith, c .before .loop .inv .wrote)
-
-part-write-step-end : tie.Need-part-write-step-end Inv-loop μ-loop
-part-write-step-end c = search needs
 
 write-step-requires : tie.Need-write-step-requires Inv-loop μ-loop
 unfolding opens
@@ -51,12 +42,6 @@ add-at c =
     let l = c .before .before .before .before .before .loop in
     let a = c .before .before .before .before .before .before .before .args in
     omega (arith, turn-end (turn (a .t1) (a .kind) (a .actor) (a .t)) _ _ _ _ _ _ (l .inv) (c .before .before .before .before .loop-test .taken) (c .before .before .write-step .ensures .0))
-
-add-d : tie.Need-add-d Inv-loop μ-loop
-add-d c = search needs
-
-loop-less : tie.Need-loop-less Inv-loop μ-loop
-loop-less c = search needs
 
 loop-again : tie.Need-loop-again Inv-loop μ-loop
 unfolding opens
@@ -80,15 +65,13 @@ write-at-spec =
     Inv-loop
     μ-loop
     loop-holds
-    array-read-write-step
-    cast-write-step
+    (λ c. search needs) (λ c. search needs)
     sub-write-step
     part-write-step-start
-    part-write-step-end
+    (λ c. search needs)
     write-step-requires
     add-at
-    add-d
-    loop-less
+    (λ c. search needs) (λ c. search needs)
     loop-again
     same-length
     returns)

@@ -48,9 +48,6 @@ sub-write-last c = omega (arith, one c)
 part-write-last-start : tie.Need-part-write-last-start
 part-write-last-start c = omega (arith, one c)
 
-part-write-last-end : tie.Need-part-write-last-end
-part-write-last-end c = search needs
-
 write-last-requires : tie.Need-write-last-requires
 write-last-requires c κs =
     let s = c .before .before .before .before .before .before in
@@ -73,7 +70,7 @@ write-kind-spec =
     write-below-requires
     sub-write-last
     part-write-last-start
-    part-write-last-end
+    (λ c. search needs)
     write-last-requires
     add-result
     same-length

@@ -23,9 +23,6 @@ sub-write-kind c = omega (arith, c .before .loop .inv .wrote)
 part-write-kind-start : tie.Need-part-write-kind-start Inv-loop μ-loop
 part-write-kind-start c = omega (arith, c .before .loop .inv .wrote)
 
-part-write-kind-end : tie.Need-part-write-kind-end Inv-loop μ-loop
-part-write-kind-end c = search needs
-
 write-kind-requires : tie.Need-write-kind-requires Inv-loop μ-loop
 write-kind-requires c κs =
     let t = c .before .loop-test .taken in
@@ -35,12 +32,6 @@ add-at : tie.Need-add-at Inv-loop μ-loop
 add-at c =
     let t = c .before .before .before .before .loop-test .taken in
     omega (arith, turn-end _ _ _ _ _ _ _ (c .before .before .before .before .before .loop .inv) t (c .before .before .write-kind .ensures .0))
-
-add-k : tie.Need-add-k Inv-loop μ-loop
-add-k c = search needs
-
-loop-less : tie.Need-loop-less Inv-loop μ-loop
-loop-less c = search needs
 
 loop-again : tie.Need-loop-again Inv-loop μ-loop
 loop-again c =
@@ -64,11 +55,10 @@ write-open-spec =
     loop-holds
     sub-write-kind
     part-write-kind-start
-    part-write-kind-end
+    (λ c. search needs)
     write-kind-requires
     add-at
-    add-k
-    loop-less
+    (λ c. search needs) (λ c. search needs)
     loop-again
     same-length
     returns)

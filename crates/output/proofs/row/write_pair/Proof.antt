@@ -39,17 +39,11 @@ two c =
     let s = k .before .before .before .before .before in
     wrote-more (first s) _ (after1 k) _ _ 4 4 (one k) (fits s) (sym (length-bytes 4 (s .args .second))) (c .before .before .write-number2 .ensures)
 
-write-number-requires : tie.Need-write-number-requires
-write-number-requires c κs = search needs
-
 sub-write-number : tie.Need-sub-write-number
 sub-write-number c = omega (arith, one c, (c .before .before .before .before .before) .pre)
 
 part-write-number-start : tie.Need-part-write-number-start
 part-write-number-start c = omega (arith, one c, (c .before .before .before .before .before) .pre)
-
-part-write-number-end : tie.Need-part-write-number-end
-part-write-number-end c = search needs
 
 write-number-requires-2 : tie.Need-write-number-requires-2
 write-number-requires-2 c κs =
@@ -66,10 +60,10 @@ pub write-pair-spec : {M : Type 1} → statement M
 write-pair-spec =
     tie.close
     (tie.spec
-    write-number-requires
+    (λ c κs. search needs)
     sub-write-number
     part-write-number-start
-    part-write-number-end
+    (λ c. search needs)
     write-number-requires-2
     same-length
     returns)

@@ -79,9 +79,6 @@ sub-write-pair c = omega (arith, one (c .before))
 part-write-pair-start : tie.Need-part-write-pair-start
 part-write-pair-start c = omega (arith, one (c .before))
 
-part-write-pair-end : tie.Need-part-write-pair-end
-part-write-pair-end c = search needs
-
 write-pair-requires : tie.Need-write-pair-requires
 write-pair-requires c κs =
     let s = c .before .before in
@@ -92,9 +89,6 @@ sub-write-pair-2 c = omega (arith, two c)
 
 part-write-pair-start-2 : tie.Need-part-write-pair-start-2
 part-write-pair-start-2 c = omega (arith, two c)
-
-part-write-pair-end-2 : tie.Need-part-write-pair-end-2
-part-write-pair-end-2 c = search needs
 
 write-pair-requires-2 : tie.Need-write-pair-requires-2
 write-pair-requires-2 c κs =
@@ -117,11 +111,11 @@ write-row-spec =
     slice-write-out-2
     sub-write-pair
     part-write-pair-start
-    part-write-pair-end
+    (λ c. search needs)
     write-pair-requires
     sub-write-pair-2
     part-write-pair-start-2
-    part-write-pair-end-2
+    (λ c. search needs)
     write-pair-requires-2
     same-length
     returns)

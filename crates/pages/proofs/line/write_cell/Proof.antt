@@ -34,9 +34,7 @@ write-cell-spec =
     write-title-requires
     (λ c. search needs)
     returns
-    (λ c. search needs)
-    (λ c. search needs)
-    (λ c κs. search needs)
+    (λ c. search needs) (λ c. search needs) (λ c κs. search needs)
     write-value-requires
     (λ c. search needs)
     returns-2)

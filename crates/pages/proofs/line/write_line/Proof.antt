@@ -104,8 +104,7 @@ write-line-spec =
     (λ c. search needs)
     write-cell-requires
     add-at
-    (λ c. search needs)
-    (λ c. search needs)
+    (λ c. search needs) (λ c. search needs)
     loop-again
     sub-write-text
     (λ c. search needs)

@@ -64,8 +64,7 @@ write-number-spec =
     sub-at-2
     (λ c κs. search needs)
     array-write-made-2
-    (λ c. search needs)
-    (λ c. search needs)
+    (λ c. search needs) (λ c. search needs)
     part-write-text-end
     write-text-requires
     (λ c. search needs)

@@ -73,8 +73,7 @@ write-page-spec =
     (λ c. search needs)
     write-line-requires
     add-at
-    (λ c. search needs)
-    (λ c. search needs)
+    (λ c. search needs) (λ c. search needs)
     loop-again
     same-length
     returns)

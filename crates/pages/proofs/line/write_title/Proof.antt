@@ -9,8 +9,7 @@ pub write-title-spec : {M : Type 1} → statement M
 write-title-spec =
     tie.close
     (tie.spec
-    (λ c κs. search needs)
-    (λ c. search needs)
+    (λ c κs. search needs) (λ c. search needs)
     (λ c κs. let k = c .before .before in room-as (same-column (k .before .width .ensures) (is-title 0 (k .match .keys1))) (k .before .before .before .pre .1))
     (λ c. search needs)
     (λ c κs. let k = c .before .before in room-as (same-column (k .before .width .ensures) (is-title 1 (k .match .keys2))) (k .before .before .before .pre .1))

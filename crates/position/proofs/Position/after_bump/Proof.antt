@@ -20,46 +20,10 @@ Inv-loop sheet t self₀ entering leaving there n k₀ self k = (k ≤ n) × Rew
 abbrev μ-loop : tie.MeasureT-loop
 μ-loop sheet t self₀ entering leaving there n k₀ self k = n - k
 
-entering-requires : tie.Need-entering-requires Inv-loop μ-loop
-entering-requires c κs = search needs
-
-displaced-requires : tie.Need-displaced-requires Inv-loop μ-loop
-displaced-requires c κs = search needs
-
-count-requires : tie.Need-count-requires Inv-loop μ-loop
-count-requires c κs = search needs
-
-next-requires : tie.Need-next-requires Inv-loop μ-loop
-next-requires c κs = search needs
-
 loop-holds : tie.Need-loop-holds Inv-loop μ-loop
 loop-holds c =
     let l : length (c .before .before .before .before .before .before .args .t1 .slots) ≡ 32 = search (length-of-map, c .before .before .before .before .before .before .good) in
     (c .next .ensures .high, rewritten-start _ _ _ _ (bumped-outside _ _ _ (c .before .before .before .before .before .before .pre .0 .sized .few) (c .before .before .before .before .before .before .pre .1 .0) _ _ _ (c .before .before .before .before .entering .ensures)) _ (c .before .count .ensures .is) _ l (c .next .ensures))
-
-mul-x : tie.Need-mul-x Inv-loop μ-loop
-mul-x c = search needs
-
-element-copy-out-x : tie.Need-element-copy-out-x Inv-loop μ-loop
-element-copy-out-x c = search needs
-
-bumped-slot-requires : tie.Need-bumped-slot-requires Inv-loop μ-loop
-bumped-slot-requires c κs = search needs
-
-mul-y : tie.Need-mul-y Inv-loop μ-loop
-mul-y c = search needs
-
-element-set-from-y : tie.Need-element-set-from-y Inv-loop μ-loop
-element-set-from-y c = search needs
-
-add-next : tie.Need-add-next Inv-loop μ-loop
-add-next c = search needs
-
-next-requires-2 : tie.Need-next-requires-2 Inv-loop μ-loop
-next-requires-2 c κs = search needs
-
-loop-less : tie.Need-loop-less Inv-loop μ-loop
-loop-less c = search needs
 
 loop-again : tie.Need-loop-again Inv-loop μ-loop
 unfolding withSlots slot
@@ -78,18 +42,9 @@ after-bump-spec =
     (tie.spec
     Inv-loop
     μ-loop
-    entering-requires
-    displaced-requires
-    count-requires
-    next-requires
+    (λ c κs. search needs) (λ c κs. search needs) (λ c κs. search needs) (λ c κs. search needs)
     loop-holds
-    mul-x
-    element-copy-out-x
-    bumped-slot-requires
-    mul-y
-    element-set-from-y
-    add-next
-    next-requires-2
-    loop-less
+    (λ c. search needs) (λ c. search needs) (λ c κs. search needs) (λ c. search needs) (λ c. search needs) (λ c. search needs)
+    (λ c κs. search needs) (λ c. search needs)
     loop-again
     returns)

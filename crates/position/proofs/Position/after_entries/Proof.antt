@@ -20,49 +20,10 @@ Inv-loop sheet view self₀ leaving block there n t₀ self t = (t ≤ n) × Rew
 abbrev μ-loop : tie.MeasureT-loop
 μ-loop sheet view self₀ leaving block there n t₀ self t = n - t
 
-struck-requires : tie.Need-struck-requires Inv-loop μ-loop
-struck-requires c κs = search needs
-
-add-block : tie.Need-add-block Inv-loop μ-loop
-add-block c = search needs
-
-touched-requires : tie.Need-touched-requires Inv-loop μ-loop
-touched-requires c κs = search needs
-
-count-requires : tie.Need-count-requires Inv-loop μ-loop
-count-requires c κs = search needs
-
-next-requires : tie.Need-next-requires Inv-loop μ-loop
-next-requires c κs = search needs
-
 loop-holds : tie.Need-loop-holds Inv-loop μ-loop
 loop-holds c =
     let l : length (c .before .before .before .before .before .args .t1 .slots) ≡ 32 = search (length-of-map, c .before .before .before .before .before .good) in
     (c .next .ensures .high, rewritten-start _ _ _ _ (mined-outside _ _ _ (c .before .before .before .before .before .pre .0 .sized .few) (c .before .before .before .before .before .pre .1 .0) _ _ _ (c .before .before .touched .ensures)) _ (c .before .count .ensures .is) _ l (c .next .ensures))
-
-mul-x : tie.Need-mul-x Inv-loop μ-loop
-mul-x c = search needs
-
-element-copy-out-x : tie.Need-element-copy-out-x Inv-loop μ-loop
-element-copy-out-x c = search needs
-
-mined-slot-requires : tie.Need-mined-slot-requires Inv-loop μ-loop
-mined-slot-requires c κs = search needs
-
-mul-y : tie.Need-mul-y Inv-loop μ-loop
-mul-y c = search needs
-
-element-set-from-y : tie.Need-element-set-from-y Inv-loop μ-loop
-element-set-from-y c = search needs
-
-add-next : tie.Need-add-next Inv-loop μ-loop
-add-next c = search needs
-
-next-requires-2 : tie.Need-next-requires-2 Inv-loop μ-loop
-next-requires-2 c κs = search needs
-
-loop-less : tie.Need-loop-less Inv-loop μ-loop
-loop-less c = search needs
 
 loop-again : tie.Need-loop-again Inv-loop μ-loop
 unfolding withSlots slot
@@ -82,19 +43,9 @@ after-entries-spec =
     (tie.spec
     Inv-loop
     μ-loop
-    struck-requires
-    add-block
-    touched-requires
-    count-requires
-    next-requires
+    (λ c κs. search needs) (λ c. search needs) (λ c κs. search needs) (λ c κs. search needs) (λ c κs. search needs)
     loop-holds
-    mul-x
-    element-copy-out-x
-    mined-slot-requires
-    mul-y
-    element-set-from-y
-    add-next
-    next-requires-2
-    loop-less
+    (λ c. search needs) (λ c. search needs) (λ c κs. search needs) (λ c. search needs) (λ c. search needs) (λ c. search needs)
+    (λ c κs. search needs) (λ c. search needs)
     loop-again
     returns)

@@ -10,16 +10,10 @@ returns c =
     let k = c .before .before .before .before .before .before in
     none-owed _ _ _ _ (k .pre .0 .checked .sized .few) (search (length-of-map, k .good)) (k .pre .1) (search needs) (search needs) (c .if1 .taken)
 
-per-day-requires : tie.Need-per-day-requires
-per-day-requires c κs = search needs
-
-any-due-requires : tie.Need-any-due-requires
-any-due-requires c κs = search needs
-
 returns-2 : tie.Need-returns-2
 returns-2 c =
     let k = c .before .before .before .before .before .before .before .before in
     any-due-owed _ _ _ _ (k .pre .0 .checked .sized .few) (search (length-of-map, k .good)) (k .pre .1) (search needs) (search needs) _ _ (c .before .per-day .ensures) (c .any-due .ensures)
 
 pub any-owed-spec : {M : Type 1} → statement M
-any-owed-spec = tie.close (tie.spec returns per-day-requires any-due-requires returns-2)
+any-owed-spec = tie.close (tie.spec returns (λ c κs. search needs) (λ c κs. search needs) returns-2)

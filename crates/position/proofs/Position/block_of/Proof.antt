@@ -10,12 +10,6 @@ use borrow.Author.Needs.{needs}
 use Rattle.position.proofs.Position.block_of.Statement.{statement}
 use Rattle.position.proofs.Position.block_of.Tie as tie
 
-mul-result : tie.Need-mul-result
-mul-result c = search needs
-
-element-copy-out-result : tie.Need-element-copy-out-result
-element-copy-out-result c = search needs
-
 returns : tie.Need-returns
 unfolding blockOf slot
 returns c = refl
@@ -27,4 +21,4 @@ returns-2 c =
     sym (ap (λ (x : Slot). x .height) (List·getD-eq-default (c .before .args .t1 .slots) emptySlot {n = c .before .args .t} (omega (arith, l, c .if1 .left))))
 
 pub block-of-spec : {M : Type 1} → statement M
-block-of-spec = tie.close (tie.spec mul-result element-copy-out-result returns returns-2)
+block-of-spec = tie.close (tie.spec (λ c. search needs) (λ c. search needs) returns returns-2)

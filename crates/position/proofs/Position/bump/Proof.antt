@@ -8,14 +8,8 @@ use borrow.Author.Needs.{needs}
 use Rattle.position.proofs.Position.bump.Statement.{statement}
 use Rattle.position.proofs.Position.bump.Tie as tie
 
-wide-requires : tie.Need-wide-requires
-wide-requires c κs = search needs
-
 owed-requires : tie.Need-owed-requires
 owed-requires c κs = let p = c .before .before .before .pre in (p .0, (p .1 .0, rw (c .wide .ensures .is) (p .1 .1)))
-
-bump-refusal-requires : tie.Need-bump-refusal-requires
-bump-refusal-requires c κs = search needs
 
 returns : tie.Need-returns
 unfolding stepRefusal tests bumpTests bumpTestsIn
@@ -32,9 +26,9 @@ pub bump-spec : {M : Type 1} → statement M
 bump-spec =
     tie.close
     (tie.spec
-    wide-requires
+    (λ c κs. search needs)
     owed-requires
-    bump-refusal-requires
+    (λ c κs. search needs)
     returns
     after-bump-requires
     returns-2)

@@ -17,47 +17,14 @@ Inv-loop sheet setup view party self o n t₀ t = (t ≤ n) × (anyBelow t (pays
 abbrev μ-loop : tie.MeasureT-loop
 μ-loop sheet setup view party self o n t₀ t = n - t
 
-send-outlook-requires : tie.Need-send-outlook-requires Inv-loop μ-loop
-send-outlook-requires c κs = search needs
-
-count-requires : tie.Need-count-requires Inv-loop μ-loop
-count-requires c κs = search needs
-
 loop-holds : tie.Need-loop-holds Inv-loop μ-loop
 loop-holds c = (search needs, any-start _)
-
-mul-x : tie.Need-mul-x Inv-loop μ-loop
-mul-x c = search needs
-
-element-copy-out-x : tie.Need-element-copy-out-x Inv-loop μ-loop
-element-copy-out-x c = search needs
-
-slot-above-requires : tie.Need-slot-above-requires Inv-loop μ-loop
-slot-above-requires c κs = search needs
-
-mul-above : tie.Need-mul-above Inv-loop μ-loop
-mul-above c = search needs
-
-element-copy-out-above : tie.Need-element-copy-out-above Inv-loop μ-loop
-element-copy-out-above c = search needs
-
-block-above-requires : tie.Need-block-above-requires Inv-loop μ-loop
-block-above-requires c κs = search needs
-
-pays-requires : tie.Need-pays-requires Inv-loop μ-loop
-pays-requires c κs = search needs
 
 returns : tie.Need-returns Inv-loop μ-loop
 unfolding slot
 returns c =
     let l : length (c .before .before .before .before .before .before .before .before .before .before .before .before .args .t1 .slots) ≡ 32 = search (length-of-map, c .before .before .before .before .before .before .before .before .before .before .before .before .good) in
     pays-found _ _ _ _ _ _ (c .before .before .before .before .before .before .before .before .before .before .before .before .pre .0) l (c .before .before .before .before .before .before .before .before .before .before .before .before .pre .1) (c .before .before .before .before .before .before .before .before .before .send-outlook .ensures) _ _ (c .before .before .before .before .before .before .before .before .count .ensures .is) (c .before .before .before .before .before .before .loop-test .taken) (sym (pays-turn _ _ _ _ _ _ _ _ _ _ (c .before .before .before .before .slot-above .ensures .0) (c .before .before .block-above .ensures) (c .before .pays .ensures)) ∙ c .if1 .taken)
-
-add-t : tie.Need-add-t Inv-loop μ-loop
-add-t c = search needs
-
-loop-less : tie.Need-loop-less Inv-loop μ-loop
-loop-less c = search needs
 
 loop-again : tie.Need-loop-again Inv-loop μ-loop
 unfolding slot
@@ -74,18 +41,11 @@ can-pay-spec =
     (tie.spec
     Inv-loop
     μ-loop
-    send-outlook-requires
-    count-requires
+    (λ c κs. search needs) (λ c κs. search needs)
     loop-holds
-    mul-x
-    element-copy-out-x
-    slot-above-requires
-    mul-above
-    element-copy-out-above
-    block-above-requires
-    pays-requires
+    (λ c. search needs) (λ c. search needs) (λ c κs. search needs) (λ c. search needs) (λ c. search needs) (λ c κs. search needs)
+    (λ c κs. search needs)
     returns
-    add-t
-    loop-less
+    (λ c. search needs) (λ c. search needs)
     loop-again
     returns-2)

@@ -7,18 +7,6 @@ use borrow.Author.Needs.{needs}
 use Rattle.position.proofs.Position.deadline_in.Statement.{statement}
 use Rattle.position.proofs.Position.deadline_in.Tie as tie
 
-parent-requires : tie.Need-parent-requires
-parent-requires c κs = search needs
-
-block-of-requires : tie.Need-block-of-requires
-block-of-requires c κs = search needs
-
-per-day-requires : tie.Need-per-day-requires
-per-day-requires c κs = search needs
-
-deadline-requires : tie.Need-deadline-requires
-deadline-requires c κs = search needs
-
 returns : tie.Need-returns
 unfolding deadlineIn
 returns c = record { is = rw (← (c .before .per-day .ensures), deadline-since (now (c .before .before .before .before .before .before .args .sheet)) (c .before .per-day .result) (blockOf (c .before .before .before .before .before .before .args .self)) (c .before .before .block-of .result) (c .before .before .before .before .before .before .args .t) (ap (blockOf (c .before .before .before .before .before .before .args .self)) (sym (c .before .before .before .parent .ensures .is)) ∙ sym (c .before .before .block-of .ensures))) (c .deadline .ensures .is); small = c .deadline .ensures .small }
@@ -26,4 +14,4 @@ returns c = record { is = rw (← (c .before .per-day .ensures), deadline-since 
 pub deadline-in-spec : {M : Type 1} → statement M
 deadline-in-spec =
     tie.close
-    (tie.spec parent-requires block-of-requires per-day-requires deadline-requires returns)
+    (tie.spec (λ c κs. search needs) (λ c κs. search needs) (λ c κs. search needs) (λ c κs. search needs) returns)

@@ -4,20 +4,11 @@ use borrow.Author.Needs.{needs}
 use Rattle.position.proofs.Position.first_refusal.Statement.{statement}
 use Rattle.position.proofs.Position.first_refusal.Tie as tie
 
-first-shares-made-requires : tie.Need-first-shares-made-requires
-first-shares-made-requires c κs = search needs
-
 returns : tie.Need-returns
 returns c = first-made _ _ _ _ _ (c .before .first-shares-made .ensures) (c .if1 .taken)
 
 returns-2 : tie.Need-returns-2
 returns-2 c = first-early _ _ _ _ _ (c .before .before .first-shares-made .ensures) (c .before .if1 .left) _ (c .before .before .before .before .before .pre .1 .1) (c .if2 .taken)
-
-may-share-requires : tie.Need-may-share-requires
-may-share-requires c κs = search needs
-
-conduct-refusal-requires : tie.Need-conduct-refusal-requires
-conduct-refusal-requires c κs = search needs
 
 returns-3 : tie.Need-returns-3
 returns-3 c = first-else _ _ _ _ _ (c .before .before .before .before .first-shares-made .ensures) (c .before .before .before .if1 .left) _ _ (c .before .may-share .ensures) (c .conduct-refusal .ensures)
@@ -26,9 +17,8 @@ pub first-refusal-spec : {M : Type 1} → statement M
 first-refusal-spec =
     tie.close
     (tie.spec
-    first-shares-made-requires
+    (λ c κs. search needs)
     returns
     returns-2
-    may-share-requires
-    conduct-refusal-requires
+    (λ c κs. search needs) (λ c κs. search needs)
     returns-3)

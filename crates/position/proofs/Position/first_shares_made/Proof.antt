@@ -17,38 +17,14 @@ Inv-loop party self set t₀ t = (t ≤ 32) × (t < 32 → bit set t ≡ true) �
 abbrev μ-loop : tie.MeasureT-loop
 μ-loop party self set t₀ t = 32 - t
 
-first-shares-requires : tie.Need-first-shares-requires Inv-loop μ-loop
-first-shares-requires c κs = search needs
-
-next-requires : tie.Need-next-requires Inv-loop μ-loop
-next-requires c κs = search needs
-
 loop-holds : tie.Need-loop-holds Inv-loop μ-loop
 loop-holds c = (c .next .ensures .high, c .next .ensures .here, made-start _ _ _ _ (c .before .first-shares .ensures) (c .next .ensures))
-
-mul-x : tie.Need-mul-x Inv-loop μ-loop
-mul-x c = search needs
-
-element-copy-out-x : tie.Need-element-copy-out-x Inv-loop μ-loop
-element-copy-out-x c = search needs
-
-marked-for-requires : tie.Need-marked-for-requires Inv-loop μ-loop
-marked-for-requires c κs = search needs
 
 returns : tie.Need-returns Inv-loop μ-loop
 unfolding marked slot
 returns c =
     let l = c .before .before .before .loop-test .taken in
     made-broken _ _ _ _ _ (c .before .before .before .before .loop .inv .2) l (c .before .before .before .before .loop .inv .1 l) (sym (c .before .marked-for .ensures) ∙ not-true (c .before .marked-for .result) (c .if1 .taken))
-
-add-next : tie.Need-add-next Inv-loop μ-loop
-add-next c = search needs
-
-next-requires-2 : tie.Need-next-requires-2 Inv-loop μ-loop
-next-requires-2 c κs = search needs
-
-loop-less : tie.Need-loop-less Inv-loop μ-loop
-loop-less c = search needs
 
 loop-again : tie.Need-loop-again Inv-loop μ-loop
 unfolding marked slot
@@ -68,15 +44,10 @@ first-shares-made-spec =
     (tie.spec
     Inv-loop
     μ-loop
-    first-shares-requires
-    next-requires
+    (λ c κs. search needs) (λ c κs. search needs)
     loop-holds
-    mul-x
-    element-copy-out-x
-    marked-for-requires
+    (λ c. search needs) (λ c. search needs) (λ c κs. search needs)
     returns
-    add-next
-    next-requires-2
-    loop-less
+    (λ c. search needs) (λ c κs. search needs) (λ c. search needs)
     loop-again
     returns-2)

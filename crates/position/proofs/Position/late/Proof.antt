@@ -4,15 +4,9 @@ use borrow.Author.Needs.{needs}
 use Rattle.position.proofs.Position.late.Statement.{statement}
 use Rattle.position.proofs.Position.late.Tie as tie
 
-deadline-in-requires : tie.Need-deadline-in-requires
-deadline-in-requires c κs = search needs
-
-wide-requires : tie.Need-wide-requires
-wide-requires c κs = search needs
-
 returns : tie.Need-returns
 unfolding late
 returns c = rw (c .before .deadline-in .ensures .is, c .wide .ensures .0)
 
 pub late-spec : {M : Type 1} → statement M
-late-spec = tie.close (tie.spec deadline-in-requires wide-requires returns)
+late-spec = tie.close (tie.spec (λ c κs. search needs) (λ c κs. search needs) returns)

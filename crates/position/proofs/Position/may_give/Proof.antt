@@ -5,14 +5,8 @@ use borrow.Author.Needs.{needs}
 use Rattle.position.proofs.Position.may_give.Statement.{statement}
 use Rattle.position.proofs.Position.may_give.Tie as tie
 
-outlook-requires : tie.Need-outlook-requires
-outlook-requires c κs = search needs
-
-give-allowed-requires : tie.Need-give-allowed-requires
-give-allowed-requires c κs = search needs
-
 returns : tie.Need-returns
 returns c = c .give-allowed .ensures ∙ rw (c .before .outlook .ensures) (give-outlook _ _ _ _ _)
 
 pub may-give-spec : {M : Type 1} → statement M
-may-give-spec = tie.close (tie.spec outlook-requires give-allowed-requires returns)
+may-give-spec = tie.close (tie.spec (λ c κs. search needs) (λ c κs. search needs) returns)

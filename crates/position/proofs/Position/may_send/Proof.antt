@@ -5,14 +5,8 @@ use borrow.Author.Needs.{needs}
 use Rattle.position.proofs.Position.may_send.Statement.{statement}
 use Rattle.position.proofs.Position.may_send.Tie as tie
 
-send-outlook-requires : tie.Need-send-outlook-requires
-send-outlook-requires c κs = search needs
-
-send-allowed-requires : tie.Need-send-allowed-requires
-send-allowed-requires c κs = search needs
-
 returns : tie.Need-returns
 returns c = c .send-allowed .ensures ∙ rw (c .before .send-outlook .ensures) (send-outlook _ _ _ _ _)
 
 pub may-send-spec : {M : Type 1} → statement M
-may-send-spec = tie.close (tie.spec send-outlook-requires send-allowed-requires returns)
+may-send-spec = tie.close (tie.spec (λ c κs. search needs) (λ c κs. search needs) returns)

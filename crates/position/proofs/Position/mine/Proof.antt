@@ -12,15 +12,6 @@ use borrow.Author.Needs.{needs}
 use Rattle.position.proofs.Position.mine.Statement.{statement}
 use Rattle.position.proofs.Position.mine.Tie as tie
 
-any-owed-requires : tie.Need-any-owed-requires
-any-owed-requires c κs = search needs
-
-mine-refusal-requires : tie.Need-mine-refusal-requires
-mine-refusal-requires c κs = search needs
-
-entries-after-requires : tie.Need-entries-after-requires
-entries-after-requires c κs = search needs
-
 after-entries-requires : tie.Need-after-entries-requires
 unfolding mineTests
 after-entries-requires c κs =
@@ -50,9 +41,7 @@ pub mine-spec : {M : Type 1} → statement M
 mine-spec =
     tie.close
     (tie.spec
-    any-owed-requires
-    mine-refusal-requires
-    entries-after-requires
+    (λ c κs. search needs) (λ c κs. search needs) (λ c κs. search needs)
     after-entries-requires
     returns
     mined-after-requires

@@ -10,36 +10,12 @@ use borrow.Author.Needs.{needs}
 use Rattle.position.proofs.Position.outlook.Statement.{statement}
 use Rattle.position.proofs.Position.outlook.Tie as tie
 
-conduct-requires : tie.Need-conduct-requires
-conduct-requires c κs = search needs
-
 returns : tie.Need-returns
 unfolding outlook openOutlook isOpen
 returns c = rw (eq-eqb _ _ (sym (c .before .conduct .ensures) ∙ c .if1 .taken))
 
-element-copy-out-success : tie.Need-element-copy-out-success
-element-copy-out-success c = search needs
-
-element-copy-out-refund : tie.Need-element-copy-out-refund
-element-copy-out-refund c = search needs
-
-phase-requires : tie.Need-phase-requires
-phase-requires c κs = search needs
-
 late-requires : tie.Need-late-requires
 late-requires c κs = (c .before .before .before .before .before .before .before .pre .0, success-there (c .before .before .before .before .before .before .before .pre .0) _ (c .before .before .before .before .conduct .ensures) (c .before .before .before .if1 .left))
-
-is-sent-requires : tie.Need-is-sent-requires
-is-sent-requires c κs = search needs
-
-keys-requires : tie.Need-keys-requires
-keys-requires c κs = search needs
-
-has-requires : tie.Need-has-requires
-has-requires c κs = search needs
-
-sender-requires : tie.Need-sender-requires
-sender-requires c κs = search needs
 
 returns-2 : tie.Need-returns-2
 unfolding slot
@@ -49,14 +25,9 @@ pub outlook-spec : {M : Type 1} → statement M
 outlook-spec =
     tie.close
     (tie.spec
-    conduct-requires
+    (λ c κs. search needs)
     returns
-    element-copy-out-success
-    element-copy-out-refund
-    phase-requires
+    (λ c. search needs) (λ c. search needs) (λ c κs. search needs)
     late-requires
-    is-sent-requires
-    keys-requires
-    has-requires
-    sender-requires
+    (λ c κs. search needs) (λ c κs. search needs) (λ c κs. search needs) (λ c κs. search needs)
     returns-2)

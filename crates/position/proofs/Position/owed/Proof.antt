@@ -4,22 +4,10 @@ use borrow.Author.Needs.{needs}
 use Rattle.position.proofs.Position.owed.Statement.{statement}
 use Rattle.position.proofs.Position.owed.Tie as tie
 
-parent-requires : tie.Need-parent-requires
-parent-requires c κs = search needs
-
-block-of-requires : tie.Need-block-of-requires
-block-of-requires c κs = search needs
-
-per-day-requires : tie.Need-per-day-requires
-per-day-requires c κs = search needs
-
-owed-at-requires : tie.Need-owed-at-requires
-owed-at-requires c κs = search needs
-
 returns : tie.Need-returns
 returns c = rw (c .owed-at .ensures, c .before .per-day .ensures, c .before .before .block-of .ensures, c .before .before .before .parent .ensures .is, c .before .before .before .before .before .before .pre .1 .0) (owed-view _ _ _ (search needs) _ (search needs))
 
 pub owed-spec : {M : Type 1} → statement M
 owed-spec =
     tie.close
-    (tie.spec parent-requires block-of-requires per-day-requires owed-at-requires returns)
+    (tie.spec (λ c κs. search needs) (λ c κs. search needs) (λ c κs. search needs) (λ c κs. search needs) returns)

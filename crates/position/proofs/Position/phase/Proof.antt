@@ -6,29 +6,17 @@ use borrow.Author.Needs.{needs}
 use Rattle.position.proofs.Position.phase.Statement.{statement}
 use Rattle.position.proofs.Position.phase.Tie as tie
 
-block-of-requires : tie.Need-block-of-requires
-block-of-requires c κs = search needs
-
 returns : tie.Need-returns
 unfolding phase isConfirmed
 returns c = rw (← (c .before .block-of .ensures), lt-ltb _ _ (c .if1 .taken))
-
-block-of-requires-2 : tie.Need-block-of-requires-2
-block-of-requires-2 c κs = search needs
 
 returns-2 : tie.Need-returns-2
 unfolding phase isConfirmed
 returns-2 c = rw (← (c .before .before .before .block-of .ensures), le-ltb _ _ (c .before .before .if1 .left), ← (c .before .block-of2 .ensures), lt-ltb _ _ (c .if2 .taken))
 
-first-shares-made-requires : tie.Need-first-shares-made-requires
-first-shares-made-requires c κs = search needs
-
 returns-3 : tie.Need-returns-3
 unfolding phase isConfirmed
 returns-3 c = rw (← (c .before .before .before .before .before .block-of .ensures), le-ltb _ _ (c .before .before .before .before .if1 .left), ← (c .before .before .before .block-of2 .ensures), le-ltb _ _ (c .before .before .if2 .left), ← (c .before .first-shares-made .ensures), not-true (c .before .first-shares-made .result) (c .if3 .taken))
-
-first-shares-made-requires-2 : tie.Need-first-shares-made-requires-2
-first-shares-made-requires-2 c κs = search needs
 
 returns-4 : tie.Need-returns-4
 unfolding phase isConfirmed
@@ -42,12 +30,12 @@ pub phase-spec : {M : Type 1} → statement M
 phase-spec =
     tie.close
     (tie.spec
-    block-of-requires
+    (λ c κs. search needs)
     returns
-    block-of-requires-2
+    (λ c κs. search needs)
     returns-2
-    first-shares-made-requires
+    (λ c κs. search needs)
     returns-3
-    first-shares-made-requires-2
+    (λ c κs. search needs)
     returns-4
     returns-5)

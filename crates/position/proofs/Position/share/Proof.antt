@@ -13,15 +13,6 @@ use borrow.Author.Needs.{needs}
 use Rattle.position.proofs.Position.share.Statement.{statement}
 use Rattle.position.proofs.Position.share.Tie as tie
 
-element-copy-out-a : tie.Need-element-copy-out-a
-element-copy-out-a c = search needs
-
-element-copy-out-b : tie.Need-element-copy-out-b
-element-copy-out-b c = search needs
-
-is-early-requires : tie.Need-is-early-requires
-is-early-requires c κs = search needs
-
 share-all-requires : tie.Need-share-all-requires
 unfolding slot
 share-all-requires c κs = let p = c .before .before .before .before .before .before .pre in (p .0, (p .1 .0, (c .is-early .ensures, rw (← (c .before .before .before .if1 .taken)) (p .1 .1))))
@@ -29,41 +20,14 @@ share-all-requires c κs = let p = c .before .before .before .before .before .be
 returns : tie.Need-returns
 returns c = rw (c .before .before .before .before .if1 .taken) (c .share-all .ensures)
 
-destination-number-requires : tie.Need-destination-number-requires
-destination-number-requires c κs = search needs
-
-wide-requires : tie.Need-wide-requires
-wide-requires c κs = search needs
-
-conduct-requires : tie.Need-conduct-requires
-conduct-requires c κs = search needs
-
-may-share-requires : tie.Need-may-share-requires
-may-share-requires c κs = search needs
-
-keys-requires : tie.Need-keys-requires
-keys-requires c κs = search needs
-
-mul-x : tie.Need-mul-x
-mul-x c = search needs
-
 element-copy-out-x : tie.Need-element-copy-out-x
 element-copy-out-x c = let l = share-one-fits _ _ (c .before .before .before .before .before .before .before .before .pre .0 .checked .sized .few) (c .before .before .before .before .before .before .before .before .pre .1 .1) (c .before .before .before .before .before .if1 .left) in search (needs, l)
 
 share-met-requires : tie.Need-share-met-requires
 share-met-requires c κs = let p = c .before .before .before .before .before .before .before .before .before .pre in (p .0 .checked .sized, (rw (c .before .before .before .before .wide .ensures .is) (share-one-fits _ _ (c .before .before .before .before .before .before .before .before .before .pre .0 .checked .sized .few) (c .before .before .before .before .before .before .before .before .before .pre .1 .1) (c .before .before .before .before .before .before .if1 .left)), c .before .before .before .before .before .destination-number .ensures .1))
 
-conduct-refusal-requires : tie.Need-conduct-refusal-requires
-conduct-refusal-requires c κs = search needs
-
 shared-slot-requires : tie.Need-shared-slot-requires
 shared-slot-requires c κs = let p = c .before .before .before .before .before .before .before .before .before .before .before .pre in (p .0 .checked .sized, (rw (c .before .before .before .before .before .before .wide .ensures .is) (share-one-fits _ _ (c .before .before .before .before .before .before .before .before .before .before .before .pre .0 .checked .sized .few) (c .before .before .before .before .before .before .before .before .before .before .before .pre .1 .1) (c .before .before .before .before .before .before .before .before .if1 .left)), c .before .before .before .before .before .before .before .destination-number .ensures .1))
-
-slot-after-requires : tie.Need-slot-after-requires
-slot-after-requires c κs = search needs
-
-mul-after : tie.Need-mul-after
-mul-after c = search needs
 
 element-set-from-after : tie.Need-element-set-from-after
 element-set-from-after c = let f = share-one-fits _ _ (c .before .before .before .before .before .before .before .before .before .before .before .before .before .pre .0 .checked .sized .few) (c .before .before .before .before .before .before .before .before .before .before .before .before .before .pre .1 .1) (c .before .before .before .before .before .before .before .before .before .before .if1 .left) in let l : c .before .before .before .before .before .before .before .before .wide .result < 32 = omega (arith, c .before .before .before .before .before .before .before .before .wide .ensures .is, f, c .before .before .before .before .before .before .before .before .before .before .before .before .before .pre .0 .checked .sized .few) in search (needs, l)
@@ -84,22 +48,14 @@ pub share-spec : {M : Type 1} → statement M
 share-spec =
     tie.close
     (tie.spec
-    element-copy-out-a
-    element-copy-out-b
-    is-early-requires
+    (λ c. search needs) (λ c. search needs) (λ c κs. search needs)
     share-all-requires
     returns
-    destination-number-requires
-    wide-requires
-    conduct-requires
-    may-share-requires
-    keys-requires
-    mul-x
+    (λ c κs. search needs) (λ c κs. search needs) (λ c κs. search needs) (λ c κs. search needs) (λ c κs. search needs) (λ c. search needs)
     element-copy-out-x
     share-met-requires
-    conduct-refusal-requires
+    (λ c κs. search needs)
     shared-slot-requires
-    slot-after-requires
-    mul-after
+    (λ c κs. search needs) (λ c. search needs)
     element-set-from-after
     returns-2)

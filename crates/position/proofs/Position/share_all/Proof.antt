@@ -11,9 +11,6 @@ use borrow.Author.Needs.{needs}
 use Rattle.position.proofs.Position.share_all.Statement.{statement}
 use Rattle.position.proofs.Position.share_all.Tie as tie
 
-first-refusal-requires : tie.Need-first-refusal-requires
-first-refusal-requires c κs = search needs
-
 returns : tie.Need-returns
 unfolding stepRefusal tests conductAllows shareMet
 returns c = refuses _ _ _ _ _ (share-answer _ _ _ _ _ _ _ _ _ (c .before .first-refusal .ensures) refl refl) (c .if1 .taken)
@@ -26,4 +23,4 @@ unfolding stepRefusal tests conductAllows shareMet effect afterShare
 returns-2 c = accepts _ _ _ _ _ _ (share-answer _ _ _ _ _ _ _ _ _ (c .before .before .first-refusal .ensures) refl refl) (c .before .if1 .left) (c .share-first .ensures)
 
 pub share-all-spec : {M : Type 1} → statement M
-share-all-spec = tie.close (tie.spec first-refusal-requires returns share-first-requires returns-2)
+share-all-spec = tie.close (tie.spec (λ c κs. search needs) returns share-first-requires returns-2)

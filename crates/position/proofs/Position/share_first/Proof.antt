@@ -19,44 +19,14 @@ Inv-loop sheet party self₀ set held t₀ self t =
 abbrev μ-loop : tie.MeasureT-loop
 μ-loop sheet party self₀ set held t₀ self t = 32 - t
 
-first-shares-requires : tie.Need-first-shares-requires Inv-loop μ-loop
-first-shares-requires c κs = search needs
-
-keys-requires : tie.Need-keys-requires Inv-loop μ-loop
-keys-requires c κs = search needs
-
-next-requires : tie.Need-next-requires Inv-loop μ-loop
-next-requires c κs = search needs
-
 loop-holds : tie.Need-loop-holds Inv-loop μ-loop
 loop-holds c = (c .next .ensures .high, c .next .ensures .here, c .before .keys .ensures, share-start _ _ _ _ _ (c .before .before .first-shares .ensures) (c .next .ensures))
-
-mul-x : tie.Need-mul-x Inv-loop μ-loop
-mul-x c = search needs
-
-element-copy-out-x : tie.Need-element-copy-out-x Inv-loop μ-loop
-element-copy-out-x c = search needs
 
 shared-slot-requires : tie.Need-shared-slot-requires Inv-loop μ-loop
 shared-slot-requires c κs =
     let l = c .before .loop-test .taken in
     let low = first-low _ _ (c .before .before .before .before .before .first-shares .ensures) _ l (c .before .before .loop .inv .1 l) in
     search (needs, low)
-
-mul-shared : tie.Need-mul-shared Inv-loop μ-loop
-mul-shared c = search needs
-
-element-set-from-shared : tie.Need-element-set-from-shared Inv-loop μ-loop
-element-set-from-shared c = search needs
-
-add-next : tie.Need-add-next Inv-loop μ-loop
-add-next c = search needs
-
-next-requires-2 : tie.Need-next-requires-2 Inv-loop μ-loop
-next-requires-2 c κs = search needs
-
-loop-less : tie.Need-loop-less Inv-loop μ-loop
-loop-less c = search needs
 
 loop-again : tie.Need-loop-again Inv-loop μ-loop
 unfolding slot keys withSlots
@@ -77,17 +47,10 @@ share-first-spec =
     (tie.spec
     Inv-loop
     μ-loop
-    first-shares-requires
-    keys-requires
-    next-requires
+    (λ c κs. search needs) (λ c κs. search needs) (λ c κs. search needs)
     loop-holds
-    mul-x
-    element-copy-out-x
+    (λ c. search needs) (λ c. search needs)
     shared-slot-requires
-    mul-shared
-    element-set-from-shared
-    add-next
-    next-requires-2
-    loop-less
+    (λ c. search needs) (λ c. search needs) (λ c. search needs) (λ c κs. search needs) (λ c. search needs)
     loop-again
     returns)

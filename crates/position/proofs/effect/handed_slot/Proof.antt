@@ -5,19 +5,10 @@ use borrow.Author.Needs.{needs}
 use Rattle.position.proofs.effect.handed_slot.Statement.{statement}
 use Rattle.position.proofs.effect.handed_slot.Tie as tie
 
-with-shared-requires : tie.Need-with-shared-requires
-with-shared-requires c κs = search needs
-
-add-with-block : tie.Need-add-with-block
-add-with-block c = search needs
-
-with-block-requires : tie.Need-with-block-requires
-with-block-requires c κs = search needs
-
 returns : tie.Need-returns
 unfolding entryFor
 returns c = rw (c .with-block .ensures, c .before .with-shared .ensures, shared-none)
 
 pub handed-slot-spec : {M : Type 1} → statement M
 handed-slot-spec =
-    tie.close (tie.spec with-shared-requires add-with-block with-block-requires returns)
+    tie.close (tie.spec (λ c κs. search needs) (λ c. search needs) (λ c κs. search needs) returns)

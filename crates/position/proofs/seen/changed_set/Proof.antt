@@ -26,9 +26,6 @@ returns-4 : tie.Need-returns-4
 unfolding changedSet
 returns-4 c = simp (tests, c .before .before .if1 .left, c .before .if3 .left, c .if4 .taken)
 
-shl-result : tie.Need-shl-result
-shl-result c = search needs
-
 returns-5 : tie.Need-returns-5
 unfolding changedSet
 returns-5 c =
@@ -41,4 +38,4 @@ returns-6 c =
     rw (ne-eqb _ _ (c .before .before .before .if1 .left), ne-eqb _ _ (c .before .before .if3 .left), ne-eqb _ _ (c .before .if4 .left), le-ltb _ _ (c .if5 .left))
 
 pub changed-set-spec : {M : Type 1} → statement M
-changed-set-spec = tie.close (tie.spec returns returns-2 returns-3 returns-4 shl-result returns-5 returns-6)
+changed-set-spec = tie.close (tie.spec returns returns-2 returns-3 returns-4 (λ c. search needs) returns-5 returns-6)

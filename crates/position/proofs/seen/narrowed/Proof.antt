@@ -5,12 +5,6 @@ use borrow.Author.Needs.{needs}
 use Rattle.position.proofs.seen.narrowed.Statement.{statement}
 use Rattle.position.proofs.seen.narrowed.Tie as tie
 
-struck-requires : tie.Need-struck-requires
-struck-requires c κs = search needs
-
-touched-requires : tie.Need-touched-requires
-touched-requires c κs = search needs
-
 returns : tie.Need-returns
 unfolding narrowedSet
 returns c = rw (eq-eqb _ _ (c .before .before .if1 .taken), ← (c .before .struck .ensures)) (c .touched .ensures)
@@ -20,4 +14,4 @@ unfolding narrowedSet
 returns-2 c = rw (ne-eqb _ _ (c .if1 .left))
 
 pub narrowed-spec : {M : Type 1} → statement M
-narrowed-spec = tie.close (tie.spec struck-requires touched-requires returns returns-2)
+narrowed-spec = tie.close (tie.spec (λ c κs. search needs) (λ c κs. search needs) returns returns-2)

@@ -12,21 +12,6 @@ use borrow.Author.Needs.{needs}
 use Rattle.queries.proofs.holder.holder_in.Statement.{statement}
 use Rattle.queries.proofs.holder.holder_in.Tie as tie
 
-view-requires : tie.Need-view-requires
-view-requires c κs = search needs
-
-coin-end-requires : tie.Need-coin-end-requires
-coin-end-requires c κs = search needs
-
-mul-x : tie.Need-mul-x
-mul-x c = search needs
-
-element-copy-out-x : tie.Need-element-copy-out-x
-element-copy-out-x c = search needs
-
-payee-of-requires : tie.Need-payee-of-requires
-payee-of-requires c κs = search needs
-
 returns : tie.Need-returns
 unfolding holderIn viewBelow slot
 returns c = c .payee-of .ensures ∙ payee-right (c .before .before .before .before .before .before .args .t1) (c .before .before .before .coin-end .result) ∙ held-by (now (c .before .before .before .before .before .before .args .sheet)) (isConfirmed (c .before .before .before .before .before .before .args .t1)) (payee (c .before .before .before .before .before .before .args .t1)) (c .before .before .before .before .before .before .args .coin) (c .before .before .before .before .view .result .confirmed) (c .before .before .before .coin-end .result) (search needs) (ap (λ (v : View). v .confirmed) (c .before .before .before .before .view .ensures)) (c .before .before .before .coin-end .ensures) (c .before .before .if1 .taken)
@@ -39,10 +24,6 @@ pub holder-in-spec : {M : Type 1} → statement M
 holder-in-spec =
     tie.close
     (tie.spec
-    view-requires
-    coin-end-requires
-    mul-x
-    element-copy-out-x
-    payee-of-requires
+    (λ c κs. search needs) (λ c κs. search needs) (λ c. search needs) (λ c. search needs) (λ c κs. search needs)
     returns
     returns-2)

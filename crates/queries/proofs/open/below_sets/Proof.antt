@@ -17,29 +17,8 @@ abbrev μ-loop : tie.MeasureT-loop
 loop-holds : tie.Need-loop-holds Inv-loop μ-loop
 loop-holds c = (search needs, rewrite-start _ _, search needs)
 
-add-kind : tie.Need-add-kind Inv-loop μ-loop
-add-kind c = search needs
-
-cast-kind : tie.Need-cast-kind Inv-loop μ-loop
-cast-kind c = search needs
-
-cast-open-set : tie.Need-cast-open-set Inv-loop μ-loop
-cast-open-set c = search needs
-
 open-set-requires : tie.Need-open-set-requires Inv-loop μ-loop
 open-set-requires c κs = (c .before .before .before .before .pre .0, ((c .before .before .before .before .pre .1 .0), ((c .before .before .before .before .pre .1 .1), search needs)))
-
-mul-below : tie.Need-mul-below Inv-loop μ-loop
-mul-below c = search needs
-
-array-write-below : tie.Need-array-write-below Inv-loop μ-loop
-array-write-below c = search needs
-
-add-i : tie.Need-add-i Inv-loop μ-loop
-add-i c = search needs
-
-loop-less : tie.Need-loop-less Inv-loop μ-loop
-loop-less c = search needs
 
 loop-again : tie.Need-loop-again Inv-loop μ-loop
 loop-again c = (search needs, rewrite-again _ _ _ _ 0 _ (c .before .before .loop .inv .1) (c .open-set .ensures), search needs)
@@ -55,13 +34,8 @@ below-sets-spec =
     Inv-loop
     μ-loop
     loop-holds
-    add-kind
-    cast-kind
-    cast-open-set
+    (λ c. search needs) (λ c. search needs) (λ c. search needs)
     open-set-requires
-    mul-below
-    array-write-below
-    add-i
-    loop-less
+    (λ c. search needs) (λ c. search needs) (λ c. search needs) (λ c. search needs)
     loop-again
     returns)

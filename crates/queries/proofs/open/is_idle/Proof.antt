@@ -6,9 +6,6 @@ use borrow.Author.Needs.{needs}
 use Rattle.queries.proofs.open.is_idle.Statement.{statement}
 use Rattle.queries.proofs.open.is_idle.Tie as tie
 
-is-party-requires : tie.Need-is-party-requires
-is-party-requires c κs = search needs
-
 returns : tie.Need-returns
 unfolding isIdle
 returns c = rw (sym (c .before .before .is-party .ensures) ∙ not-true _ (c .before .if1 .taken))
@@ -22,4 +19,4 @@ unfolding isIdle
 returns-3 c = rw (sym (c .before .before .before .is-party .ensures) ∙ not-false _ (c .before .before .if1 .left), c .before .if2 .left)
 
 pub is-idle-spec : {M : Type 1} → statement M
-is-idle-spec = tie.close (tie.spec is-party-requires returns returns-2 returns-3)
+is-idle-spec = tie.close (tie.spec (λ c κs. search needs) returns returns-2 returns-3)

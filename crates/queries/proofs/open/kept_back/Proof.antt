@@ -4,9 +4,6 @@ use borrow.Author.Needs.{needs}
 use Rattle.queries.proofs.open.kept_back.Statement.{statement}
 use Rattle.queries.proofs.open.kept_back.Tie as tie
 
-is-party-requires : tie.Need-is-party-requires
-is-party-requires c κs = search needs
-
 returns : tie.Need-returns
 returns c = kept-no-party _ _ _ (c .before .before .before .before .args .o) _ _ (c .before .is-party .ensures) (c .if1 .taken)
 
@@ -16,11 +13,8 @@ returns-2 c = kept-not-careful _ _ _ _ _ (c .before .before .before .before .bef
 returns-3 : tie.Need-returns-3
 returns-3 c = kept-phase _ _ _ _ _ (c .before .before .before .before .before .before .before .before .pre .1 .1) (c .before .before .if2 .left) (c .if3 .taken)
 
-can-pay-requires : tie.Need-can-pay-requires
-can-pay-requires c κs = search needs
-
 returns-4 : tie.Need-returns-4
 returns-4 c = kept-if-paid _ _ _ _ _ (c .before .before .before .before .before .before .before .before .before .pre .1 .1) _ _ (c .before .before .before .before .before .before .is-party .ensures) (c .before .before .before .before .before .if1 .left) (c .before .before .before .if2 .left) (c .can-pay .ensures)
 
 pub kept-back-spec : {M : Type 1} → statement M
-kept-back-spec = tie.close (tie.spec is-party-requires returns returns-2 returns-3 can-pay-requires returns-4)
+kept-back-spec = tie.close (tie.spec (λ c κs. search needs) returns returns-2 returns-3 (λ c κs. search needs) returns-4)

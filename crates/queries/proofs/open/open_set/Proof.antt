@@ -7,20 +7,11 @@ use borrow.Author.Needs.{needs}
 use Rattle.queries.proofs.open.open_set.Statement.{statement}
 use Rattle.queries.proofs.open.open_set.Tie as tie
 
-may-stand-requires : tie.Need-may-stand-requires
-may-stand-requires c κs = search needs
-
 returns : tie.Need-returns
 returns c = set-none _ _ _ _ _ _ _ (c .before .may-stand .ensures) (c .if1 .taken)
 
-give-set-requires : tie.Need-give-set-requires
-give-set-requires c κs = search needs
-
 returns-2 : tie.Need-returns-2
 returns-2 c = set-given _ _ _ _ _ _ _ _ _ (c .before .before .before .before .before .before .pre .0) (c .before .before .before .before .before .before .pre .0 .checked .signatures-few) (c .before .before .before .before .before .before .pre .1 .0) (c .before .before .before .may-stand .ensures) (c .before .before .if1 .left) (c .before .before .before .before .before .before .pre .1 .1 .1) (c .before .if2 .taken) (c .give-set .ensures)
-
-candidates-requires : tie.Need-candidates-requires
-candidates-requires c κs = search needs
 
 returns-3 : tie.Need-returns-3
 returns-3 c =
@@ -39,4 +30,4 @@ returns-4 c = set-sheet _ _ _ _ _ _ _ (c .before .before .before .before .before
 
 pub open-set-spec : {M : Type 1} → statement M
 open-set-spec =
-    tie.close (tie.spec may-stand-requires returns give-set-requires returns-2 candidates-requires returns-3 sheet-set-requires returns-4)
+    tie.close (tie.spec (λ c κs. search needs) returns (λ c κs. search needs) returns-2 (λ c κs. search needs) returns-3 sheet-set-requires returns-4)

@@ -20,50 +20,11 @@ Inv-loop sheet setup sight actor kind to position n c found₀ t₀ found t = (t
 abbrev μ-loop : tie.MeasureT-loop
 μ-loop sheet setup sight actor kind to position n c found₀ t₀ found t = n - t
 
-count-requires : tie.Need-count-requires Inv-loop μ-loop
-count-requires c κs = search needs
-
-candidates-requires : tie.Need-candidates-requires Inv-loop μ-loop
-candidates-requires c κs = search needs
-
-next-requires : tie.Need-next-requires Inv-loop μ-loop
-next-requires c κs = search needs
-
 loop-holds : tie.Need-loop-holds Inv-loop μ-loop
 loop-holds c = (c .next .ensures .high, first-turn _ _ _ _ _ _ (c .before .before .before .before .before .pre .0) (c .before .before .before .before .before .pre .1 .1 .1 .1 .1) (c .before .before .before .before .before .pre .1 .1 .1 .0) (c .before .before .before .before .before .pre .1 .1 .1 .1 .0) _ _ _ _ (c .before .before .before .before .before .pre .1 .0) (c .before .before .before .before .before .pre .1 .1 .0) (c .before .candidates .ensures) (c .before .before .count .ensures .is) _ (c .next .ensures), c .next .ensures .here)
 
-mul-x : tie.Need-mul-x Inv-loop μ-loop
-mul-x c = search needs
-
-element-copy-out-x : tie.Need-element-copy-out-x Inv-loop μ-loop
-element-copy-out-x c = search needs
-
-slot-above-requires : tie.Need-slot-above-requires Inv-loop μ-loop
-slot-above-requires c κs = search needs
-
-mul-above : tie.Need-mul-above Inv-loop μ-loop
-mul-above c = search needs
-
-element-copy-out-above : tie.Need-element-copy-out-above Inv-loop μ-loop
-element-copy-out-above c = search needs
-
-block-above-requires : tie.Need-block-above-requires Inv-loop μ-loop
-block-above-requires c κs = search needs
-
 accepted-as-requires : tie.Need-accepted-as-requires Inv-loop μ-loop
 accepted-as-requires c κs = (c .before .before .before .before .before .before .before .before .before .before .before .pre .0, (omega (arith, c .before .before .before .before .loop-test .taken, c .before .before .before .before .before .before .before .before .count .ensures .is), c .before .before .before .before .before .before .before .before .before .before .before .pre .1 .1 .1 .1 .1))
-
-join-requires : tie.Need-join-requires Inv-loop μ-loop
-join-requires c κs = search needs
-
-add-next : tie.Need-add-next Inv-loop μ-loop
-add-next c = search needs
-
-next-requires-2 : tie.Need-next-requires-2 Inv-loop μ-loop
-next-requires-2 c κs = search needs
-
-loop-less : tie.Need-loop-less Inv-loop μ-loop
-loop-less c = search needs
 
 loop-again : tie.Need-loop-again Inv-loop μ-loop
 unfolding slot
@@ -84,20 +45,10 @@ sheet-set-spec =
     (tie.spec
     Inv-loop
     μ-loop
-    count-requires
-    candidates-requires
-    next-requires
+    (λ c κs. search needs) (λ c κs. search needs) (λ c κs. search needs)
     loop-holds
-    mul-x
-    element-copy-out-x
-    slot-above-requires
-    mul-above
-    element-copy-out-above
-    block-above-requires
+    (λ c. search needs) (λ c. search needs) (λ c κs. search needs) (λ c. search needs) (λ c. search needs) (λ c κs. search needs)
     accepted-as-requires
-    join-requires
-    add-next
-    next-requires-2
-    loop-less
+    (λ c κs. search needs) (λ c. search needs) (λ c κs. search needs) (λ c. search needs)
     loop-again
     returns)

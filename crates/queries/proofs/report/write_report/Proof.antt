@@ -23,53 +23,17 @@ Inv-loop view sheet setup out₀ position opened n per-day struck at₀ t₀ out
 abbrev μ-loop : tie.MeasureT-loop
 μ-loop view sheet setup out₀ position opened n per-day struck at₀ t₀ out at t = n - t
 
-count-requires : tie.Need-count-requires Inv-loop μ-loop
-count-requires c κs = search needs
-
-per-day-requires : tie.Need-per-day-requires Inv-loop μ-loop
-per-day-requires c κs = search needs
-
-conflicts-of-requires : tie.Need-conflicts-of-requires Inv-loop μ-loop
-conflicts-of-requires c κs = search needs
-
 loop-holds : tie.Need-loop-holds Inv-loop μ-loop
 loop-holds c =
     let k = c .before .before .before .before .before .before in
     let n = c .before .before .count in
     turns-start _ _ _ (rows-room (k .args .sheet .now) (k .args .setup .now) (k .args .t1) (k .args .t3) (n .result) _ (n .ensures .is) (k .pre .1 .1))
 
-mul-x : tie.Need-mul-x Inv-loop μ-loop
-mul-x c = search needs
-
-element-copy-out-x : tie.Need-element-copy-out-x Inv-loop μ-loop
-element-copy-out-x c = search needs
-
-slot-above-requires : tie.Need-slot-above-requires Inv-loop μ-loop
-slot-above-requires c κs = search needs
-
-mul-above : tie.Need-mul-above Inv-loop μ-loop
-mul-above c = search needs
-
-element-copy-out-above : tie.Need-element-copy-out-above Inv-loop μ-loop
-element-copy-out-above c = search needs
-
-block-above-requires : tie.Need-block-above-requires Inv-loop μ-loop
-block-above-requires c κs = search needs
-
-row-requires : tie.Need-row-requires Inv-loop μ-loop
-row-requires c κs = search needs
-
 sub-write-row : tie.Need-sub-write-row Inv-loop μ-loop
 sub-write-row c = omega (arith, c .before .before .before .before .before .before .loop .inv .wrote)
 
 part-write-row-start : tie.Need-part-write-row-start Inv-loop μ-loop
 part-write-row-start c = omega (arith, c .before .before .before .before .before .before .loop .inv .wrote)
-
-part-write-row-end : tie.Need-part-write-row-end Inv-loop μ-loop
-part-write-row-end c = search needs
-
-mul-write-row : tie.Need-mul-write-row Inv-loop μ-loop
-mul-write-row c = search needs
 
 array-read-write-row : tie.Need-array-read-write-row Inv-loop μ-loop
 array-read-write-row c =
@@ -87,12 +51,6 @@ add-at c =
     let k = c .before .before .before .before .before .before .before .before .before .before .before .before .before .before .before .before .before in
     let i = c .before .before .before .before .before .before .before .before .before .before .loop in
     omega (arith, turn-end _ _ _ _ _ _ rowWidth (i .inv) (c .before .before .before .before .before .before .before .before .before .loop-test .taken) (sym (row-length (k .args .sheet .now) (k .args .setup .now) (k .args .t1) (k .args .t3) (i .t))))
-
-add-t : tie.Need-add-t Inv-loop μ-loop
-add-t c = search needs
-
-loop-less : tie.Need-loop-less Inv-loop μ-loop
-loop-less c = search needs
 
 loop-again : tie.Need-loop-again Inv-loop μ-loop
 unfolding sinceIn slot
@@ -121,26 +79,17 @@ write-report-spec =
     (tie.spec
     Inv-loop
     μ-loop
-    count-requires
-    per-day-requires
-    conflicts-of-requires
+    (λ c κs. search needs) (λ c κs. search needs) (λ c κs. search needs)
     loop-holds
-    mul-x
-    element-copy-out-x
-    slot-above-requires
-    mul-above
-    element-copy-out-above
-    block-above-requires
-    row-requires
+    (λ c. search needs) (λ c. search needs) (λ c κs. search needs) (λ c. search needs) (λ c. search needs) (λ c κs. search needs)
+    (λ c κs. search needs)
     sub-write-row
     part-write-row-start
-    part-write-row-end
-    mul-write-row
+    (λ c. search needs) (λ c. search needs)
     array-read-write-row
     write-row-requires
     add-at
-    add-t
-    loop-less
+    (λ c. search needs) (λ c. search needs)
     loop-again
     same-length
     returns)

@@ -23,70 +23,6 @@ abbrev coin-from-below : ℕ → In 1 coin-from-kinds.ps
 coin-from-below t =
     and 1 coin-from-kinds.ps (falls 1 coin-from-kinds.ps _<_ μ-coin-from t) coin-from.Pre
 
-coin-from-opening-requires : (t : ℕ) → coin-from-lts.Need-opening-requires (
-  opening-reads.Asked,
-  opening-reads.Learnt,
-  parent-reads.Asked,
-  parent-reads.Learnt,
-  coin-from-below t,
-  coin-from.Post,
-) (coin-from-at t) coin-from.Post
-coin-from-opening-requires t c κs = search needs
-
-coin-from-returns : (t : ℕ) → coin-from-lts.Need-returns (
-  opening-reads.Asked,
-  opening-reads.Learnt,
-  parent-reads.Asked,
-  parent-reads.Learnt,
-  coin-from-below t,
-  coin-from.Post,
-) (coin-from-at t) coin-from.Post
-coin-from-returns t c = rw coin-step (simp (← (c .before .opening .ensures), c .if1 .taken))
-
-coin-from-parent-requires : (t : ℕ) → coin-from-lts.Need-parent-requires (
-  opening-reads.Asked,
-  opening-reads.Learnt,
-  parent-reads.Asked,
-  parent-reads.Learnt,
-  coin-from-below t,
-  coin-from.Post,
-) (coin-from-at t) coin-from.Post
-coin-from-parent-requires t c κs = search needs
-
-coin-from-coin-from-requires : (t : ℕ) → coin-from-lts.Need-coin-from-requires (
-  opening-reads.Asked,
-  opening-reads.Learnt,
-  parent-reads.Asked,
-  parent-reads.Learnt,
-  coin-from-below t,
-  coin-from.Post,
-) (coin-from-at t) coin-from.Post
-coin-from-coin-from-requires t c κs = search needs
-
-coin-from-returns-2 : (t : ℕ) → coin-from-lts.Need-returns-2 (
-  opening-reads.Asked,
-  opening-reads.Learnt,
-  parent-reads.Asked,
-  parent-reads.Learnt,
-  coin-from-below t,
-  coin-from.Post,
-) (coin-from-at t) coin-from.Post
-coin-from-returns-2 t c =
-    rw coin-step
-    (simp (tests, ← (c .before .before .before .before .opening .ensures), c .before .before .before .if1 .left, ← (c .before .before .parent .ensures .is), c .before .if2 .taken, ← (c .coin-from .ensures)))
-
-coin-from-returns-3 : (t : ℕ) → coin-from-lts.Need-returns-3 (
-  opening-reads.Asked,
-  opening-reads.Learnt,
-  parent-reads.Asked,
-  parent-reads.Learnt,
-  coin-from-below t,
-  coin-from.Post,
-) (coin-from-at t) coin-from.Post
-coin-from-returns-3 t c =
-    rw coin-step
-    (simp (tests, ← (c .before .before .before .opening .ensures), c .before .before .if1 .left, ← (c .before .parent .ensures .is), c .if2 .left))
-
 pub +coin-from-spec : {M : Type 1} → statement M
 +coin-from-spec = close μ-coin-from λ t. coin-from-lts.spec (
   opening-reads.Asked,
@@ -98,9 +34,8 @@ pub +coin-from-spec : {M : Type 1} → statement M
 )
     (coin-from-at t)
     coin-from.Post
-    (coin-from-opening-requires t)
-    (coin-from-returns t)
-    (coin-from-parent-requires t)
-    (coin-from-coin-from-requires t)
-    (coin-from-returns-2 t)
-    (coin-from-returns-3 t)
+    (λ c κs. search needs)
+    (λ c. rw coin-step (simp (← (c .before .opening .ensures), c .if1 .taken)))
+    (λ c κs. search needs) (λ c κs. search needs)
+    (λ c. rw coin-step (simp (tests, ← (c .before .before .before .before .opening .ensures), c .before .before .before .if1 .left, ← (c .before .before .parent .ensures .is), c .before .if2 .taken, ← (c .coin-from .ensures))))
+    (λ c. rw coin-step (simp (tests, ← (c .before .before .before .opening .ensures), c .before .before .if1 .left, ← (c .before .parent .ensures .is), c .if2 .left)))

@@ -15,20 +15,8 @@ Inv-loop sheet confirmed coin n found₀ t₀ found t = (t ≤ n) × (found ≡ 
 abbrev μ-loop : tie.MeasureT-loop
 μ-loop sheet confirmed coin n found₀ t₀ found t = n - t
 
-count-requires : tie.Need-count-requires Inv-loop μ-loop
-count-requires c κs = search needs
-
 loop-holds : tie.Need-loop-holds Inv-loop μ-loop
 loop-holds c = (search needs, end-start _)
-
-end-at-requires : tie.Need-end-at-requires Inv-loop μ-loop
-end-at-requires c κs = search needs
-
-add-t : tie.Need-add-t Inv-loop μ-loop
-add-t c = search needs
-
-loop-less : tie.Need-loop-less Inv-loop μ-loop
-loop-less c = search needs
 
 loop-again : tie.Need-loop-again Inv-loop μ-loop
 loop-again c = (search needs, end-more _ _ _ _ (c .before .before .loop .inv .1) (c .end-at .ensures))
@@ -43,10 +31,8 @@ coin-end-spec =
     (tie.spec
     Inv-loop
     μ-loop
-    count-requires
+    (λ c κs. search needs)
     loop-holds
-    end-at-requires
-    add-t
-    loop-less
+    (λ c κs. search needs) (λ c. search needs) (λ c. search needs)
     loop-again
     returns)

@@ -5,12 +5,9 @@ use borrow.Author.Needs.{needs}
 use Rattle.readings.proofs.holder.coin_of.Statement.{statement}
 use Rattle.readings.proofs.holder.coin_of.Tie as tie
 
-coin-from-requires : tie.Need-coin-from-requires
-coin-from-requires c κs = search needs
-
 returns : tie.Need-returns
 unfolding coinOf coinFrom
 returns c = c .coin-from .ensures
 
 pub coin-of-spec : {M : Type 1} → statement M
-coin-of-spec = tie.close (tie.spec coin-from-requires returns)
+coin-of-spec = tie.close (tie.spec (λ c κs. search needs) returns)

@@ -17,24 +17,12 @@ Inv-loop sheet confirmed t n k₀ k = (k ≤ n) × (anyBelow k (λ j. eqb (paren
 abbrev μ-loop : tie.MeasureT-loop
 μ-loop sheet confirmed t n k₀ k = n - k
 
-count-requires : tie.Need-count-requires Inv-loop μ-loop
-count-requires c κs = search needs
-
 loop-holds : tie.Need-loop-holds Inv-loop μ-loop
 loop-holds c = (search needs, any-start _)
-
-child-there-requires : tie.Need-child-there-requires Inv-loop μ-loop
-child-there-requires c κs = search needs
 
 returns : tie.Need-returns Inv-loop μ-loop
 unfolding confirmedChild
 returns c = rw (← (c .before .before .before .before .count .ensures .is)) (sym (any-found _ _ _ (c .before .before .loop-test .taken) (sym (c .before .child-there .ensures) ∙ c .if1 .taken)))
-
-add-k : tie.Need-add-k Inv-loop μ-loop
-add-k c = search needs
-
-loop-less : tie.Need-loop-less Inv-loop μ-loop
-loop-less c = search needs
 
 loop-again : tie.Need-loop-again Inv-loop μ-loop
 loop-again c = (search needs, any-more _ _ (c .before .before .before .loop .inv .1) (sym (c .before .child-there .ensures) ∙ c .if1 .left))
@@ -49,11 +37,10 @@ confirmed-child-spec =
     (tie.spec
     Inv-loop
     μ-loop
-    count-requires
+    (λ c κs. search needs)
     loop-holds
-    child-there-requires
+    (λ c κs. search needs)
     returns
-    add-k
-    loop-less
+    (λ c. search needs) (λ c. search needs)
     loop-again
     returns-2)

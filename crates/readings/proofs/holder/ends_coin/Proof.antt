@@ -6,22 +6,13 @@ use borrow.Author.Needs.{needs}
 use Rattle.readings.proofs.holder.ends_coin.Statement.{statement}
 use Rattle.readings.proofs.holder.ends_coin.Tie as tie
 
-coin-of-requires : tie.Need-coin-of-requires
-coin-of-requires c κs = search needs
-
 returns : tie.Need-returns
 unfolding endsCoin
 returns c = simp (tests, ← (c .before .coin-of .ensures), c .if1 .taken)
 
-has-requires : tie.Need-has-requires
-has-requires c κs = search needs
-
 returns-2 : tie.Need-returns-2
 unfolding endsCoin
 returns-2 c = simp (tests, ← (c .before .before .before .coin-of .ensures), c .before .before .if1 .left, ← (c .before .has .ensures), not-true (c .before .has .result) (c .if2 .taken))
-
-confirmed-child-requires : tie.Need-confirmed-child-requires
-confirmed-child-requires c κs = search needs
 
 returns-3 : tie.Need-returns-3
 unfolding endsCoin
@@ -30,4 +21,4 @@ returns-3 c = simp (tests, ← (c .before .before .before .before .coin-of .ensu
 pub ends-coin-spec : {M : Type 1} → statement M
 ends-coin-spec =
     tie.close
-    (tie.spec coin-of-requires returns has-requires returns-2 confirmed-child-requires returns-3)
+    (tie.spec (λ c κs. search needs) returns (λ c κs. search needs) returns-2 (λ c κs. search needs) returns-3)

@@ -5,21 +5,6 @@ use borrow.Author.Needs.{needs}
 use Rattle.readings.proofs.open.accepted_as.Statement.{statement}
 use Rattle.readings.proofs.open.accepted_as.Tie as tie
 
-share-refusal-requires : tie.Need-share-refusal-requires
-share-refusal-requires c κs = search needs
-
-pool-accepted-requires : tie.Need-pool-accepted-requires
-pool-accepted-requires c κs = search needs
-
-miner-accepted-requires : tie.Need-miner-accepted-requires
-miner-accepted-requires c κs = search needs
-
-include-refusal-requires : tie.Need-include-refusal-requires
-include-refusal-requires c κs = search needs
-
-bump-refusal-requires : tie.Need-bump-refusal-requires
-bump-refusal-requires c κs = search needs
-
 returns : tie.Need-returns
 unfolding refusalAs
 returns c = rw (c .before .match .keys1, c .share-refusal .ensures)
@@ -44,11 +29,7 @@ pub accepted-as-spec : {M : Type 1} → statement M
 accepted-as-spec =
     tie.close
     (tie.spec
-    share-refusal-requires
-    pool-accepted-requires
-    miner-accepted-requires
-    include-refusal-requires
-    bump-refusal-requires
+    (λ c κs. search needs) (λ c κs. search needs) (λ c κs. search needs) (λ c κs. search needs) (λ c κs. search needs)
     returns
     returns-2
     returns-3

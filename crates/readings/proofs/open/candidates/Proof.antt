@@ -5,19 +5,13 @@ use borrow.Author.Needs.{needs}
 use Rattle.readings.proofs.open.candidates.Statement.{statement}
 use Rattle.readings.proofs.open.candidates.Tie as tie
 
-turns-requires : tie.Need-turns-requires
-turns-requires c κs = search needs
-
 returns : tie.Need-returns
 unfolding candidatesIn
 returns c = rw (le-leb _ _ (c .if1 .taken)) (c .before .turns .ensures)
-
-of-requires : tie.Need-of-requires
-of-requires c κs = search needs
 
 returns-2 : tie.Need-returns-2
 unfolding candidatesIn
 returns-2 c = rw (lt-leb _ _ (c .before .if1 .left), ← (c .of .ensures), ← (c .before .before .turns .ensures))
 
 pub candidates-spec : {M : Type 1} → statement M
-candidates-spec = tie.close (tie.spec turns-requires returns of-requires returns-2)
+candidates-spec = tie.close (tie.spec (λ c κs. search needs) returns (λ c κs. search needs) returns-2)

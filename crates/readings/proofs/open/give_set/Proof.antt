@@ -13,29 +13,8 @@ Inv-loop sheet sight actor destination n found₀ i₀ found i = (i ≤ n) × (f
 abbrev μ-loop : tie.MeasureT-loop
 μ-loop sheet sight actor destination n found₀ i₀ found i = n - i
 
-signatures-requires : tie.Need-signatures-requires Inv-loop μ-loop
-signatures-requires c κs = search needs
-
-wide-requires : tie.Need-wide-requires Inv-loop μ-loop
-wide-requires c κs = search needs
-
 loop-holds : tie.Need-loop-holds Inv-loop μ-loop
 loop-holds c = (search needs, set-start _)
-
-cast-gives : tie.Need-cast-gives Inv-loop μ-loop
-cast-gives c = search needs
-
-gives-requires : tie.Need-gives-requires Inv-loop μ-loop
-gives-requires c κs = search needs
-
-join-requires : tie.Need-join-requires Inv-loop μ-loop
-join-requires c κs = search needs
-
-add-i : tie.Need-add-i Inv-loop μ-loop
-add-i c = search needs
-
-loop-less : tie.Need-loop-less Inv-loop μ-loop
-loop-less c = search needs
 
 loop-again : tie.Need-loop-again Inv-loop μ-loop
 loop-again c = (search needs, set-more _ _ _ _ _ (c .before .before .before .loop .inv .1) (c .join .ensures) (c .before .gives .ensures))
@@ -49,13 +28,8 @@ give-set-spec =
     (tie.spec
     Inv-loop
     μ-loop
-    signatures-requires
-    wide-requires
+    (λ c κs. search needs) (λ c κs. search needs)
     loop-holds
-    cast-gives
-    gives-requires
-    join-requires
-    add-i
-    loop-less
+    (λ c. search needs) (λ c κs. search needs) (λ c κs. search needs) (λ c. search needs) (λ c. search needs)
     loop-again
     returns)

@@ -5,24 +5,9 @@ use borrow.Author.Needs.{needs}
 use Rattle.readings.proofs.open.goes_for.Statement.{statement}
 use Rattle.readings.proofs.open.goes_for.Tie as tie
 
-is-party-requires : tie.Need-is-party-requires
-is-party-requires c κs = search needs
-
 returns : tie.Need-returns
 unfolding goesFor
 returns c = rw (← (c .before .is-party .ensures), not-true (c .before .is-party .result) (c .if1 .taken))
-
-goes-set-requires : tie.Need-goes-set-requires
-goes-set-requires c κs = search needs
-
-goes-set-requires-2 : tie.Need-goes-set-requires-2
-goes-set-requires-2 c κs = search needs
-
-goes-set-requires-3 : tie.Need-goes-set-requires-3
-goes-set-requires-3 c κs = search needs
-
-goes-set-requires-4 : tie.Need-goes-set-requires-4
-goes-set-requires-4 c κs = search needs
 
 returns-2 : tie.Need-returns-2
 unfolding goesFor
@@ -32,10 +17,7 @@ pub goes-for-spec : {M : Type 1} → statement M
 goes-for-spec =
     tie.close
     (tie.spec
-    is-party-requires
+    (λ c κs. search needs)
     returns
-    goes-set-requires
-    goes-set-requires-2
-    goes-set-requires-3
-    goes-set-requires-4
+    (λ c κs. search needs) (λ c κs. search needs) (λ c κs. search needs) (λ c κs. search needs)
     returns-2)

@@ -5,12 +5,6 @@ use borrow.Author.Needs.{needs}
 use Rattle.readings.proofs.open.may_stand.Statement.{statement}
 use Rattle.readings.proofs.open.may_stand.Tie as tie
 
-is-party-requires : tie.Need-is-party-requires
-is-party-requires c κs = search needs
-
-party-may-requires : tie.Need-party-may-requires
-party-may-requires c κs = search needs
-
 returns : tie.Need-returns
 unfolding mayStand
 returns c = rw (← (c .before .before .is-party .ensures), c .before .if1 .taken) (c .party-may .ensures)
@@ -34,4 +28,4 @@ returns-5 c = rw (← (c .before .before .before .before .is-party .ensures), c 
 pub may-stand-spec : {M : Type 1} → statement M
 may-stand-spec =
     tie.close
-    (tie.spec is-party-requires party-may-requires returns returns-2 returns-3 returns-4 returns-5)
+    (tie.spec (λ c κs. search needs) (λ c κs. search needs) returns returns-2 returns-3 returns-4 returns-5)

@@ -6,20 +6,8 @@ use borrow.Author.Needs.{needs}
 use Rattle.readings.proofs.open.miner_accepted.Statement.{statement}
 use Rattle.readings.proofs.open.miner_accepted.Tie as tie
 
-placed-requires : tie.Need-placed-requires
-placed-requires c κs = search needs
-
-parent-there-requires : tie.Need-parent-there-requires
-parent-there-requires c κs = search needs
-
 returns : tie.Need-returns
 returns c = sym (miner-orphan _ _ _ _ _ _ _ _ _ (rw (← (c .before .before .placed .ensures)) (sym (c .before .parent-there .ensures) ∙ not-true _ (c .if1 .taken))))
-
-send-held-requires : tie.Need-send-held-requires
-send-held-requires c κs = search needs
-
-miner-refusal-requires : tie.Need-miner-refusal-requires
-miner-refusal-requires c κs = search needs
 
 returns-2 : tie.Need-returns-2
 returns-2 c = rw (← (c .before .send-held .ensures), c .miner-refusal .ensures)
@@ -28,9 +16,7 @@ pub miner-accepted-spec : {M : Type 1} → statement M
 miner-accepted-spec =
     tie.close
     (tie.spec
-    placed-requires
-    parent-there-requires
+    (λ c κs. search needs) (λ c κs. search needs)
     returns
-    send-held-requires
-    miner-refusal-requires
+    (λ c κs. search needs) (λ c κs. search needs)
     returns-2)

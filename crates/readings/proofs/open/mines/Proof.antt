@@ -9,12 +9,9 @@ returns : tie.Need-returns
 unfolding minesIn
 returns c = rw (ne-eqb _ _ (c .if1 .taken))
 
-mine-refusal-requires : tie.Need-mine-refusal-requires
-mine-refusal-requires c κs = search needs
-
 returns-2 : tie.Need-returns-2
 unfolding minesIn
 returns-2 c = rw (c .before .if1 .left, c .mine-refusal .ensures)
 
 pub mines-spec : {M : Type 1} → statement M
-mines-spec = tie.close (tie.spec returns mine-refusal-requires returns-2)
+mines-spec = tie.close (tie.spec returns (λ c κs. search needs) returns-2)

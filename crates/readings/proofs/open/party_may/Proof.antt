@@ -5,15 +5,6 @@ use borrow.Author.Needs.{needs}
 use Rattle.readings.proofs.open.party_may.Statement.{statement}
 use Rattle.readings.proofs.open.party_may.Tie as tie
 
-is-other-requires : tie.Need-is-other-requires
-is-other-requires c κs = search needs
-
-to-sender-requires : tie.Need-to-sender-requires
-to-sender-requires c κs = search needs
-
-to-sender-requires-2 : tie.Need-to-sender-requires-2
-to-sender-requires-2 c κs = search needs
-
 returns : tie.Need-returns
 unfolding partyMay
 returns c = rw (c .match .keys1)
@@ -38,9 +29,7 @@ pub party-may-spec : {M : Type 1} → statement M
 party-may-spec =
     tie.close
     (tie.spec
-    is-other-requires
-    to-sender-requires
-    to-sender-requires-2
+    (λ c κs. search needs) (λ c κs. search needs) (λ c κs. search needs)
     returns
     returns-2
     returns-3

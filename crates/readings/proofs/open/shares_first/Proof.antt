@@ -5,18 +5,9 @@ use borrow.Author.Needs.{needs}
 use Rattle.readings.proofs.open.shares_first.Statement.{statement}
 use Rattle.readings.proofs.open.shares_first.Tie as tie
 
-conduct-requires : tie.Need-conduct-requires
-conduct-requires c κs = search needs
-
 returns : tie.Need-returns
 unfolding sharesFirst
 returns c = rw (← (c .before .conduct .ensures), c .if1 .taken)
-
-share-allowed-requires : tie.Need-share-allowed-requires
-share-allowed-requires c κs = search needs
-
-conduct-refusal-requires : tie.Need-conduct-refusal-requires
-conduct-refusal-requires c κs = search needs
 
 returns-2 : tie.Need-returns-2
 unfolding sharesFirst
@@ -25,4 +16,4 @@ returns-2 c = rw (← (c .before .before .before .before .conduct .ensures), ne-
 pub shares-first-spec : {M : Type 1} → statement M
 shares-first-spec =
     tie.close
-    (tie.spec conduct-requires returns share-allowed-requires conduct-refusal-requires returns-2)
+    (tie.spec (λ c κs. search needs) returns (λ c κs. search needs) (λ c κs. search needs) returns-2)

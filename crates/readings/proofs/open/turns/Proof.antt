@@ -5,15 +5,6 @@ use borrow.Author.Needs.{needs}
 use Rattle.readings.proofs.open.turns.Statement.{statement}
 use Rattle.readings.proofs.open.turns.Tie as tie
 
-sharers-requires : tie.Need-sharers-requires
-sharers-requires c κs = search needs
-
-senders-requires : tie.Need-senders-requires
-senders-requires c κs = search needs
-
-handers-requires : tie.Need-handers-requires
-handers-requires c κs = search needs
-
 returns : tie.Need-returns
 unfolding turnsIn
 returns c = rw (c .before .match .keys1) (c .sharers .ensures)
@@ -34,9 +25,7 @@ pub turns-spec : {M : Type 1} → statement M
 turns-spec =
     tie.close
     (tie.spec
-    sharers-requires
-    senders-requires
-    handers-requires
+    (λ c κs. search needs) (λ c κs. search needs) (λ c κs. search needs)
     returns
     returns-2
     returns-3

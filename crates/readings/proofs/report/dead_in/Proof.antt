@@ -4,19 +4,13 @@ use borrow.Author.Needs.{needs}
 use Rattle.readings.proofs.report.dead_in.Statement.{statement}
 use Rattle.readings.proofs.report.dead_in.Tie as tie
 
-has-requires : tie.Need-has-requires
-has-requires c κs = search needs
-
 returns : tie.Need-returns
 unfolding deadIn
 returns c = rw (← (c .before .has .ensures), c .if1 .taken)
-
-in-ancestry-requires : tie.Need-in-ancestry-requires
-in-ancestry-requires c κs = search needs
 
 returns-2 : tie.Need-returns-2
 unfolding deadIn
 returns-2 c = rw (← (c .before .before .has .ensures), c .before .if1 .left) (c .in-ancestry .ensures)
 
 pub dead-in-spec : {M : Type 1} → statement M
-dead-in-spec = tie.close (tie.spec has-requires returns in-ancestry-requires returns-2)
+dead-in-spec = tie.close (tie.spec (λ c κs. search needs) returns (λ c κs. search needs) returns-2)

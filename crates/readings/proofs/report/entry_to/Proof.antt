@@ -9,12 +9,9 @@ returns : tie.Need-returns
 unfolding entryTo
 returns c = rw (c .if1 .taken)
 
-sub-result : tie.Need-sub-result
-sub-result c = search needs
-
 returns-2 : tie.Need-returns-2
 unfolding entryTo
 returns-2 c = refl
 
 pub entry-to-spec : {M : Type 1} → statement M
-entry-to-spec = tie.close (tie.spec returns sub-result returns-2)
+entry-to-spec = tie.close (tie.spec returns (λ c. search needs) returns-2)

@@ -5,9 +5,6 @@ use borrow.Author.Needs.{needs}
 use Rattle.readings.proofs.report.payee_of.Statement.{statement}
 use Rattle.readings.proofs.report.payee_of.Tie as tie
 
-entry-to-requires : tie.Need-entry-to-requires
-entry-to-requires c κs = search needs
-
 returns : tie.Need-returns
 unfolding payeeIn
 returns c = simp (tests, c .before .if1 .taken, ← (c .entry-to .ensures))
@@ -17,4 +14,4 @@ unfolding payeeIn
 returns-2 c = simp (tests, c .if1 .left)
 
 pub payee-of-spec : {M : Type 1} → statement M
-payee-of-spec = tie.close (tie.spec entry-to-requires returns returns-2)
+payee-of-spec = tie.close (tie.spec (λ c κs. search needs) returns returns-2)

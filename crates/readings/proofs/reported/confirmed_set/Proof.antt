@@ -13,23 +13,8 @@ Inv-loop sheet report n found₀ t₀ found t = (t ≤ n) × (found ≡ setBelow
 abbrev μ-loop : tie.MeasureT-loop
 μ-loop sheet report n found₀ t₀ found t = n - t
 
-count-requires : tie.Need-count-requires Inv-loop μ-loop
-count-requires c κs = search needs
-
 loop-holds : tie.Need-loop-holds Inv-loop μ-loop
 loop-holds c = (search needs, set-start _)
-
-confirmed-requires : tie.Need-confirmed-requires Inv-loop μ-loop
-confirmed-requires c κs = search needs
-
-join-requires : tie.Need-join-requires Inv-loop μ-loop
-join-requires c κs = search needs
-
-add-t : tie.Need-add-t Inv-loop μ-loop
-add-t c = search needs
-
-loop-less : tie.Need-loop-less Inv-loop μ-loop
-loop-less c = search needs
 
 loop-again : tie.Need-loop-again Inv-loop μ-loop
 loop-again c = (search needs, set-more _ _ _ _ _ (c .before .before .before .loop .inv .1) (c .join .ensures) (c .before .confirmed .ensures))
@@ -43,11 +28,8 @@ confirmed-set-spec =
     (tie.spec
     Inv-loop
     μ-loop
-    count-requires
+    (λ c κs. search needs)
     loop-holds
-    confirmed-requires
-    join-requires
-    add-t
-    loop-less
+    (λ c κs. search needs) (λ c κs. search needs) (λ c. search needs) (λ c. search needs)
     loop-again
     returns)

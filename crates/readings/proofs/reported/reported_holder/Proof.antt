@@ -6,18 +6,6 @@ use borrow.Author.Needs.{needs}
 use Rattle.readings.proofs.reported.reported_holder.Statement.{statement}
 use Rattle.readings.proofs.reported.reported_holder.Tie as tie
 
-confirmed-set-requires : tie.Need-confirmed-set-requires
-confirmed-set-requires c κs = search needs
-
-coin-end-requires : tie.Need-coin-end-requires
-coin-end-requires c κs = search needs
-
-mul-result : tie.Need-mul-result
-mul-result c = search needs
-
-add-result : tie.Need-add-result
-add-result c = search needs
-
 shared-slice-read-result : tie.Need-shared-slice-read-result
 shared-slice-read-result c = search (needs, held-in (now (c .before .before .before .before .before .before .args .sheet)) (reportedConfirmed (now (c .before .before .before .before .before .before .args .report))) (reportedPayee (now (c .before .before .before .before .before .before .args .report))) (c .before .before .before .before .before .before .args .coin) (c .before .before .before .confirmed-set .result) (c .before .before .coin-end .result) (search needs) (c .before .before .before .confirmed-set .ensures) (c .before .before .coin-end .ensures) (c .before .if1 .taken))
 
@@ -33,10 +21,7 @@ pub reported-holder-spec : {M : Type 1} → statement M
 reported-holder-spec =
     tie.close
     (tie.spec
-    confirmed-set-requires
-    coin-end-requires
-    mul-result
-    add-result
+    (λ c κs. search needs) (λ c κs. search needs) (λ c. search needs) (λ c. search needs)
     shared-slice-read-result
     returns
     returns-2)

@@ -4,14 +4,8 @@ use borrow.Author.Needs.{needs}
 use Rattle.runs.proofs.journal.call_refusal.Statement.{statement}
 use Rattle.runs.proofs.journal.call_refusal.Tie as tie
 
-setup-refusal-requires : tie.Need-setup-refusal-requires
-setup-refusal-requires c κs = search needs
-
 returns : tie.Need-returns
 returns c = by-setup _ _ _ _ (c .before .before .before .before .before .pre) (c .before .setup-refusal .ensures) (c .if1 .taken)
-
-journal-right-requires : tie.Need-journal-right-requires
-journal-right-requires c κs = search needs
 
 returns-2 : tie.Need-returns-2
 returns-2 c = by-journal _ _ _ _ _ (c .before .before .before .before .before .before .before .pre) (c .before .before .before .setup-refusal .ensures) (c .before .before .if1 .left) (c .before .journal-right .ensures) (c .if2 .taken)
@@ -23,8 +17,8 @@ pub call-refusal-spec : {M : Type 1} → statement M
 call-refusal-spec =
     tie.close
     (tie.spec
-    setup-refusal-requires
+    (λ c κs. search needs)
     returns
-    journal-right-requires
+    (λ c κs. search needs)
     returns-2
     returns-3)

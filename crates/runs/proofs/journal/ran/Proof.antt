@@ -6,12 +6,6 @@ use borrow.Author.Needs.{needs}
 use Rattle.runs.proofs.journal.ran.Statement.{statement}
 use Rattle.runs.proofs.journal.ran.Tie as tie
 
-sheet-refusal-requires : tie.Need-sheet-refusal-requires
-sheet-refusal-requires c κs = search needs
-
-start-requires : tie.Need-start-requires
-start-requires c κs = search needs
-
 returns : tie.Need-returns
 returns c = c .without-step .ensures ∙ ran-refused _ _ _ _ _ (by-sheet _ _ _ _ (c .before .before .before .sheet-refusal .ensures) (c .before .before .if1 .taken)) (c .before .before .if1 .taken) (c .before .start .ensures)
 
@@ -22,4 +16,4 @@ returns-2 : tie.Need-returns-2
 returns-2 c = c .ran-checked .ensures
 
 pub ran-spec : {M : Type 1} → statement M
-ran-spec = tie.close (tie.spec sheet-refusal-requires start-requires (λ c κs. search needs) returns ran-checked-requires returns-2)
+ran-spec = tie.close (tie.spec (λ c κs. search needs) (λ c κs. search needs) (λ c κs. search needs) returns ran-checked-requires returns-2)

@@ -6,12 +6,6 @@ use borrow.Author.Needs.{needs}
 use Rattle.runs.proofs.journal.ran_checked.Statement.{statement}
 use Rattle.runs.proofs.journal.ran_checked.Tie as tie
 
-call-refusal-requires : tie.Need-call-refusal-requires
-call-refusal-requires c κs = search needs
-
-start-requires : tie.Need-start-requires
-start-requires c κs = search needs
-
 returns : tie.Need-returns
 returns c = c .without-step .ensures ∙ ran-refused _ _ _ _ _ (c .before .before .before .call-refusal .ensures) (c .before .if1 .taken) (c .before .before .start .ensures)
 
@@ -30,4 +24,4 @@ returns-3 : tie.Need-returns-3
 returns-3 c = ran-allowed _ _ _ _ _ _ (c .before .before .before .before .before .call-refusal .ensures) (c .before .before .before .if1 .left) (c .before .before .before .before .start .ensures) (c .run-seen .ensures)
 
 pub ran-checked-spec : {M : Type 1} → statement M
-ran-checked-spec = tie.close (tie.spec call-refusal-requires start-requires (λ c κs. search needs) returns (λ c κs. search needs) returns-2 start-view-requires run-seen-requires returns-3)
+ran-checked-spec = tie.close (tie.spec (λ c κs. search needs) (λ c κs. search needs) (λ c κs. search needs) returns (λ c κs. search needs) returns-2 start-view-requires run-seen-requires returns-3)

@@ -5,11 +5,8 @@ use borrow.Author.Needs.{needs}
 use Rattle.runs.proofs.journal.run_seen.Statement.{statement}
 use Rattle.runs.proofs.journal.run_seen.Tie as tie
 
-run-row-requires : tie.Need-run-row-requires
-run-row-requires c κs = search needs
-
 returns : tie.Need-returns
 returns c = ap ranOf (c .before .run-row .ensures) ∙ row-ran _ _ _ _ _ _ _
 
 pub run-seen-spec : {M : Type 1} → statement M
-run-seen-spec = tie.close (tie.spec run-row-requires returns)
+run-seen-spec = tie.close (tie.spec (λ c κs. search needs) returns)

@@ -5,29 +5,17 @@ use borrow.Author.Needs.{needs}
 use Rattle.sheet.proofs.check.array_rule.Statement.{statement}
 use Rattle.sheet.proofs.check.array_rule.Tie as tie
 
-parent-right-requires : tie.Need-parent-right-requires
-parent-right-requires c κs = search needs
-
 returns : tie.Need-returns
 unfolding arrayRule
 returns c = simp (c .before .if1 .taken, ← (c .parent-right .ensures))
-
-entry-right-requires : tie.Need-entry-right-requires
-entry-right-requires c κs = search needs
 
 returns-2 : tie.Need-returns-2
 unfolding arrayRule
 returns-2 c = simp (c .before .if2 .taken, ← (c .entry-right .ensures))
 
-lock-right-requires : tie.Need-lock-right-requires
-lock-right-requires c κs = search needs
-
 returns-3 : tie.Need-returns-3
 unfolding arrayRule
 returns-3 c = simp (c .before .if3 .taken, ← (c .lock-right .ensures))
-
-children-right-requires : tie.Need-children-right-requires
-children-right-requires c κs = search needs
 
 returns-4 : tie.Need-returns-4
 unfolding arrayRule
@@ -37,11 +25,11 @@ pub array-rule-spec : {M : Type 1} → statement M
 array-rule-spec =
     tie.close
     (tie.spec
-    parent-right-requires
+    (λ c κs. search needs)
     returns
-    entry-right-requires
+    (λ c κs. search needs)
     returns-2
-    lock-right-requires
+    (λ c κs. search needs)
     returns-3
-    children-right-requires
+    (λ c κs. search needs)
     returns-4)

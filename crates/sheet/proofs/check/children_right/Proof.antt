@@ -5,15 +5,9 @@ use borrow.Author.Needs.{needs}
 use Rattle.sheet.proofs.check.children_right.Statement.{statement}
 use Rattle.sheet.proofs.check.children_right.Tie as tie
 
-payees-requires : tie.Need-payees-requires
-payees-requires c κs = search needs
-
-has-requires : tie.Need-has-requires
-has-requires c κs = search needs
-
 returns : tie.Need-returns
 unfolding childrenRight
 returns c = rw (c .has .ensures, parent-child _ _ (c .before .before .before .args .t) (search needs) (c .before .before .before .pre .1 .1), ← (c .before .payees .ensures))
 
 pub children-right-spec : {M : Type 1} → statement M
-children-right-spec = tie.close (tie.spec payees-requires has-requires returns)
+children-right-spec = tie.close (tie.spec (λ c κs. search needs) (λ c κs. search needs) returns)

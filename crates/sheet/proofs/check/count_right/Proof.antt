@@ -5,9 +5,6 @@ use borrow.Author.Needs.{needs}
 use Rattle.sheet.proofs.check.count_right.Statement.{statement}
 use Rattle.sheet.proofs.check.count_right.Tie as tie
 
-count-requires : tie.Need-count-requires
-count-requires c κs = search needs
-
 returns : tie.Need-returns
 unfolding countRight
 returns c = simp (tests, ← (c .before .count .ensures .is), c .if1 .taken)
@@ -17,4 +14,4 @@ unfolding countRight
 returns-2 c = simp (tests, ← (c .before .count .ensures .is), c .if1 .left)
 
 pub count-right-spec : {M : Type 1} → statement M
-count-right-spec = tie.close (tie.spec count-requires returns returns-2)
+count-right-spec = tie.close (tie.spec (λ c κs. search needs) returns returns-2)

@@ -7,12 +7,6 @@ use borrow.Author.Needs.{needs}
 use Rattle.sheet.proofs.check.days_right.Statement.{statement}
 use Rattle.sheet.proofs.check.days_right.Tie as tie
 
-days-requires : tie.Need-days-requires
-days-requires c κs = search needs
-
-lock-type-requires : tie.Need-lock-type-requires
-lock-type-requires c κs = search needs
-
 returns : tie.Need-returns
 unfolding daysRight
 returns c = simp (tests, ← (c .before .lock-type .ensures), ← (c .before .before .days .ensures), c .if1 .taken)
@@ -22,4 +16,4 @@ unfolding daysRight
 returns-2 c = simp (tests, ← (c .before .lock-type .ensures), ← (c .before .before .days .ensures), c .if1 .left, le-leb (c .before .before .days .result) 255 (search needs), and-true)
 
 pub days-right-spec : {M : Type 1} → statement M
-days-right-spec = tie.close (tie.spec days-requires lock-type-requires returns returns-2)
+days-right-spec = tie.close (tie.spec (λ c κs. search needs) (λ c κs. search needs) returns returns-2)

@@ -6,38 +6,17 @@ use borrow.Author.Needs.{needs}
 use Rattle.sheet.proofs.check.entry_right.Statement.{statement}
 use Rattle.sheet.proofs.check.entry_right.Tie as tie
 
-parties-requires : tie.Need-parties-requires
-parties-requires c κs = search needs
-
-limit-requires : tie.Need-limit-requires
-limit-requires c κs = search needs
-
-payees-requires : tie.Need-payees-requires
-payees-requires c κs = search needs
-
-wide-requires : tie.Need-wide-requires
-wide-requires c κs = search needs
-
 returns : tie.Need-returns
 unfolding entryRight
 returns c = simp (tests, ← (c .before .before .before .before .parties .ensures .is), ← (c .before .before .before .limit .ensures), ← (c .before .before .payees .ensures), ← (c .before .wide .ensures .is), c .if1 .taken)
-
-required-requires : tie.Need-required-requires
-required-requires c κs = search needs
 
 returns-2 : tie.Need-returns-2
 unfolding entryRight
 returns-2 c = simp (tests, ← (c .before .before .before .before .before .before .parties .ensures .is), ← (c .before .before .before .before .before .limit .ensures), ← (c .before .before .before .before .payees .ensures), ← (c .before .before .before .wide .ensures .is), ← (c .before .required .ensures), c .if2 .taken, c .before .before .if1 .left)
 
-within-requires : tie.Need-within-requires
-within-requires c κs = search needs
-
 returns-3 : tie.Need-returns-3
 unfolding entryRight
 returns-3 c = simp (tests, ← (c .before .before .before .before .before .before .before .before .parties .ensures .is), ← (c .before .before .before .before .before .before .before .limit .ensures), ← (c .before .before .before .before .before .before .payees .ensures), ← (c .before .before .before .before .before .wide .ensures .is), ← (c .before .within .ensures), not-true (c .before .within .result) (c .if3 .taken), ← (c .before .before .before .required .ensures), c .before .before .if2 .left, c .before .before .before .before .if1 .left)
-
-veil-requires : tie.Need-veil-requires
-veil-requires c κs = search needs
 
 returns-4 : tie.Need-returns-4
 unfolding entryRight
@@ -47,14 +26,11 @@ pub entry-right-spec : {M : Type 1} → statement M
 entry-right-spec =
     tie.close
     (tie.spec
-    parties-requires
-    limit-requires
-    payees-requires
-    wide-requires
+    (λ c κs. search needs) (λ c κs. search needs) (λ c κs. search needs) (λ c κs. search needs)
     returns
-    required-requires
+    (λ c κs. search needs)
     returns-2
-    within-requires
+    (λ c κs. search needs)
     returns-3
-    veil-requires
+    (λ c κs. search needs)
     returns-4)

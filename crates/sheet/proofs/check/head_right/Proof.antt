@@ -9,12 +9,9 @@ use Rattle.sheet.proofs.check.head_right.Tie as tie
 returns : tie.Need-returns
 returns c = sym (headless _ (c .if1 .taken))
 
-arrays-requires : tie.Need-arrays-requires
-arrays-requires c κs = search needs
-
 returns-2 : tie.Need-returns-2
 unfolding headRight
 returns-2 c = rw (c .arrays .ensures .is)
 
 pub head-right-spec : {M : Type 1} → statement M
-head-right-spec = tie.close (tie.spec returns arrays-requires returns-2)
+head-right-spec = tie.close (tie.spec returns (λ c κs. search needs) returns-2)

@@ -7,11 +7,8 @@ use borrow.Author.Needs.{needs}
 use Rattle.sheet.proofs.check.limit.Statement.{statement}
 use Rattle.sheet.proofs.check.limit.Tie as tie
 
-shl-result : tie.Need-shl-result
-shl-result c = search needs
-
 returns : tie.Need-returns
 returns c = shl-exact {a = 1} 1 (c .args .bits) 64 (omega arith) (omega arith) ∙ one-mul _
 
 pub limit-spec : {M : Type 1} → statement M
-limit-spec = tie.close (tie.spec shl-result returns)
+limit-spec = tie.close (tie.spec (λ c. search needs) returns)

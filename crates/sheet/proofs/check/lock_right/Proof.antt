@@ -6,22 +6,13 @@ use borrow.Author.Needs.{needs}
 use Rattle.sheet.proofs.check.lock_right.Statement.{statement}
 use Rattle.sheet.proofs.check.lock_right.Tie as tie
 
-lock-type-requires : tie.Need-lock-type-requires
-lock-type-requires c κs = search needs
-
 returns : tie.Need-returns
 unfolding lockRight
 returns c = simp (tests, ← (c .before .lock-type .ensures), c .if1 .taken)
 
-days-right-requires : tie.Need-days-right-requires
-days-right-requires c κs = search needs
-
 returns-2 : tie.Need-returns-2
 unfolding lockRight
 returns-2 c = simp (tests, ← (c .before .before .before .lock-type .ensures), c .before .before .if1 .left, ← (c .before .days-right .ensures), not-true (c .before .days-right .result) (c .if2 .taken))
-
-opening-requires : tie.Need-opening-requires
-opening-requires c κs = search needs
 
 returns-3 : tie.Need-returns-3
 unfolding lockRight
@@ -35,10 +26,10 @@ pub lock-right-spec : {M : Type 1} → statement M
 lock-right-spec =
     tie.close
     (tie.spec
-    lock-type-requires
+    (λ c κs. search needs)
     returns
-    days-right-requires
+    (λ c κs. search needs)
     returns-2
-    opening-requires
+    (λ c κs. search needs)
     returns-3
     returns-4)

@@ -4,19 +4,13 @@ use borrow.Author.Needs.{needs}
 use Rattle.sheet.proofs.check.parent_right.Statement.{statement}
 use Rattle.sheet.proofs.check.parent_right.Tie as tie
 
-opening-requires : tie.Need-opening-requires
-opening-requires c κs = search needs
-
 returns : tie.Need-returns
 unfolding parentRight
 returns c = simp (← (c .before .opening .ensures), c .if1 .taken)
-
-parent-requires : tie.Need-parent-requires
-parent-requires c κs = search needs
 
 returns-2 : tie.Need-returns-2
 unfolding parentRight
 returns-2 c = simp (← (c .before .before .opening .ensures), c .before .if1 .left, ← (c .parent .ensures .is))
 
 pub parent-right-spec : {M : Type 1} → statement M
-parent-right-spec = tie.close (tie.spec opening-requires returns parent-requires returns-2)
+parent-right-spec = tie.close (tie.spec (λ c κs. search needs) returns (λ c κs. search needs) returns-2)

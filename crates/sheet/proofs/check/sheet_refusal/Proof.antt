@@ -7,9 +7,6 @@ use borrow.Author.Needs.{needs}
 use Rattle.sheet.proofs.check.sheet_refusal.Statement.{statement}
 use Rattle.sheet.proofs.check.sheet_refusal.Tie as tie
 
-head-right-requires : tie.Need-head-right-requires
-head-right-requires c κs = search needs
-
 returns : tie.Need-returns
 unfolding sheetRefusal sheetTests
 returns c = fails _ _ _ _ (c .before .head-right .ensures) (c .if1 .taken)
@@ -56,7 +53,7 @@ pub sheet-refusal-spec : {M : Type 1} → statement M
 sheet-refusal-spec =
     tie.close
     (tie.spec
-    head-right-requires
+    (λ c κs. search needs)
     returns
     count-right-requires
     returns-2

@@ -16,26 +16,14 @@ Inv-loop sheet n k₀ k = (k ≤ n) × (allBelow k (λ i. within sheet (startMas
 abbrev μ-loop : tie.MeasureT-loop
 μ-loop sheet n k₀ k = n - k
 
-parties-requires : tie.Need-parties-requires Inv-loop μ-loop
-parties-requires c κs = search needs
-
 loop-holds : tie.Need-loop-holds Inv-loop μ-loop
 loop-holds c = (search needs, all-start _)
 
 start-mask-requires : tie.Need-start-mask-requires Inv-loop μ-loop
 start-mask-requires c κs = (search needs, rw (← (c .before .before .parties .ensures .is)) (c .loop-test .taken))
 
-within-requires : tie.Need-within-requires Inv-loop μ-loop
-within-requires c κs = search needs
-
 returns : tie.Need-returns Inv-loop μ-loop
 returns c = rw (← (c .before .before .before .before .before .parties .ensures .is)) (sym (all-broken _ _ _ (c .before .before .before .loop-test .taken) (rw (← (c .before .before .start-mask .ensures), ← (c .before .within .ensures)) (not-true _ (c .if1 .taken)))))
-
-add-k : tie.Need-add-k Inv-loop μ-loop
-add-k c = search needs
-
-loop-less : tie.Need-loop-less Inv-loop μ-loop
-loop-less c = search needs
 
 loop-again : tie.Need-loop-again Inv-loop μ-loop
 loop-again c = (search needs, all-more _ _ (c .before .before .before .before .loop .inv .1) (rw (← (c .before .before .start-mask .ensures), ← (c .before .within .ensures)) (not-false _ (c .if1 .left))))
@@ -49,12 +37,11 @@ starts-right-spec =
     (tie.spec
     Inv-loop
     μ-loop
-    parties-requires
+    (λ c κs. search needs)
     loop-holds
     start-mask-requires
-    within-requires
+    (λ c κs. search needs)
     returns
-    add-k
-    loop-less
+    (λ c. search needs) (λ c. search needs)
     loop-again
     returns-2)

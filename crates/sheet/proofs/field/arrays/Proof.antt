@@ -4,15 +4,9 @@ use borrow.Author.Needs.{needs}
 use Rattle.sheet.proofs.field.arrays.Statement.{statement}
 use Rattle.sheet.proofs.field.arrays.Tie as tie
 
-parties-requires : tie.Need-parties-requires
-parties-requires c κs = search needs
-
-add-result : tie.Need-add-result
-add-result c = search needs
-
 returns : tie.Need-returns
 unfolding arrays
 returns c = record { is = rw (← (c .parties .ensures .is)); head = search needs; small = search needs }
 
 pub arrays-spec : {M : Type 1} → statement M
-arrays-spec = tie.close (tie.spec parties-requires add-result returns)
+arrays-spec = tie.close (tie.spec (λ c κs. search needs) (λ c. search needs) returns)

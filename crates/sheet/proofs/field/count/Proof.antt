@@ -4,15 +4,9 @@ use borrow.Author.Needs.{needs}
 use Rattle.sheet.proofs.field.count.Statement.{statement}
 use Rattle.sheet.proofs.field.count.Tie as tie
 
-shared-slice-read-wide : tie.Need-shared-slice-read-wide
-shared-slice-read-wide c = search needs
-
-wide-requires : tie.Need-wide-requires
-wide-requires c κs = search needs
-
 returns : tie.Need-returns
 unfolding count
 returns c = search needs
 
 pub count-spec : {M : Type 1} → statement M
-count-spec = tie.close (tie.spec shared-slice-read-wide wide-requires returns)
+count-spec = tie.close (tie.spec (λ c. search needs) (λ c κs. search needs) returns)

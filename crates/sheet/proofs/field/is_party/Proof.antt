@@ -9,19 +9,10 @@ returns : tie.Need-returns
 unfolding isParty
 returns c = simp (tests, c .if1 .taken)
 
-place-requires : tie.Need-place-requires
-place-requires c κs = search needs
-
-wide-requires : tie.Need-wide-requires
-wide-requires c κs = search needs
-
-parties-requires : tie.Need-parties-requires
-parties-requires c κs = search needs
-
 returns-2 : tie.Need-returns-2
 unfolding isParty
 returns-2 c = simp (tests, c .before .before .before .if1 .left, c .parties .ensures .is, c .before .wide .ensures .is, c .before .before .place .ensures)
 
 pub is-party-spec : {M : Type 1} → statement M
 is-party-spec =
-    tie.close (tie.spec returns place-requires wide-requires parties-requires returns-2)
+    tie.close (tie.spec returns (λ c κs. search needs) (λ c κs. search needs) (λ c κs. search needs) returns-2)

@@ -4,12 +4,9 @@ use borrow.Author.Needs.{needs}
 use Rattle.sheet.proofs.field.opening.Statement.{statement}
 use Rattle.sheet.proofs.field.opening.Tie as tie
 
-entry-requires : tie.Need-entry-requires
-entry-requires c κs = search needs
-
 returns : tie.Need-returns
 unfolding opening
 returns c = rw (c .entry .ensures)
 
 pub opening-spec : {M : Type 1} → statement M
-opening-spec = tie.close (tie.spec entry-requires returns)
+opening-spec = tie.close (tie.spec (λ c κs. search needs) returns)

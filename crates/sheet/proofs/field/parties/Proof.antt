@@ -5,9 +5,6 @@ use borrow.Author.Needs.{needs}
 use Rattle.sheet.proofs.field.parties.Statement.{statement}
 use Rattle.sheet.proofs.field.parties.Tie as tie
 
-shared-slice-read-if1 : tie.Need-shared-slice-read-if1
-shared-slice-read-if1 c = search needs
-
 returns : tie.Need-returns
 unfolding parties
 returns c = record { is = simp (tests, c .if1 .taken); some = search needs; few = search needs }
@@ -17,4 +14,4 @@ unfolding parties
 returns-2 c = record { is = simp (tests, c .if1 .left); some = search needs; few = search needs }
 
 pub parties-spec : {M : Type 1} → statement M
-parties-spec = tie.close (tie.spec shared-slice-read-if1 returns returns-2)
+parties-spec = tie.close (tie.spec (λ c. search needs) returns returns-2)

@@ -9,12 +9,9 @@ returns : tie.Need-returns
 unfolding place
 returns c = simp (tests, c .if1 .taken)
 
-sub-result : tie.Need-sub-result
-sub-result c = search needs
-
 returns-2 : tie.Need-returns-2
 unfolding place
 returns-2 c = simp (tests, c .if1 .left)
 
 pub place-spec : {M : Type 1} → statement M
-place-spec = tie.close (tie.spec returns sub-result returns-2)
+place-spec = tie.close (tie.spec returns (λ c. search needs) returns-2)

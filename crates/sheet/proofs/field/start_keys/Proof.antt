@@ -9,21 +9,6 @@ use Rattle.sheet.proofs.field.start_keys.Tie as tie
 returns : tie.Need-returns
 returns c = sym (start-empty _ _ (c .if1 .taken))
 
-is-party-requires : tie.Need-is-party-requires
-is-party-requires c κs = search needs
-
-place-requires : tie.Need-place-requires
-place-requires c κs = search needs
-
-wide-requires : tie.Need-wide-requires
-wide-requires c κs = search needs
-
-add-byte-or-zero : tie.Need-add-byte-or-zero
-add-byte-or-zero c = search needs
-
-byte-or-zero-requires : tie.Need-byte-or-zero-requires
-byte-or-zero-requires c κs = search needs
-
 returns-2 : tie.Need-returns-2
 unfolding startKeys
 returns-2 c = rw (c .byte-or-zero .ensures, c .before .wide .ensures .is, c .before .before .place .ensures, ← (c .before .before .before .before .is-party .ensures), c .before .before .before .if2 .taken)
@@ -37,10 +22,6 @@ start-keys-spec =
     tie.close
     (tie.spec
     returns
-    is-party-requires
-    place-requires
-    wide-requires
-    add-byte-or-zero
-    byte-or-zero-requires
+    (λ c κs. search needs) (λ c κs. search needs) (λ c κs. search needs) (λ c. search needs) (λ c κs. search needs)
     returns-2
     returns-3)

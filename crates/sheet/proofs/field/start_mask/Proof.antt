@@ -12,8 +12,5 @@ shared-slice-read-result : tie.Need-shared-slice-read-result
 unfolding arrays
 shared-slice-read-result c = search needs
 
-returns : tie.Need-returns
-returns c = search needs
-
 pub start-mask-spec : {M : Type 1} → statement M
-start-mask-spec = tie.close (tie.spec add-result shared-slice-read-result returns)
+start-mask-spec = tie.close (tie.spec add-result shared-slice-read-result (λ c. search needs))

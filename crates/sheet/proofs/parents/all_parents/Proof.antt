@@ -4,11 +4,8 @@ use borrow.Author.Needs.{needs}
 use Rattle.sheet.proofs.parents.all_parents.Statement.{statement}
 use Rattle.sheet.proofs.parents.all_parents.Tie as tie
 
-parents-of-requires : tie.Need-parents-of-requires
-parents-of-requires c κs = search needs
-
 returns : tie.Need-returns
 returns c = all-members _ _ _ (search needs) (c .parents-of .ensures)
 
 pub all-parents-spec : {M : Type 1} → statement M
-all-parents-spec = tie.close (tie.spec parents-of-requires returns)
+all-parents-spec = tie.close (tie.spec (λ c κs. search needs) returns)

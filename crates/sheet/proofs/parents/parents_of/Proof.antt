@@ -13,20 +13,8 @@ Inv-loop sheet there n parents₀ k₀ parents k = (k ≤ n) × Parents sheet (b
 abbrev μ-loop : tie.MeasureT-loop
 μ-loop sheet there n parents₀ k₀ parents k = n - k
 
-count-requires : tie.Need-count-requires Inv-loop μ-loop
-count-requires c κs = search needs
-
 loop-holds : tie.Need-loop-holds Inv-loop μ-loop
 loop-holds c = (search needs, parents-start _ _)
-
-with-parent-requires : tie.Need-with-parent-requires Inv-loop μ-loop
-with-parent-requires c κs = search needs
-
-add-k : tie.Need-add-k Inv-loop μ-loop
-add-k c = search needs
-
-loop-less : tie.Need-loop-less Inv-loop μ-loop
-loop-less c = search needs
 
 loop-again : tie.Need-loop-again Inv-loop μ-loop
 loop-again c = (search needs, parents-more _ _ _ _ _ (c .before .before .loop .inv .1) (c .with-parent .ensures))
@@ -40,10 +28,8 @@ parents-of-spec =
     (tie.spec
     Inv-loop
     μ-loop
-    count-requires
+    (λ c κs. search needs)
     loop-holds
-    with-parent-requires
-    add-k
-    loop-less
+    (λ c κs. search needs) (λ c. search needs) (λ c. search needs)
     loop-again
     returns)

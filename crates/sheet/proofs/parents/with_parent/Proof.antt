@@ -9,24 +9,15 @@ use borrow.Author.Needs.{needs}
 use Rattle.sheet.proofs.parents.with_parent.Statement.{statement}
 use Rattle.sheet.proofs.parents.with_parent.Tie as tie
 
-has-requires : tie.Need-has-requires
-has-requires c κs = search needs
-
 returns : tie.Need-returns
 returns c = added-none _ _ _ _ (sym (c .before .has .ensures) ∙ not-true (c .before .has .result) (c .if1 .taken))
 
-parent-requires : tie.Need-parent-requires
-parent-requires c κs = search needs
-
 returns-2 : tie.Need-returns-2
 returns-2 c = added-far _ _ _ _ (omega (arith, c .if2 .taken, c .before .parent .ensures .is))
-
-join-requires : tie.Need-join-requires
-join-requires c κs = search needs
 
 returns-3 : tie.Need-returns-3
 returns-3 c = added-one _ _ _ _ _ (sym (c .before .before .before .before .has .ensures) ∙ not-false (c .before .before .before .before .has .result) (c .before .before .before .if1 .left)) (omega (arith, c .before .if2 .left, c .before .before .parent .ensures .is)) (c .join .ensures ∙ ap (λ u. joined (c .before .before .before .before .before .before .args .parents) true u) (c .before .before .parent .ensures .is))
 
 pub with-parent-spec : {M : Type 1} → statement M
 with-parent-spec =
-    tie.close (tie.spec has-requires returns parent-requires returns-2 join-requires returns-3)
+    tie.close (tie.spec (λ c κs. search needs) returns (λ c κs. search needs) returns-2 (λ c κs. search needs) returns-3)

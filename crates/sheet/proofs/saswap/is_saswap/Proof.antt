@@ -23,27 +23,12 @@ returns : tie.Need-returns Inv-loop μ-loop
 unfolding isSaswap same
 returns c = rw (saswap-length (c .before .before .args .per-day), ne-eqb _ _ (c .if1 .taken))
 
-saswap-sheet-requires : tie.Need-saswap-sheet-requires Inv-loop μ-loop
-saswap-sheet-requires c κs = search needs
-
 loop-holds : tie.Need-loop-holds Inv-loop μ-loop
 loop-holds c = (search needs, all-start _)
-
-shared-slice-read-if2 : tie.Need-shared-slice-read-if2 Inv-loop μ-loop
-shared-slice-read-if2 c = search needs
-
-array-read-if2 : tie.Need-array-read-if2 Inv-loop μ-loop
-array-read-if2 c = search needs
 
 returns-2 : tie.Need-returns-2 Inv-loop μ-loop
 unfolding isSaswap same
 returns-2 c = rw (saswap-length (c .before .before .before .before .before .before .before .args .per-day), c .before .before .before .before .before .if1 .left, ← (c .before .before .before .before .saswap-sheet .ensures)) (sym (all-broken _ _ _ (c .before .before .loop-test .taken) (ne-eqb _ _ (c .if2 .taken))))
-
-add-i : tie.Need-add-i Inv-loop μ-loop
-add-i c = search needs
-
-loop-less : tie.Need-loop-less Inv-loop μ-loop
-loop-less c = search needs
 
 loop-again : tie.Need-loop-again Inv-loop μ-loop
 loop-again c = (search needs, all-more _ _ (c .before .before .before .loop .inv .1) (eq-eqb _ _ (c .if2 .left)))
@@ -59,12 +44,10 @@ is-saswap-spec =
     Inv-loop
     μ-loop
     returns
-    saswap-sheet-requires
+    (λ c κs. search needs)
     loop-holds
-    shared-slice-read-if2
-    array-read-if2
+    (λ c. search needs) (λ c. search needs)
     returns-2
-    add-i
-    loop-less
+    (λ c. search needs) (λ c. search needs)
     loop-again
     returns-3)

@@ -6,23 +6,11 @@ use Rattle.sheet.proofs.Offset.{offset-bound}
 use Rattle.sheet.proofs.saswap.saswap_sheet.Statement.{statement}
 use Rattle.sheet.proofs.saswap.saswap_sheet.Tie as tie
 
-offset-requires : tie.Need-offset-requires
-offset-requires c κs = search needs
-
 add-bytes : tie.Need-add-bytes
 add-bytes c = omega (arith, offset-bound _ _ (c .offset .ensures))
 
-array-write-bytes : tie.Need-array-write-bytes
-array-write-bytes c = search needs
-
-offset-requires-2 : tie.Need-offset-requires-2
-offset-requires-2 c κs = search needs
-
 add-bytes-2 : tie.Need-add-bytes-2
 add-bytes-2 c = omega (arith, offset-bound _ _ (c .offset2 .ensures))
-
-array-write-bytes-2 : tie.Need-array-write-bytes-2
-array-write-bytes-2 c = search needs
 
 returns : tie.Need-returns
 unfolding saswap saswapAt
@@ -32,10 +20,9 @@ pub saswap-sheet-spec : {M : Type 1} → statement M
 saswap-sheet-spec =
     tie.close
     (tie.spec
-    offset-requires
+    (λ c κs. search needs)
     add-bytes
-    array-write-bytes
-    offset-requires-2
+    (λ c. search needs) (λ c κs. search needs)
     add-bytes-2
-    array-write-bytes-2
+    (λ c. search needs)
     returns)

@@ -9,12 +9,6 @@ use borrow.Author.Needs.{needs}
 use Rattle.sheet.proofs.set.join.Statement.{statement}
 use Rattle.sheet.proofs.set.join.Tie as tie
 
-cast-result : tie.Need-cast-result
-cast-result c = search needs
-
-shl-result : tie.Need-shl-result
-shl-result c = search needs
-
 returns : tie.Need-returns
 unfolding joined
 returns c = rw (c .if1 .taken) (ap (λ x. bitOr (c .before .args .set) x) (shl-exact {a = 1} 1 (c .before .args .t) 32 (omega arith) (omega arith) ∙ one-mul _))
@@ -24,4 +18,4 @@ unfolding joined
 returns-2 c = rw (c .if1 .left)
 
 pub join-spec : {M : Type 1} → statement M
-join-spec = tie.close (tie.spec cast-result shl-result returns returns-2)
+join-spec = tie.close (tie.spec (λ c. search needs) (λ c. search needs) returns returns-2)

@@ -10,15 +10,9 @@ use borrow.Author.Needs.{needs}
 use Rattle.sheet.proofs.set.remove.Statement.{statement}
 use Rattle.sheet.proofs.set.remove.Tie as tie
 
-cast-result : tie.Need-cast-result
-cast-result c = search needs
-
-shl-result : tie.Need-shl-result
-shl-result c = search needs
-
 returns : tie.Need-returns
 unfolding removed
 returns c = ap (λ x. bitAnd (c .args .set) (4294967295 - x)) (shl-exact {a = 1} 1 (c .args .t) 32 (omega arith) (omega arith) ∙ one-mul _)
 
 pub remove-spec : {M : Type 1} → statement M
-remove-spec = tie.close (tie.spec cast-result shl-result returns)
+remove-spec = tie.close (tie.spec (λ c. search needs) (λ c. search needs) returns)

@@ -9,9 +9,6 @@ returns : tie.Need-returns
 unfolding blocksRight
 returns c = simp (tests, c .if1 .taken)
 
-per-day-requires : tie.Need-per-day-requires
-per-day-requires c κs = search needs
-
 returns-2 : tie.Need-returns-2
 unfolding blocksRight
 returns-2 c = simp (tests, c .before .before .if1 .left, ← (c .before .per-day .ensures), c .if2 .taken)
@@ -21,4 +18,4 @@ unfolding blocksRight
 returns-3 c = simp (tests, c .before .before .if1 .left, ← (c .before .per-day .ensures), c .if2 .left)
 
 pub blocks-right-spec : {M : Type 1} → statement M
-blocks-right-spec = tie.close (tie.spec returns per-day-requires returns-2 returns-3)
+blocks-right-spec = tie.close (tie.spec returns (λ c κs. search needs) returns-2 returns-3)

@@ -5,15 +5,9 @@ use borrow.Author.Needs.{needs}
 use Rattle.sheet.proofs.setup.conduct_right.Statement.{statement}
 use Rattle.sheet.proofs.setup.conduct_right.Tie as tie
 
-conduct-requires : tie.Need-conduct-requires
-conduct-requires c κs = search needs
-
 returns : tie.Need-returns
 unfolding conductRight
 returns c = simp (tests, ← (c .before .conduct .ensures), c .if1 .taken)
-
-stealth-requires : tie.Need-stealth-requires
-stealth-requires c κs = search needs
 
 returns-2 : tie.Need-returns-2
 unfolding conductRight
@@ -23,12 +17,6 @@ returns-3 : tie.Need-returns-3
 unfolding conductRight
 returns-3 c = simp (tests, ← (c .before .before .before .before .conduct .ensures), ← (c .before .before .stealth .ensures), c .before .if2 .left, c .if3 .taken)
 
-per-day-requires : tie.Need-per-day-requires
-per-day-requires c κs = search needs
-
-is-saswap-requires : tie.Need-is-saswap-requires
-is-saswap-requires c κs = search needs
-
 returns-4 : tie.Need-returns-4
 unfolding conductRight
 returns-4 c = simp (tests, ← (c .before .before .before .before .before .before .conduct .ensures), c .before .before .before .before .before .if1 .left, ← (c .before .before .before .before .stealth .ensures), c .before .before .before .if2 .left, c .before .before .if3 .left, ← (c .before .per-day .ensures), ← (c .is-saswap .ensures))
@@ -37,11 +25,10 @@ pub conduct-right-spec : {M : Type 1} → statement M
 conduct-right-spec =
     tie.close
     (tie.spec
-    conduct-requires
+    (λ c κs. search needs)
     returns
-    stealth-requires
+    (λ c κs. search needs)
     returns-2
     returns-3
-    per-day-requires
-    is-saswap-requires
+    (λ c κs. search needs) (λ c κs. search needs)
     returns-4)

@@ -7,11 +7,8 @@ use Rattle.sheet.proofs.setup.is_ring.Tie as tie
 returns : tie.Need-returns
 returns c = rw (parties-empty _ (c .if1 .taken))
 
-parties-requires : tie.Need-parties-requires
-parties-requires c κs = search needs
-
 returns-2 : tie.Need-returns-2
 returns-2 c = rw (c .parties .ensures .is)
 
 pub is-ring-spec : {M : Type 1} → statement M
-is-ring-spec = tie.close (tie.spec returns parties-requires returns-2)
+is-ring-spec = tie.close (tie.spec returns (λ c κs. search needs) returns-2)

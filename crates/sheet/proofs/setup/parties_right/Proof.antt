@@ -6,15 +6,9 @@ use borrow.Author.Needs.{needs}
 use Rattle.sheet.proofs.setup.parties_right.Statement.{statement}
 use Rattle.sheet.proofs.setup.parties_right.Tie as tie
 
-is-ring-requires : tie.Need-is-ring-requires
-is-ring-requires c κs = search needs
-
 returns : tie.Need-returns
 unfolding partiesRight
 returns c = simp (← (c .before .is-ring .ensures), not-true (c .before .is-ring .result) (c .if1 .taken))
-
-conduct-requires : tie.Need-conduct-requires
-conduct-requires c κs = search needs
 
 returns-2 : tie.Need-returns-2
 unfolding partiesRight
@@ -26,4 +20,4 @@ returns-3 c = simp (tests, ← (c .before .before .before .is-ring .ensures), no
 
 pub parties-right-spec : {M : Type 1} → statement M
 parties-right-spec =
-    tie.close (tie.spec is-ring-requires returns conduct-requires returns-2 returns-3)
+    tie.close (tie.spec (λ c κs. search needs) returns (λ c κs. search needs) returns-2 returns-3)

@@ -7,9 +7,6 @@ use borrow.Author.Needs.{needs}
 use Rattle.sheet.proofs.setup.setup_refusal.Statement.{statement}
 use Rattle.sheet.proofs.setup.setup_refusal.Tie as tie
 
-blocks-right-requires : tie.Need-blocks-right-requires
-blocks-right-requires c κs = search needs
-
 returns : tie.Need-returns
 unfolding setupRefusal setupTests
 returns c = fails _ _ _ _ (c .before .blocks-right .ensures) (c .if1 .taken)
@@ -41,7 +38,7 @@ pub setup-refusal-spec : {M : Type 1} → statement M
 setup-refusal-spec =
     tie.close
     (tie.spec
-    blocks-right-requires
+    (λ c κs. search needs)
     returns
     parties-right-requires
     returns-2

@@ -6,9 +6,6 @@ use borrow.Author.Needs.{needs}
 use Rattle.shrink.proofs.round.again.Statement.{statement}
 use Rattle.shrink.proofs.round.again.Tie as tie
 
-returns : tie.Need-returns
-returns c = search needs
-
 sub-before : tie.Need-sub-before
 sub-before c = c .before .pre .1 (c .if1 .left)
 
@@ -32,23 +29,13 @@ pub again-spec : {M : Type 1} → statement M
 again-spec =
     tie.close
     (tie.spec
-    returns
+    (λ c. search needs)
     sub-before
-    (λ c. search needs)
-    (λ c. search needs)
+    (λ c. search needs) (λ c. search needs)
     returns-2
-    (λ c. search needs)
-    (λ c. search needs)
-    (λ c. search needs)
-    (λ c. search needs)
+    (λ c. search needs) (λ c. search needs) (λ c. search needs) (λ c. search needs)
     returns-3
-    (λ c. search needs)
-    (λ c. search needs)
-    (λ c. search needs)
-    (λ c. search needs)
+    (λ c. search needs) (λ c. search needs) (λ c. search needs) (λ c. search needs)
     returns-4
-    (λ c. search needs)
-    (λ c. search needs)
-    (λ c. search needs)
-    (λ c. search needs)
+    (λ c. search needs) (λ c. search needs) (λ c. search needs) (λ c. search needs)
     returns-5)

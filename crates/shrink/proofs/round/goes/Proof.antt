@@ -13,18 +13,9 @@ returns-2 : tie.Need-returns-2
 unfolding triedAt
 returns-2 c = rw (c .before .if1 .left) (goes-none _ _ _ _ _ (c .if2 .taken))
 
-run-from-requires : tie.Need-run-from-requires
-run-from-requires c κs = search needs
-
 returns-3 : tie.Need-returns-3
 unfolding triedAt
 returns-3 c = rw (c .before .before .before .before .if1 .left) (goes-other _ _ _ _ _ _ (c .before .before .run-from .ensures) (c .if3 .taken))
-
-cast-result : tie.Need-cast-result
-cast-result c = search needs
-
-add-result : tie.Need-add-result
-add-result c = search needs
 
 returns-4 : tie.Need-returns-4
 unfolding triedAt
@@ -32,4 +23,4 @@ returns-4 c = rw (c .before .before .before .before .before .if1 .left) (goes-co
 
 pub goes-spec : {M : Type 1} → statement M
 goes-spec =
-    tie.close (tie.spec returns returns-2 run-from-requires returns-3 cast-result add-result returns-4)
+    tie.close (tie.spec returns returns-2 (λ c κs. search needs) returns-3 (λ c. search needs) (λ c. search needs) returns-4)

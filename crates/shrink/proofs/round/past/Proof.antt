@@ -8,12 +8,9 @@ returns : tie.Need-returns
 unfolding positionPast
 returns c = rw (c .if1 .taken)
 
-step-at-requires : tie.Need-step-at-requires
-step-at-requires c κs = search needs
-
 returns-2 : tie.Need-returns-2
 unfolding positionPast
 returns-2 c = rw (c .before .before .if1 .left, c .before .step-at .ensures)
 
 pub past-spec : {M : Type 1} → statement M
-past-spec = tie.close (tie.spec returns step-at-requires returns-2)
+past-spec = tie.close (tie.spec returns (λ c κs. search needs) returns-2)

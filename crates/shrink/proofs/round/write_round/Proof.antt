@@ -77,19 +77,13 @@ write-round-spec =
     loop-holds
     (λ c. search needs)
     again-requires
-    (λ c. search needs)
-    (λ c. search needs)
-    (λ c. search needs)
-    (λ c. search needs)
-    (λ c. search needs)
-    (λ c κs. search needs)
+    (λ c. search needs) (λ c. search needs) (λ c. search needs) (λ c. search needs) (λ c. search needs) (λ c κs. search needs)
     (λ c. search needs)
     sub-write-kept
     part-write-kept-start
     (λ c. search needs)
     write-kept-requires
-    (λ c. search needs)
-    (λ c κs. search needs)
+    (λ c. search needs) (λ c κs. search needs)
     add-at
     add-k
     (λ c. search needs)

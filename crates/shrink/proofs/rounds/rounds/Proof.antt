@@ -16,15 +16,6 @@ Inv-loop sheet setup number n part₀ spare₀ left₀ part spare left = Going s
 abbrev μ-loop : tie.MeasureT-loop
 μ-loop sheet setup number n part₀ spare₀ left₀ part spare left = left
 
-loop-holds : tie.Need-loop-holds Inv-loop μ-loop
-loop-holds c = search needs
-
-mul-end : tie.Need-mul-end Inv-loop μ-loop
-mul-end c = search needs
-
-slice-reshare-prefix-write-round : tie.Need-slice-reshare-prefix-write-round Inv-loop μ-loop
-slice-reshare-prefix-write-round c = search needs
-
 slice-aggregate-write-round : tie.Need-slice-aggregate-write-round Inv-loop μ-loop
 slice-aggregate-write-round c = sym (front-length _ _ _ _ _ _ _ _ _ (c .before .loop .inv))
 
@@ -34,12 +25,6 @@ write-round-requires c κs =
     let g = c .before .before .loop .inv in
     let l = front-length _ _ _ _ _ _ _ _ _ g in
     (p .0, (omega (arith, l, g .few), (omega (arith, l, g .fits, g .room), g .still)))
-
-same-length : tie.Need-same-length Inv-loop μ-loop
-same-length c = search needs
-
-same-length-2 : tie.Need-same-length-2 Inv-loop μ-loop
-same-length-2 c = search needs
 
 returns : tie.Need-returns Inv-loop μ-loop
 returns c = going-done _ _ _ _ _ _ _ _ _ (c .before .before .before .before .before .before .loop .inv) _ _ (c .before .before .before .write-round .ensures .0) (c .before .before .before .write-round .ensures .1) (c .if1 .taken)
@@ -69,13 +54,10 @@ rounds-spec =
     (tie.spec
     Inv-loop
     μ-loop
-    loop-holds
-    mul-end
-    slice-reshare-prefix-write-round
+    (λ c. search needs) (λ c. search needs) (λ c. search needs)
     slice-aggregate-write-round
     write-round-requires
-    same-length
-    same-length-2
+    (λ c. search needs) (λ c. search needs)
     returns
     mul-size
     slice-reshare-prefix-copy

@@ -6,18 +6,6 @@ use borrow.Author.Needs.{needs}
 use Rattle.shrink.proofs.rounds.write_shrunk.Statement.{statement}
 use Rattle.shrink.proofs.rounds.write_shrunk.Tie as tie
 
-slice-aggregate-copy : tie.Need-slice-aggregate-copy
-slice-aggregate-copy c = search needs
-
-copy-requires : tie.Need-copy-requires
-copy-requires c κs = search needs
-
-slice-aggregate-rounds : tie.Need-slice-aggregate-rounds
-slice-aggregate-rounds c = search needs
-
-slice-aggregate-rounds-2 : tie.Need-slice-aggregate-rounds-2
-slice-aggregate-rounds-2 c = search needs
-
 rounds-requires : tie.Need-rounds-requires
 rounds-requires c κs =
     let p = c .before .before .before .before .before .before .before .before .before .pre in
@@ -42,9 +30,6 @@ copy-requires-2 c κs = omega (arith, left-long _ _ _ (c .before .before .before
 cast-t24 : tie.Need-cast-t24
 cast-t24 c = omega (arith, left-few _ _ _ (c .before .before .before .before .before .before .before .before .before .before .before .before .before .before .before .before .before .before .args .row .now) _ _ _ (c .before .before .before .before .before .before .before .before .before .before .before .before .before .before .before .before .before .before .pre .1 .0) (row-copied (c .before .before .before .before .before .before .before .before .before .before .before .before .before .before .before .before .before .before .args .row .now) _ _ (c .before .before .before .before .before .before .before .before .before .before .before .before .before .before .before .before .before .before .pre .1 .1 .0) (omega (arith, c .before .before .before .before .before .before .before .before .before .before .before .before .before .before .before .before .before .before .pre .1 .0)) (c .before .before .before .before .before .before .before .before .before .before .before .before .copy .ensures)) (c .before .before .before .before .before .before .before .before .rounds .ensures))
 
-same-length : tie.Need-same-length
-same-length c = search needs
-
 returns-2 : tie.Need-returns-2
 returns-2 c = left-written _ _ _ (c .before .before .before .before .before .before .before .before .before .before .before .before .before .before .before .before .before .before .args .row .now) _ _ _ (c .before .before .before .before .before .before .before .before .before .before .before .before .before .before .before .before .before .before .pre .1 .0) (row-copied (c .before .before .before .before .before .before .before .before .before .before .before .before .before .before .before .before .before .before .args .row .now) _ _ (c .before .before .before .before .before .before .before .before .before .before .before .before .before .before .before .before .before .before .pre .1 .1 .0) (omega (arith, c .before .before .before .before .before .before .before .before .before .before .before .before .before .before .before .before .before .before .pre .1 .0)) (c .before .before .before .before .before .before .before .before .before .before .before .before .copy .ensures)) (c .before .before .before .before .before .before .before .before .rounds .ensures) _ (c .before .before .before .before .before .if1 .left) _ (c .before .before .copy2 .ensures)
 
@@ -52,10 +37,7 @@ pub write-shrunk-spec : {M : Type 1} → statement M
 write-shrunk-spec =
     tie.close
     (tie.spec
-    slice-aggregate-copy
-    copy-requires
-    slice-aggregate-rounds
-    slice-aggregate-rounds-2
+    (λ c. search needs) (λ c κs. search needs) (λ c. search needs) (λ c. search needs)
     rounds-requires
     mul-end
     returns
@@ -63,5 +45,5 @@ write-shrunk-spec =
     slice-aggregate-copy-2
     copy-requires-2
     cast-t24
-    same-length
+    (λ c. search needs)
     returns-2)

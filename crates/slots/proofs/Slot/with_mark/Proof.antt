@@ -8,22 +8,13 @@ use borrow.Author.Needs.{needs}
 use Rattle.slots.proofs.Slot.with_mark.Statement.{statement}
 use Rattle.slots.proofs.Slot.with_mark.Tie as tie
 
-shl-self : tie.Need-shl-self
-shl-self c = search needs
-
 returns : tie.Need-returns
 unfolding withMark
 returns c = rw (c .before .if1 .taken, shl-exact {a = 1} 1 (c .before .before .args .destination) 8 (omega arith) (omega arith), one-mul)
 
-shl-self-2 : tie.Need-shl-self-2
-shl-self-2 c = search needs
-
 returns-2 : tie.Need-returns-2
 unfolding withMark
 returns-2 c = rw (c .before .if2 .taken, shl-exact {a = 1} 1 (c .before .before .before .args .destination) 8 (omega arith) (omega arith), one-mul)
-
-shl-self-3 : tie.Need-shl-self-3
-shl-self-3 c = search needs
 
 returns-3 : tie.Need-returns-3
 unfolding withMark
@@ -35,4 +26,4 @@ returns-4 c = simp (tests, c .before .before .if1 .left, c .before .if2 .left, c
 
 pub with-mark-spec : {M : Type 1} → statement M
 with-mark-spec =
-    tie.close (tie.spec shl-self returns shl-self-2 returns-2 shl-self-3 returns-3 returns-4)
+    tie.close (tie.spec (λ c. search needs) returns (λ c. search needs) returns-2 (λ c. search needs) returns-3 returns-4)

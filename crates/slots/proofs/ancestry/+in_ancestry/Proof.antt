@@ -24,80 +24,6 @@ abbrev in-ancestry-below : ℕ → In 1 in-ancestry-kinds.ps
 in-ancestry-below t =
     and 1 in-ancestry-kinds.ps (falls 1 in-ancestry-kinds.ps _<_ μ-in-ancestry t) in-ancestry.Pre
 
-in-ancestry-returns : (t : ℕ) → in-ancestry-lts.Need-returns (
-  has-reads.Asked,
-  has-reads.Learnt,
-  parent-reads.Asked,
-  parent-reads.Learnt,
-  in-ancestry-below t,
-  in-ancestry.Post,
-) (in-ancestry-at t) in-ancestry.Post
-in-ancestry-returns t c = rw (c .if1 .taken, line-none)
-
-in-ancestry-has-requires : (t : ℕ) → in-ancestry-lts.Need-has-requires (
-  has-reads.Asked,
-  has-reads.Learnt,
-  parent-reads.Asked,
-  parent-reads.Learnt,
-  in-ancestry-below t,
-  in-ancestry.Post,
-) (in-ancestry-at t) in-ancestry.Post
-in-ancestry-has-requires t c κs = search needs
-
-in-ancestry-returns-2 : (t : ℕ) → in-ancestry-lts.Need-returns-2 (
-  has-reads.Asked,
-  has-reads.Learnt,
-  parent-reads.Asked,
-  parent-reads.Learnt,
-  in-ancestry-below t,
-  in-ancestry.Post,
-) (in-ancestry-at t) in-ancestry.Post
-in-ancestry-returns-2 t c = rw line-step (simp (← (c .before .has .ensures), c .if2 .taken))
-
-in-ancestry-parent-requires : (t : ℕ) → in-ancestry-lts.Need-parent-requires (
-  has-reads.Asked,
-  has-reads.Learnt,
-  parent-reads.Asked,
-  parent-reads.Learnt,
-  in-ancestry-below t,
-  in-ancestry.Post,
-) (in-ancestry-at t) in-ancestry.Post
-in-ancestry-parent-requires t c κs = search needs
-
-in-ancestry-in-ancestry-requires : (t : ℕ) → in-ancestry-lts.Need-in-ancestry-requires (
-  has-reads.Asked,
-  has-reads.Learnt,
-  parent-reads.Asked,
-  parent-reads.Learnt,
-  in-ancestry-below t,
-  in-ancestry.Post,
-) (in-ancestry-at t) in-ancestry.Post
-in-ancestry-in-ancestry-requires t c κs = search needs
-
-in-ancestry-returns-3 : (t : ℕ) → in-ancestry-lts.Need-returns-3 (
-  has-reads.Asked,
-  has-reads.Learnt,
-  parent-reads.Asked,
-  parent-reads.Learnt,
-  in-ancestry-below t,
-  in-ancestry.Post,
-) (in-ancestry-at t) in-ancestry.Post
-in-ancestry-returns-3 t c =
-    rw line-step
-    (simp (tests, ← (c .before .before .before .before .has .ensures), c .before .before .before .if2 .left, ← (c .before .before .parent .ensures .is), c .before .if3 .taken, ← (c .in-ancestry .ensures)))
-
-in-ancestry-returns-4 : (t : ℕ) → in-ancestry-lts.Need-returns-4 (
-  has-reads.Asked,
-  has-reads.Learnt,
-  parent-reads.Asked,
-  parent-reads.Learnt,
-  in-ancestry-below t,
-  in-ancestry.Post,
-) (in-ancestry-at t) in-ancestry.Post
-in-ancestry-returns-4 t c =
-    rw line-step
-    (simp (tests, ← (c .before .before .before .has .ensures), c .before .before .if2 .left, ← (c .before .parent .ensures .is), c .if3 .left))
-
 pub +in-ancestry-spec : {M : Type 1} → statement M
 +in-ancestry-spec = close μ-in-ancestry λ t. in-ancestry-lts.spec (
   has-reads.Asked,
@@ -109,10 +35,9 @@ pub +in-ancestry-spec : {M : Type 1} → statement M
 )
     (in-ancestry-at t)
     in-ancestry.Post
-    (in-ancestry-returns t)
-    (in-ancestry-has-requires t)
-    (in-ancestry-returns-2 t)
-    (in-ancestry-parent-requires t)
-    (in-ancestry-in-ancestry-requires t)
-    (in-ancestry-returns-3 t)
-    (in-ancestry-returns-4 t)
+    (λ c. rw (c .if1 .taken, line-none))
+    (λ c κs. search needs)
+    (λ c. rw line-step (simp (← (c .before .has .ensures), c .if2 .taken)))
+    (λ c κs. search needs) (λ c κs. search needs)
+    (λ c. rw line-step (simp (tests, ← (c .before .before .before .before .has .ensures), c .before .before .before .if2 .left, ← (c .before .before .parent .ensures .is), c .before .if3 .taken, ← (c .in-ancestry .ensures))))
+    (λ c. rw line-step (simp (tests, ← (c .before .before .before .has .ensures), c .before .before .if2 .left, ← (c .before .parent .ensures .is), c .if3 .left)))

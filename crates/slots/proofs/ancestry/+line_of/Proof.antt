@@ -22,69 +22,6 @@ line-of-at t = and 1 line-of-kinds.ps (is 1 line-of-kinds.ps μ-line-of t) line-
 abbrev line-of-below : ℕ → In 1 line-of-kinds.ps
 line-of-below t = and 1 line-of-kinds.ps (falls 1 line-of-kinds.ps _<_ μ-line-of t) line-of.Pre
 
-line-of-parent-requires : (t : ℕ) → line-of-lts.Need-parent-requires (
-  parent-reads.Asked,
-  parent-reads.Learnt,
-  line-of-below t,
-  line-of.Post,
-  join-reads.Asked,
-  join-reads.Learnt,
-) (line-of-at t) line-of.Post
-line-of-parent-requires t c κs = search needs
-
-line-of-line-of-requires : (t : ℕ) → line-of-lts.Need-line-of-requires (
-  parent-reads.Asked,
-  parent-reads.Learnt,
-  line-of-below t,
-  line-of.Post,
-  join-reads.Asked,
-  join-reads.Learnt,
-) (line-of-at t) line-of.Post
-line-of-line-of-requires t c κs = search needs
-
-line-of-join-requires : (t : ℕ) → line-of-lts.Need-join-requires (
-  parent-reads.Asked,
-  parent-reads.Learnt,
-  line-of-below t,
-  line-of.Post,
-  join-reads.Asked,
-  join-reads.Learnt,
-) (line-of-at t) line-of.Post
-line-of-join-requires t c κs = search needs
-
-line-of-returns : (t : ℕ) → line-of-lts.Need-returns (
-  parent-reads.Asked,
-  parent-reads.Learnt,
-  line-of-below t,
-  line-of.Post,
-  join-reads.Asked,
-  join-reads.Learnt,
-) (line-of-at t) line-of.Post
-line-of-returns t c =
-    rw lineSet-step
-    (simp (tests, ← (c .before .before .before .parent .ensures .is), c .before .before .if1 .taken, ← (c .before .line-of .ensures), c .join .ensures))
-
-line-of-join-requires-2 : (t : ℕ) → line-of-lts.Need-join-requires-2 (
-  parent-reads.Asked,
-  parent-reads.Learnt,
-  line-of-below t,
-  line-of.Post,
-  join-reads.Asked,
-  join-reads.Learnt,
-) (line-of-at t) line-of.Post
-line-of-join-requires-2 t c κs = search needs
-
-line-of-returns-2 : (t : ℕ) → line-of-lts.Need-returns-2 (
-  parent-reads.Asked,
-  parent-reads.Learnt,
-  line-of-below t,
-  line-of.Post,
-  join-reads.Asked,
-  join-reads.Learnt,
-) (line-of-at t) line-of.Post
-line-of-returns-2 t c =
-    rw lineSet-step (simp (tests, ← (c .before .before .parent .ensures .is), c .before .if1 .left, c .join2 .ensures))
-
 pub +line-of-spec : {M : Type 1} → statement M
 +line-of-spec = close μ-line-of λ t. line-of-lts.spec (
   parent-reads.Asked,
@@ -96,9 +33,7 @@ pub +line-of-spec : {M : Type 1} → statement M
 )
     (line-of-at t)
     line-of.Post
-    (line-of-parent-requires t)
-    (line-of-line-of-requires t)
-    (line-of-join-requires t)
-    (line-of-returns t)
-    (line-of-join-requires-2 t)
-    (line-of-returns-2 t)
+    (λ c κs. search needs) (λ c κs. search needs) (λ c κs. search needs)
+    (λ c. rw lineSet-step (simp (tests, ← (c .before .before .before .parent .ensures .is), c .before .before .if1 .taken, ← (c .before .line-of .ensures), c .join .ensures)))
+    (λ c κs. search needs)
+    (λ c. rw lineSet-step (simp (tests, ← (c .before .before .parent .ensures .is), c .before .if1 .left, c .join2 .ensures)))

@@ -16,32 +16,11 @@ Inv-loop sheet there up n k₀ k = (k ≤ n) × (k < n → bit there k ≡ true)
 abbrev μ-loop : tie.MeasureT-loop
 μ-loop sheet there up n k₀ k = n - k
 
-count-requires : tie.Need-count-requires Inv-loop μ-loop
-count-requires c κs = search needs
-
-add-next : tie.Need-add-next Inv-loop μ-loop
-add-next c = search needs
-
-next-requires : tie.Need-next-requires Inv-loop μ-loop
-next-requires c κs = search needs
-
 loop-holds : tie.Need-loop-holds Inv-loop μ-loop
 loop-holds c = (c .next .ensures .high, c .next .ensures .here, child-first _ _ _ _ _ (search needs) (search needs) (c .next .ensures))
 
-parent-requires : tie.Need-parent-requires Inv-loop μ-loop
-parent-requires c κs = search needs
-
 returns : tie.Need-returns Inv-loop μ-loop
 returns c = rw (← (c .before .before .before .before .before .count .ensures .is)) (child-found _ _ _ _ _ _ (c .before .before .loop-test .taken) (c .before .before .before .loop .inv .1 (c .before .before .loop-test .taken)) (c .before .parent .ensures .is) (c .if1 .taken))
-
-add-next-2 : tie.Need-add-next-2 Inv-loop μ-loop
-add-next-2 c = search needs
-
-next-requires-2 : tie.Need-next-requires-2 Inv-loop μ-loop
-next-requires-2 c κs = search needs
-
-loop-less : tie.Need-loop-less Inv-loop μ-loop
-loop-less c = search needs
 
 loop-again : tie.Need-loop-again Inv-loop μ-loop
 loop-again c = (c .next2 .ensures .high, c .next2 .ensures .here, child-next _ _ _ _ _ _ _ (c .next2 .ensures) (c .before .before .before .before .loop .inv .2) (c .before .before .parent .ensures .is) (c .before .if1 .left))
@@ -56,14 +35,10 @@ child-in-spec =
     (tie.spec
     Inv-loop
     μ-loop
-    count-requires
-    add-next
-    next-requires
+    (λ c κs. search needs) (λ c. search needs) (λ c κs. search needs)
     loop-holds
-    parent-requires
+    (λ c κs. search needs)
     returns
-    add-next-2
-    next-requires-2
-    loop-less
+    (λ c. search needs) (λ c κs. search needs) (λ c. search needs)
     loop-again
     returns-2)

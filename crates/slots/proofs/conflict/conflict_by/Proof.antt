@@ -6,12 +6,6 @@ use borrow.Author.Needs.{needs}
 use Rattle.slots.proofs.conflict.conflict_by.Statement.{statement}
 use Rattle.slots.proofs.conflict.conflict_by.Tie as tie
 
-parent-requires : tie.Need-parent-requires
-parent-requires c κs = search needs
-
-has-requires : tie.Need-has-requires
-has-requires c κs = search needs
-
 returns : tie.Need-returns
 returns c = c .has .ensures ∙ answer-parent _ _ _ _ _ (c .before .before .before .before .pre .1 .1 .0) (c .before .before .parent .ensures .is) (c .before .if1 .taken)
 
@@ -22,7 +16,6 @@ pub conflict-by-spec : {M : Type 1} → statement M
 conflict-by-spec =
     tie.close
     (tie.spec
-    parent-requires
-    has-requires
+    (λ c κs. search needs) (λ c κs. search needs)
     returns
     returns-2)

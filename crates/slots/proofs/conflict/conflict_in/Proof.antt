@@ -6,17 +6,8 @@ use borrow.Author.Needs.{needs}
 use Rattle.slots.proofs.conflict.conflict_in.Statement.{statement}
 use Rattle.slots.proofs.conflict.conflict_in.Tie as tie
 
-opening-requires : tie.Need-opening-requires
-opening-requires c κs = search needs
-
-has-requires : tie.Need-has-requires
-has-requires c κs = search needs
-
 returns : tie.Need-returns
 returns c = c .has .ensures ∙ answer-opening _ _ _ (c .before .before .before .before .pre .1) (sym (c .before .before .opening .ensures) ∙ c .before .if1 .taken)
-
-parent-requires : tie.Need-parent-requires
-parent-requires c κs = search needs
 
 child-in-requires : tie.Need-child-in-requires
 child-in-requires c κs = let h = parent-below (search needs) _ (search needs) (sym (c .before .before .opening .ensures) ∙ c .before .if1 .left) in (search needs, rw (c .parent .ensures .is) h)
@@ -27,4 +18,4 @@ returns-2 c = c .child-in .ensures ∙ answer-child _ _ _ _ (sym (c .before .bef
 pub conflict-in-spec : {M : Type 1} → statement M
 conflict-in-spec =
     tie.close
-    (tie.spec opening-requires has-requires returns parent-requires child-in-requires returns-2)
+    (tie.spec (λ c κs. search needs) (λ c κs. search needs) returns (λ c κs. search needs) child-in-requires returns-2)

@@ -18,26 +18,8 @@ abbrev μ-loop : tie.MeasureT-loop
 returns : tie.Need-returns Inv-loop μ-loop
 returns c = rw (c .if1 .taken) (conflicts-none _ _)
 
-parents-of-requires : tie.Need-parents-of-requires Inv-loop μ-loop
-parents-of-requires c κs = search needs
-
-count-requires : tie.Need-count-requires Inv-loop μ-loop
-count-requires c κs = search needs
-
 loop-holds : tie.Need-loop-holds Inv-loop μ-loop
 loop-holds c = (search needs, set-start _)
-
-found-by-requires : tie.Need-found-by-requires Inv-loop μ-loop
-found-by-requires c κs = search needs
-
-join-requires : tie.Need-join-requires Inv-loop μ-loop
-join-requires c κs = search needs
-
-add-t : tie.Need-add-t Inv-loop μ-loop
-add-t c = search needs
-
-loop-less : tie.Need-loop-less Inv-loop μ-loop
-loop-less c = search needs
 
 loop-again : tie.Need-loop-again Inv-loop μ-loop
 loop-again c = (search needs, set-more _ _ _ _ _ (c .before .before .before .loop .inv .1) (c .join .ensures) (c .before .found-by .ensures))
@@ -52,12 +34,8 @@ conflicts-of-spec =
     Inv-loop
     μ-loop
     returns
-    parents-of-requires
-    count-requires
+    (λ c κs. search needs) (λ c κs. search needs)
     loop-holds
-    found-by-requires
-    join-requires
-    add-t
-    loop-less
+    (λ c κs. search needs) (λ c κs. search needs) (λ c. search needs) (λ c. search needs)
     loop-again
     returns-2)

@@ -8,17 +8,11 @@ use borrow.Author.Needs.{needs}
 use Rattle.slots.proofs.conflict.found_by.Statement.{statement}
 use Rattle.slots.proofs.conflict.found_by.Tie as tie
 
-has-requires : tie.Need-has-requires
-has-requires c κs = search needs
-
 conflict-by-requires : tie.Need-conflict-by-requires
 conflict-by-requires c κs = let out = sym (c .before .has .ensures) ∙ not-true _ (c .if1 .taken) in search needs
 
 returns : tie.Need-returns
 returns c = c .conflict-by .ensures ∙ conflictIn-outside _ _ _ _ (sym (c .before .before .has .ensures) ∙ not-true _ (c .before .if1 .taken))
-
-other-conflict-in-requires : tie.Need-other-conflict-in-requires
-other-conflict-in-requires c κs = search needs
 
 returns-2 : tie.Need-returns-2
 unfolding foundIn
@@ -32,9 +26,9 @@ pub found-by-spec : {M : Type 1} → statement M
 found-by-spec =
     tie.close
     (tie.spec
-    has-requires
+    (λ c κs. search needs)
     conflict-by-requires
     returns
-    other-conflict-in-requires
+    (λ c κs. search needs)
     returns-2
     returns-3)

@@ -8,16 +8,10 @@ use borrow.Author.Needs.{needs}
 use Rattle.slots.proofs.conflict.other_conflict_in.Statement.{statement}
 use Rattle.slots.proofs.conflict.other_conflict_in.Tie as tie
 
-remove-requires : tie.Need-remove-requires
-remove-requires c κs = search needs
-
-conflict-in-requires : tie.Need-conflict-in-requires
-conflict-in-requires c κs = search needs
-
 returns : tie.Need-returns
 returns c = c .conflict-in .ensures
     ∙ (ap (λ m. conflictIn (now (c .before .before .before .args .sheet)) (bit m) (c .before .before .before .args .t)) (c .before .remove .ensures)
     ∙ conflictIn-removed _ _ _ (search needs) (search needs))
 
 pub other-conflict-in-spec : {M : Type 1} → statement M
-other-conflict-in-spec = tie.close (tie.spec remove-requires conflict-in-requires returns)
+other-conflict-in-spec = tie.close (tie.spec (λ c κs. search needs) (λ c κs. search needs) returns)

@@ -17,30 +17,12 @@ Inv-loop sheet there n k₀ k = (k ≤ n) × (k < n → bit there k ≡ true) ×
 abbrev μ-loop : tie.MeasureT-loop
 μ-loop sheet there n k₀ k = n - k
 
-count-requires : tie.Need-count-requires Inv-loop μ-loop
-count-requires c κs = search needs
-
-next-requires : tie.Need-next-requires Inv-loop μ-loop
-next-requires c κs = search needs
-
 loop-holds : tie.Need-loop-holds Inv-loop μ-loop
 loop-holds c = (c .next .ensures .high, c .next .ensures .here, any-first _ _ _ _ (c .next .ensures))
-
-has-rival-requires : tie.Need-has-rival-requires Inv-loop μ-loop
-has-rival-requires c κs = search needs
 
 returns : tie.Need-returns Inv-loop μ-loop
 unfolding contestedIn
 returns c = rw (← (c .before .before .before .before .before .count .ensures .is)) (any-member _ _ _ _ (c .before .before .loop-test .taken) (c .before .before .before .loop .inv .1 (c .before .before .loop-test .taken)) (sym (c .before .has-rival .ensures) ∙ c .if1 .taken))
-
-add-next : tie.Need-add-next Inv-loop μ-loop
-add-next c = search needs
-
-next-requires-2 : tie.Need-next-requires-2 Inv-loop μ-loop
-next-requires-2 c κs = search needs
-
-loop-less : tie.Need-loop-less Inv-loop μ-loop
-loop-less c = search needs
 
 loop-again : tie.Need-loop-again Inv-loop μ-loop
 loop-again c = (c .next2 .ensures .high, c .next2 .ensures .here, any-next-member _ _ _ _ _ (c .next2 .ensures) (c .before .before .before .before .loop .inv .2) (sym (c .before .before .has-rival .ensures) ∙ c .before .if1 .left))
@@ -55,13 +37,10 @@ contested-spec =
     (tie.spec
     Inv-loop
     μ-loop
-    count-requires
-    next-requires
+    (λ c κs. search needs) (λ c κs. search needs)
     loop-holds
-    has-rival-requires
+    (λ c κs. search needs)
     returns
-    add-next
-    next-requires-2
-    loop-less
+    (λ c. search needs) (λ c κs. search needs) (λ c. search needs)
     loop-again
     returns-2)

@@ -14,38 +14,14 @@ Inv-loop sheet t n up k₀ k = (up < k) × (anyBelow k (otherRival sheet t) ≡ 
 abbrev μ-loop : tie.MeasureT-loop
 μ-loop sheet t n up k₀ k = n - k
 
-count-requires : tie.Need-count-requires Inv-loop μ-loop
-count-requires c κs = search needs
-
-parent-requires : tie.Need-parent-requires Inv-loop μ-loop
-parent-requires c κs = search needs
-
-add-k : tie.Need-add-k Inv-loop μ-loop
-add-k c = search needs
-
 loop-holds : tie.Need-loop-holds Inv-loop μ-loop
 loop-holds c = (search needs, none-before _ _ _ (c .parent .ensures .is) (c .before .before .before .pre .0) (c .before .before .before .pre .1))
-
-add-k-2 : tie.Need-add-k-2 Inv-loop μ-loop
-add-k-2 c = search needs
-
-loop-less : tie.Need-loop-less Inv-loop μ-loop
-loop-less c = search needs
 
 loop-again : tie.Need-loop-again Inv-loop μ-loop
 loop-again c = (search needs, any-more _ _ (c .before .before .loop .inv .1) (other-itself _ _ _ (c .if1 .taken)))
 
-parent-requires-2 : tie.Need-parent-requires-2 Inv-loop μ-loop
-parent-requires-2 c κs = search needs
-
 returns : tie.Need-returns Inv-loop μ-loop
 returns c = other-found _ _ _ (c .before .before .before .before .before .parent .ensures .is) _ _ (c .before .before .before .before .before .before .before .before .pre .0 .sized .few) (search needs) (c .before .before .before .before .loop .inv .0) (c .before .before .if1 .left) (c .before .parent2 .ensures .is) (c .if2 .taken)
-
-add-k-3 : tie.Need-add-k-3 Inv-loop μ-loop
-add-k-3 c = search needs
-
-loop-less-2 : tie.Need-loop-less-2 Inv-loop μ-loop
-loop-less-2 c = search needs
 
 loop-again-2 : tie.Need-loop-again-2 Inv-loop μ-loop
 loop-again-2 c = (search needs, any-more _ _ (c .before .before .before .before .loop .inv .1) (other-stranger _ _ _ (c .before .before .before .before .before .parent .ensures .is) _ _ (c .before .parent2 .ensures .is) (c .if2 .left)))
@@ -59,16 +35,12 @@ has-rival-spec =
     (tie.spec
     Inv-loop
     μ-loop
-    count-requires
-    parent-requires
-    add-k
+    (λ c κs. search needs) (λ c κs. search needs) (λ c. search needs)
     loop-holds
-    add-k-2
-    loop-less
+    (λ c. search needs) (λ c. search needs)
     loop-again
-    parent-requires-2
+    (λ c κs. search needs)
     returns
-    add-k-3
-    loop-less-2
+    (λ c. search needs) (λ c. search needs)
     loop-again-2
     returns-2)

@@ -5,9 +5,6 @@ use borrow.Author.Needs.{needs}
 use Rattle.slots.proofs.deadline.deadline.Statement.{statement}
 use Rattle.slots.proofs.deadline.deadline.Tie as tie
 
-opening-requires : tie.Need-opening-requires
-opening-requires c κs = search needs
-
 returns : tie.Need-returns
 returns c = record { is = deadline-opening _ _ _ _ (sym (c .before .opening .ensures) ∙ c .if1 .taken); small = search needs }
 
@@ -19,4 +16,4 @@ returns-2 c = c .deadline-among .ensures
 
 pub deadline-spec : {M : Type 1} → statement M
 deadline-spec =
-    tie.close (tie.spec opening-requires returns deadline-among-requires returns-2)
+    tie.close (tie.spec (λ c κs. search needs) returns deadline-among-requires returns-2)

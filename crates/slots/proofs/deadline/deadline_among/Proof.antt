@@ -20,29 +20,8 @@ Inv-loop sheet per-day since t own n up best₀ k₀ best k = (k ≤ n) × (best
 abbrev μ-loop : tie.MeasureT-loop
 μ-loop sheet per-day since t own n up best₀ k₀ best k = n - k
 
-lock-height-requires : tie.Need-lock-height-requires Inv-loop μ-loop
-lock-height-requires c κs = search needs
-
-count-requires : tie.Need-count-requires Inv-loop μ-loop
-count-requires c κs = search needs
-
-parent-requires : tie.Need-parent-requires Inv-loop μ-loop
-parent-requires c κs = search needs
-
 loop-holds : tie.Need-loop-holds Inv-loop μ-loop
 loop-holds c = (search needs, least-start _ _ _, search needs)
-
-rival-height-requires : tie.Need-rival-height-requires Inv-loop μ-loop
-rival-height-requires c κs = search needs
-
-lower-requires : tie.Need-lower-requires Inv-loop μ-loop
-lower-requires c κs = search needs
-
-add-k : tie.Need-add-k Inv-loop μ-loop
-add-k c = search needs
-
-loop-less : tie.Need-loop-less Inv-loop μ-loop
-loop-less c = search needs
 
 loop-again : tie.Need-loop-again Inv-loop μ-loop
 loop-again c = (search needs, least-more _ _ _ _ _ _ _ (c .before .before .before .loop .inv .1) (rival-turn _ _ _ _ _ _ _ _ (c .before .before .before .before .before .before .before .before .pre .1 .1) (c .before .before .before .before .parent .ensures .is) (c .before .rival-height .ensures .is)) (c .lower .ensures), omega (arith, c .before .before .before .loop .inv .2, c .lower .ensures, min-le-left (c .before .before .before .loop .best) (c .before .rival-height .result)))
@@ -57,13 +36,8 @@ deadline-among-spec =
     (tie.spec
     Inv-loop
     μ-loop
-    lock-height-requires
-    count-requires
-    parent-requires
+    (λ c κs. search needs) (λ c κs. search needs) (λ c κs. search needs)
     loop-holds
-    rival-height-requires
-    lower-requires
-    add-k
-    loop-less
+    (λ c κs. search needs) (λ c κs. search needs) (λ c. search needs) (λ c. search needs)
     loop-again
     returns)

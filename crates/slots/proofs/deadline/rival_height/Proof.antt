@@ -6,14 +6,8 @@ use borrow.Author.Needs.{needs}
 use Rattle.slots.proofs.deadline.rival_height.Statement.{statement}
 use Rattle.slots.proofs.deadline.rival_height.Tie as tie
 
-parent-requires : tie.Need-parent-requires
-parent-requires c κs = search needs
-
 returns : tie.Need-returns
 returns c = record { is = simp (ne-eqb _ _ (λ e. c .if1 .taken (c .before .parent .ensures .is ∙ sym e))); small = search needs }
-
-lock-height-requires : tie.Need-lock-height-requires
-lock-height-requires c κs = search needs
 
 returns-2 : tie.Need-returns-2
 returns-2 c = record { is = simp (tests, eq-eqb _ _ (sym (c .before .before .if1 .left) ∙ c .before .before .before .parent .ensures .is), ← (c .before .lock-height .ensures .is), c .if2 .taken); small = c .before .lock-height .ensures .small }
@@ -23,4 +17,4 @@ returns-3 c = record { is = simp (tests, eq-eqb _ _ (sym (c .before .before .if1
 
 pub rival-height-spec : {M : Type 1} → statement M
 rival-height-spec =
-    tie.close (tie.spec parent-requires returns lock-height-requires returns-2 returns-3)
+    tie.close (tie.spec (λ c κs. search needs) returns (λ c κs. search needs) returns-2 returns-3)

@@ -6,19 +6,13 @@ use borrow.Author.Needs.{needs}
 use Rattle.slots.proofs.limited.deadline_by.Statement.{statement}
 use Rattle.slots.proofs.limited.deadline_by.Tie as tie
 
-has-requires : tie.Need-has-requires
-has-requires c κs = search needs
-
 returns : tie.Need-returns
 unfolding deadlineBy
 returns c = record { is = rw (sym (c .before .has .ensures) ∙ not-true _ (c .if1 .taken)); small = search needs }
-
-deadline-requires : tie.Need-deadline-requires
-deadline-requires c κs = search needs
 
 returns-2 : tie.Need-returns-2
 unfolding deadlineBy
 returns-2 c = rw (sym (c .before .before .has .ensures) ∙ not-false _ (c .before .if1 .left)) (c .deadline .ensures)
 
 pub deadline-by-spec : {M : Type 1} → statement M
-deadline-by-spec = tie.close (tie.spec has-requires returns deadline-requires returns-2)
+deadline-by-spec = tie.close (tie.spec (λ c κs. search needs) returns (λ c κs. search needs) returns-2)

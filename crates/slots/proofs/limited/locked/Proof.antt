@@ -13,23 +13,8 @@ Inv-loop sheet n found₀ k₀ found k = (k ≤ n) × (found ≡ setBelow k (has
 abbrev μ-loop : tie.MeasureT-loop
 μ-loop sheet n found₀ k₀ found k = n - k
 
-count-requires : tie.Need-count-requires Inv-loop μ-loop
-count-requires c κs = search needs
-
 loop-holds : tie.Need-loop-holds Inv-loop μ-loop
 loop-holds c = (search needs, set-start _)
-
-lock-type-requires : tie.Need-lock-type-requires Inv-loop μ-loop
-lock-type-requires c κs = search needs
-
-join-requires : tie.Need-join-requires Inv-loop μ-loop
-join-requires c κs = search needs
-
-add-k : tie.Need-add-k Inv-loop μ-loop
-add-k c = search needs
-
-loop-less : tie.Need-loop-less Inv-loop μ-loop
-loop-less c = search needs
 
 loop-again : tie.Need-loop-again Inv-loop μ-loop
 unfolding hasLock
@@ -44,11 +29,8 @@ locked-spec =
     (tie.spec
     Inv-loop
     μ-loop
-    count-requires
+    (λ c κs. search needs)
     loop-holds
-    lock-type-requires
-    join-requires
-    add-k
-    loop-less
+    (λ c κs. search needs) (λ c κs. search needs) (λ c. search needs) (λ c. search needs)
     loop-again
     returns)

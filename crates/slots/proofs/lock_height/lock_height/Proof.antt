@@ -6,22 +6,13 @@ use borrow.Author.Needs.{needs}
 use Rattle.slots.proofs.lock_height.lock_height.Statement.{statement}
 use Rattle.slots.proofs.lock_height.lock_height.Tie as tie
 
-lock-type-requires : tie.Need-lock-type-requires
-lock-type-requires c κs = search needs
-
 returns : tie.Need-returns
 unfolding lockHeight
 returns c = record { is = simp (tests, ← (c .before .lock-type .ensures), c .if1 .taken); small = search needs }
 
-lock-blocks-requires : tie.Need-lock-blocks-requires
-lock-blocks-requires c κs = search needs
-
 returns-2 : tie.Need-returns-2
 unfolding lockHeight
 returns-2 c = record { is = simp (tests, ← (c .before .before .before .lock-type .ensures), c .if2 .taken, c .before .lock-blocks .ensures .is); small = omega (arith, c .before .lock-blocks .ensures .small) }
-
-since-parent-requires : tie.Need-since-parent-requires
-since-parent-requires c κs = search needs
 
 returns-3 : tie.Need-returns-3
 unfolding lockHeight
@@ -31,9 +22,9 @@ pub lock-height-spec : {M : Type 1} → statement M
 lock-height-spec =
     tie.close
     (tie.spec
-    lock-type-requires
+    (λ c κs. search needs)
     returns
-    lock-blocks-requires
+    (λ c κs. search needs)
     returns-2
-    since-parent-requires
+    (λ c κs. search needs)
     returns-3)

@@ -10,17 +10,8 @@ use Rattle.slots.proofs.next.next.Tie as tie
 returns : tie.Need-returns
 returns c = next-past _ _ _ (c .before .pre .0) (c .if1 .taken)
 
-cast-gap : tie.Need-cast-gap
-cast-gap c = search needs
-
-shr-gap : tie.Need-shr-gap
-shr-gap c = search needs
-
 cast-gap-2 : tie.Need-cast-gap-2
 cast-gap-2 c = let h = trailing-le 32 (c .before .args .set / 2 ^ c .before .args .from) in search needs
-
-sub-if2 : tie.Need-sub-if2
-sub-if2 c = search needs
 
 returns-2 : tie.Need-returns-2
 returns-2 c = next-none _ _ _ _ refl (c .before .before .pre .0) (c .if2 .taken)
@@ -33,4 +24,4 @@ returns-3 c = next-some _ _ _ _ refl (c .before .before .pre .1) (c .if2 .left)
 
 pub next-spec : {M : Type 1} → statement M
 next-spec =
-    tie.close (tie.spec returns cast-gap shr-gap cast-gap-2 sub-if2 returns-2 add-result returns-3)
+    tie.close (tie.spec returns (λ c. search needs) (λ c. search needs) cast-gap-2 (λ c. search needs) returns-2 add-result returns-3)

@@ -4,12 +4,9 @@ use borrow.Author.Needs.{needs}
 use Rattle.slots.proofs.party.is_contract.Statement.{statement}
 use Rattle.slots.proofs.party.is_contract.Tie as tie
 
-payees-requires : tie.Need-payees-requires
-payees-requires c κs = search needs
-
 returns : tie.Need-returns
 unfolding isContract
 returns c = rw (c .payees .ensures)
 
 pub is-contract-spec : {M : Type 1} → statement M
-is-contract-spec = tie.close (tie.spec payees-requires returns)
+is-contract-spec = tie.close (tie.spec (λ c κs. search needs) returns)

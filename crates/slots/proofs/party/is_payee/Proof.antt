@@ -10,18 +10,9 @@ use borrow.Author.Needs.{needs}
 use Rattle.slots.proofs.party.is_payee.Statement.{statement}
 use Rattle.slots.proofs.party.is_payee.Tie as tie
 
-is-party-requires : tie.Need-is-party-requires
-is-party-requires c κs = search needs
-
 returns : tie.Need-returns
 unfolding isPayee
 returns c = simp (← (c .before .is-party .ensures), not-true (c .before .is-party .result) (c .if1 .taken))
-
-payees-requires : tie.Need-payees-requires
-payees-requires c κs = search needs
-
-place-requires : tie.Need-place-requires
-place-requires c κs = search needs
 
 has-requires : tie.Need-has-requires
 has-requires c κs = let h = place-below _ _ (held _ _ (c .before .before .before .is-party .ensures) (c .before .before .if1 .left)) in rw (c .place .ensures) (omega (arith, h, parties-few (now (c .before .before .before .before .before .args .sheet))))
@@ -33,4 +24,4 @@ returns-2 c = simp (← (c .before .before .before .before .is-party .ensures), 
 pub is-payee-spec : {M : Type 1} → statement M
 is-payee-spec =
     tie.close
-    (tie.spec is-party-requires returns payees-requires place-requires has-requires returns-2)
+    (tie.spec (λ c κs. search needs) returns (λ c κs. search needs) (λ c κs. search needs) has-requires returns-2)

@@ -18,9 +18,6 @@ abbrev μ-loop : tie.MeasureT-loop
 loop-holds : tie.Need-loop-holds Inv-loop μ-loop
 loop-holds c = (search needs, refl)
 
-at-hand-requires : tie.Need-at-hand-requires Inv-loop μ-loop
-at-hand-requires c κs = search needs
-
 returns : tie.Need-returns Inv-loop μ-loop
 returns c =
     sym (c .before .before .before .loop .inv .1 ∙ subset-shift 8 _ _ (c .before .before .before .loop .inv .0) ∙ rw (sym (c .before .at-hand .ensures) ∙ not-true _ (c .if1 .taken)))
@@ -40,4 +37,4 @@ returns-2 c = sym (c .before .loop .inv .1 ∙ rw (c .loop-test .left) (subset-n
 pub all-at-hand-spec : {M : Type 1} → statement M
 all-at-hand-spec =
     tie.close
-    (tie.spec Inv-loop μ-loop loop-holds at-hand-requires returns loop-less loop-again returns-2)
+    (tie.spec Inv-loop μ-loop loop-holds (λ c κs. search needs) returns loop-less loop-again returns-2)

@@ -5,15 +5,9 @@ use borrow.Author.Needs.{needs}
 use Rattle.slots.proofs.signatures.share_mask.Statement.{statement}
 use Rattle.slots.proofs.signatures.share_mask.Tie as tie
 
-required-requires : tie.Need-required-requires
-required-requires c κs = search needs
-
-secrets-requires : tie.Need-secrets-requires
-secrets-requires c κs = search needs
-
 returns : tie.Need-returns
 unfolding shareMask without
 returns c = simp (← (c .secrets .ensures), ← (c .before .required .ensures))
 
 pub share-mask-spec : {M : Type 1} → statement M
-share-mask-spec = tie.close (tie.spec required-requires secrets-requires returns)
+share-mask-spec = tie.close (tie.spec (λ c κs. search needs) (λ c κs. search needs) returns)

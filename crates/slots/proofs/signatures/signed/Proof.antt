@@ -6,12 +6,6 @@ use borrow.Author.Needs.{needs}
 use Rattle.slots.proofs.signatures.signed.Statement.{statement}
 use Rattle.slots.proofs.signatures.signed.Tie as tie
 
-required-requires : tie.Need-required-requires
-required-requires c κs = search needs
-
-all-at-hand-requires : tie.Need-all-at-hand-requires
-all-at-hand-requires c κs = search needs
-
 returns : tie.Need-returns
 unfolding signed
 returns c =
@@ -20,4 +14,4 @@ returns c =
     c .all-at-hand .ensures ∙ rw (c .before .required .ensures) (sym (subset-within _ 8 _ _ (k .entries _ (asked .1) .required-within) (k .signatures-few)))
 
 pub signed-spec : {M : Type 1} → statement M
-signed-spec = tie.close (tie.spec required-requires all-at-hand-requires returns)
+signed-spec = tie.close (tie.spec (λ c κs. search needs) (λ c κs. search needs) returns)

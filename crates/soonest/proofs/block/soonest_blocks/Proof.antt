@@ -18,37 +18,13 @@ Inv-loop sheet per-day position n soonest₀ t₀ soonest t =
 abbrev μ-loop : tie.MeasureT-loop
 μ-loop sheet per-day position n soonest₀ t₀ soonest t = n - t
 
-count-requires : tie.Need-count-requires Inv-loop μ-loop
-count-requires c κs = search needs
-
 loop-holds : tie.Need-loop-holds Inv-loop μ-loop
 loop-holds c = (search needs, filled-start _ _ refl)
-
-mul-x : tie.Need-mul-x Inv-loop μ-loop
-mul-x c = search needs
-
-element-copy-out-x : tie.Need-element-copy-out-x Inv-loop μ-loop
-element-copy-out-x c = search needs
-
-above-requires : tie.Need-above-requires Inv-loop μ-loop
-above-requires c κs = search needs
 
 soonest-over-requires : tie.Need-soonest-over-requires Inv-loop μ-loop
 soonest-over-requires c κs =
     let h = soonest-above _ _ _ _ _ _ (c .before .before .before .loop .inv .1) _ _ (omega arith) (c .above .ensures) .small in
     search needs
-
-mul-soonest : tie.Need-mul-soonest Inv-loop μ-loop
-mul-soonest c = search needs
-
-array-write-soonest : tie.Need-array-write-soonest Inv-loop μ-loop
-array-write-soonest c = search needs
-
-add-t : tie.Need-add-t Inv-loop μ-loop
-add-t c = search needs
-
-loop-less : tie.Need-loop-less Inv-loop μ-loop
-loop-less c = search needs
 
 loop-again : tie.Need-loop-again Inv-loop μ-loop
 unfolding blockOf slot
@@ -65,15 +41,10 @@ soonest-blocks-spec =
     (tie.spec
     Inv-loop
     μ-loop
-    count-requires
+    (λ c κs. search needs)
     loop-holds
-    mul-x
-    element-copy-out-x
-    above-requires
+    (λ c. search needs) (λ c. search needs) (λ c κs. search needs)
     soonest-over-requires
-    mul-soonest
-    array-write-soonest
-    add-t
-    loop-less
+    (λ c. search needs) (λ c. search needs) (λ c. search needs) (λ c. search needs)
     loop-again
     returns)

@@ -12,20 +12,8 @@ returns : tie.Need-returns
 unfolding soonestOver
 returns c = record { is = simp (tests, c .if1 .taken); small = search needs }
 
-lock-at-requires : tie.Need-lock-at-requires
-lock-at-requires c κs = search needs
-
-add-next : tie.Need-add-next
-add-next c = search needs
-
 add-greater : tie.Need-add-greater
 add-greater c = let h = c .lock-at .ensures .small 4294967295 (omega arith) (omega (arith, c .before .before .before .pre, c .before .before .before .pre .0 .few)) in search needs
-
-greater-requires : tie.Need-greater-requires
-greater-requires c κs = search needs
-
-greater-requires-2 : tie.Need-greater-requires-2
-greater-requires-2 c κs = search needs
 
 returns-2 : tie.Need-returns-2
 unfolding soonestOver
@@ -43,9 +31,7 @@ soonest-over-spec =
     tie.close
     (tie.spec
     returns
-    lock-at-requires
-    add-next
+    (λ c κs. search needs) (λ c. search needs)
     add-greater
-    greater-requires
-    greater-requires-2
+    (λ c κs. search needs) (λ c κs. search needs)
     returns-2)

@@ -6,15 +6,9 @@ use borrow.Author.Needs.{needs}
 use Rattle.soonest.proofs.deadline.counts_at.Statement.{statement}
 use Rattle.soonest.proofs.deadline.counts_at.Tie as tie
 
-lock-at-requires : tie.Need-lock-at-requires
-lock-at-requires c κs = search needs
-
 returns : tie.Need-returns
 unfolding countsAt
 returns c = simp (tests, ← (c .before .before .before .pre .1 .1 .1 .1 .is), ← (c .before .lock-at .ensures .is), c .if1 .taken)
-
-may-rise-requires : tie.Need-may-rise-requires
-may-rise-requires c κs = search needs
 
 add-result : tie.Need-add-result
 add-result c =
@@ -33,4 +27,4 @@ returns-3 c = simp (tests, ← (c .before .before .before .before .before .pre .
 pub counts-at-spec : {M : Type 1} → statement M
 counts-at-spec =
     tie.close
-    (tie.spec lock-at-requires returns may-rise-requires add-result returns-2 returns-3)
+    (tie.spec (λ c κs. search needs) returns (λ c κs. search needs) add-result returns-2 returns-3)

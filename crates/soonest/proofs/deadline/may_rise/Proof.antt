@@ -9,15 +9,9 @@ returns : tie.Need-returns
 unfolding mayRise
 returns c = simp (tests, c .if1 .taken)
 
-since-locked-requires : tie.Need-since-locked-requires
-since-locked-requires c κs = search needs
-
 returns-2 : tie.Need-returns-2
 unfolding mayRise
 returns-2 c = simp (tests, c .before .before .if1 .left, ← (c .before .since-locked .ensures), c .if2 .taken)
-
-since-locked-requires-2 : tie.Need-since-locked-requires-2
-since-locked-requires-2 c κs = search needs
 
 returns-3 : tie.Need-returns-3
 unfolding mayRise
@@ -25,4 +19,4 @@ returns-3 c = simp (tests, c .before .before .before .if1 .left, ← (c .before 
 
 pub may-rise-spec : {M : Type 1} → statement M
 may-rise-spec =
-    tie.close (tie.spec returns since-locked-requires returns-2 since-locked-requires-2 returns-3)
+    tie.close (tie.spec returns (λ c κs. search needs) returns-2 (λ c κs. search needs) returns-3)

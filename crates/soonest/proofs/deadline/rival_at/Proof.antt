@@ -3,12 +3,6 @@ use borrow.Author.Needs.{needs}
 use Rattle.soonest.proofs.deadline.rival_at.Statement.{statement}
 use Rattle.soonest.proofs.deadline.rival_at.Tie as tie
 
-conflict-requires : tie.Need-conflict-requires
-conflict-requires c κs = search needs
-
-counts-at-requires : tie.Need-counts-at-requires
-counts-at-requires c κs = search needs
-
 returns : tie.Need-returns
 returns c = simp (← (c .before .before .conflict .ensures), c .before .if1 .taken, c .counts-at .ensures)
 
@@ -16,4 +10,4 @@ returns-2 : tie.Need-returns-2
 returns-2 c = simp (← (c .before .conflict .ensures), c .if1 .left)
 
 pub rival-at-spec : {M : Type 1} → statement M
-rival-at-spec = tie.close (tie.spec conflict-requires counts-at-requires returns returns-2)
+rival-at-spec = tie.close (tie.spec (λ c κs. search needs) (λ c κs. search needs) returns returns-2)

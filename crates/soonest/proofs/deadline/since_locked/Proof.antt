@@ -4,12 +4,9 @@ use borrow.Author.Needs.{needs}
 use Rattle.soonest.proofs.deadline.since_locked.Statement.{statement}
 use Rattle.soonest.proofs.deadline.since_locked.Tie as tie
 
-lock-type-requires : tie.Need-lock-type-requires
-lock-type-requires c κs = search needs
-
 returns : tie.Need-returns
 unfolding sinceLocked
 returns c = simp (← (c .lock-type .ensures))
 
 pub since-locked-spec : {M : Type 1} → statement M
-since-locked-spec = tie.close (tie.spec lock-type-requires returns)
+since-locked-spec = tie.close (tie.spec (λ c κs. search needs) returns)

@@ -16,12 +16,6 @@ Inv-loop sheet per-day since e t own n best₀ k₀ best k = (k ≤ n) × (best 
 abbrev μ-loop : tie.MeasureT-loop
 μ-loop sheet per-day since e t own n best₀ k₀ best k = n - k
 
-lock-at-requires : tie.Need-lock-at-requires Inv-loop μ-loop
-lock-at-requires c κs = search needs
-
-count-requires : tie.Need-count-requires Inv-loop μ-loop
-count-requires c κs = search needs
-
 loop-holds : tie.Need-loop-holds Inv-loop μ-loop
 loop-holds c = (search needs, least-start _ _ _)
 
@@ -29,15 +23,6 @@ rival-at-requires : tie.Need-rival-at-requires Inv-loop μ-loop
 rival-at-requires c κs =
     let k = c .before .before .before .before .before .pre in
     (k .0, (k .1 .0, (search needs, (k .1 .1, c .before .before .before .lock-at .ensures))))
-
-lower-requires : tie.Need-lower-requires Inv-loop μ-loop
-lower-requires c κs = search needs
-
-add-k : tie.Need-add-k Inv-loop μ-loop
-add-k c = search needs
-
-loop-less : tie.Need-loop-less Inv-loop μ-loop
-loop-less c = search needs
 
 loop-again : tie.Need-loop-again Inv-loop μ-loop
 loop-again c = (search needs, least-more _ _ _ _ _ _ _ (c .before .before .before .loop .inv .1) (c .before .rival-at .ensures) (c .lower .ensures))
@@ -52,12 +37,9 @@ soonest-deadline-spec =
     (tie.spec
     Inv-loop
     μ-loop
-    lock-at-requires
-    count-requires
+    (λ c κs. search needs) (λ c κs. search needs)
     loop-holds
     rival-at-requires
-    lower-requires
-    add-k
-    loop-less
+    (λ c κs. search needs) (λ c. search needs) (λ c. search needs)
     loop-again
     returns)

@@ -7,22 +7,13 @@ use borrow.Author.Needs.{needs}
 use Rattle.soonest.proofs.lock.lock_at.Statement.{statement}
 use Rattle.soonest.proofs.lock.lock_at.Tie as tie
 
-lock-type-requires : tie.Need-lock-type-requires
-lock-type-requires c κs = search needs
-
 returns : tie.Need-returns
 unfolding lockAt lockHeight
 returns c = record { is = simp (tests, ← (c .before .lock-type .ensures), c .if1 .taken); small = λ bound h k. omega arith }
 
-lock-blocks-requires : tie.Need-lock-blocks-requires
-lock-blocks-requires c κs = search needs
-
 returns-2 : tie.Need-returns-2
 unfolding lockAt lockHeight
 returns-2 c = record { is = simp (tests, ← (c .before .before .before .lock-type .ensures), c .if2 .taken, c .before .lock-blocks .ensures .is); small = λ bound h k. omega (arith, c .before .lock-blocks .ensures .small) }
-
-since-parent-requires : tie.Need-since-parent-requires
-since-parent-requires c κs = search needs
 
 returns-3 : tie.Need-returns-3
 unfolding lockAt lockHeight
@@ -32,9 +23,9 @@ pub lock-at-spec : {M : Type 1} → statement M
 lock-at-spec =
     tie.close
     (tie.spec
-    lock-type-requires
+    (λ c κs. search needs)
     returns
-    lock-blocks-requires
+    (λ c κs. search needs)
     returns-2
-    since-parent-requires
+    (λ c κs. search needs)
     returns-3)

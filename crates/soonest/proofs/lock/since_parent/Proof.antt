@@ -10,12 +10,9 @@ returns : tie.Need-returns
 unfolding sinceParent
 returns c = record { is = simp (c .if1 .taken); small = λ bound h k. h }
 
-add-result : tie.Need-add-result
-add-result c = search needs
-
 returns-2 : tie.Need-returns-2
 unfolding sinceParent
 returns-2 c = record { is = simp (tests, c .if1 .left); small = λ bound h k. omega (arith, c .before .pre) }
 
 pub since-parent-spec : {M : Type 1} → statement M
-since-parent-spec = tie.close (tie.spec returns add-result returns-2)
+since-parent-spec = tie.close (tie.spec returns (λ c. search needs) returns-2)

@@ -9,18 +9,9 @@ returns : tie.Need-returns
 unfolding conflict
 returns c = simp (tests, c .if1 .taken)
 
-opening-requires : tie.Need-opening-requires
-opening-requires c κs = search needs
-
 returns-2 : tie.Need-returns-2
 unfolding conflict
 returns-2 c = simp (tests, c .before .before .if1 .left, ← (c .before .opening .ensures), c .if2 .taken)
-
-parent-requires : tie.Need-parent-requires
-parent-requires c κs = search needs
-
-parent-requires-2 : tie.Need-parent-requires-2
-parent-requires-2 c κs = search needs
 
 returns-3 : tie.Need-returns-3
 unfolding conflict
@@ -29,4 +20,4 @@ returns-3 c = simp (tests, c .before .before .before .before .if1 .left, ← (c 
 pub conflict-spec : {M : Type 1} → statement M
 conflict-spec =
     tie.close
-    (tie.spec returns opening-requires returns-2 parent-requires parent-requires-2 returns-3)
+    (tie.spec returns (λ c κs. search needs) returns-2 (λ c κs. search needs) (λ c κs. search needs) returns-3)

@@ -5,15 +5,6 @@ use borrow.Author.Needs.{needs}
 use Rattle.soonest.proofs.table.above.Statement.{statement}
 use Rattle.soonest.proofs.table.above.Tie as tie
 
-parent-requires : tie.Need-parent-requires
-parent-requires c κs = search needs
-
-mul-result : tie.Need-mul-result
-mul-result c = search needs
-
-array-read-result : tie.Need-array-read-result
-array-read-result c = search needs
-
 returns : tie.Need-returns
 unfolding tableAbove
 returns c = simp (tests, ← (c .before .parent .ensures .is), c .if1 .taken)
@@ -23,4 +14,4 @@ unfolding tableAbove
 returns-2 c = simp (tests, ← (c .before .parent .ensures .is), c .if1 .left)
 
 pub above-spec : {M : Type 1} → statement M
-above-spec = tie.close (tie.spec parent-requires mul-result array-read-result returns returns-2)
+above-spec = tie.close (tie.spec (λ c κs. search needs) (λ c. search needs) (λ c. search needs) returns returns-2)

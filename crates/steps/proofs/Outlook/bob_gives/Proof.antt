@@ -14,15 +14,9 @@ returns-2 : tie.Need-returns-2
 unfolding bobGivesIn
 returns-2 c = simp (tests, c .before .if1 .left, c .if2 .taken)
 
-has-requires : tie.Need-has-requires
-has-requires c κs = search needs
-
 returns-3 : tie.Need-returns-3
 unfolding bobGivesIn
 returns-3 c = simp (tests, c .before .before .before .if1 .left, c .before .before .if2 .left, ← (c .before .has .ensures), not-true (c .before .has .result) (c .if3 .taken))
-
-has-requires-2 : tie.Need-has-requires-2
-has-requires-2 c κs = search needs
 
 returns-4 : tie.Need-returns-4
 unfolding bobGivesIn
@@ -35,4 +29,4 @@ returns-5 c = simp (tests, c .before .before .before .before .before .before .if
 pub bob-gives-spec : {M : Type 1} → statement M
 bob-gives-spec =
     tie.close
-    (tie.spec returns returns-2 has-requires returns-3 has-requires-2 returns-4 returns-5)
+    (tie.spec returns returns-2 (λ c κs. search needs) returns-3 (λ c κs. search needs) returns-4 returns-5)

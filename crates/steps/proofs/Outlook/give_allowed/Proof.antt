@@ -10,15 +10,9 @@ returns : tie.Need-returns
 unfolding giveAllowedIn
 returns c = rw (c .if1 .taken)
 
-alice-gives-requires : tie.Need-alice-gives-requires
-alice-gives-requires c κs = search needs
-
 returns-2 : tie.Need-returns-2
 unfolding giveAllowedIn
 returns-2 c = simp (tests, c .before .before .if1 .left, c .before .if2 .taken, c .alice-gives .ensures, or-false)
-
-bob-gives-requires : tie.Need-bob-gives-requires
-bob-gives-requires c κs = search needs
 
 returns-3 : tie.Need-returns-3
 unfolding giveAllowedIn
@@ -31,4 +25,4 @@ returns-4 c = simp (tests, c .before .before .if1 .left, c .before .if2 .left, c
 pub give-allowed-spec : {M : Type 1} → statement M
 give-allowed-spec =
     tie.close
-    (tie.spec returns alice-gives-requires returns-2 bob-gives-requires returns-3 returns-4)
+    (tie.spec returns (λ c κs. search needs) returns-2 (λ c κs. search needs) returns-3 returns-4)

@@ -13,12 +13,9 @@ returns-2 : tie.Need-returns-2
 unfolding safeToSendIn
 returns-2 c = simp (tests, c .before .if1 .left, c .if2 .taken)
 
-secret-safe-requires : tie.Need-secret-safe-requires
-secret-safe-requires c κs = search needs
-
 returns-3 : tie.Need-returns-3
 unfolding safeToSendIn
 returns-3 c = simp (tests, c .before .before .if1 .left, c .before .if2 .left, c .secret-safe .ensures)
 
 pub safe-to-send-spec : {M : Type 1} → statement M
-safe-to-send-spec = tie.close (tie.spec returns returns-2 secret-safe-requires returns-3)
+safe-to-send-spec = tie.close (tie.spec returns returns-2 (λ c κs. search needs) returns-3)

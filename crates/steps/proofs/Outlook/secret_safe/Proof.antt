@@ -5,12 +5,6 @@ use borrow.Author.Needs.{needs}
 use Rattle.steps.proofs.Outlook.secret_safe.Statement.{statement}
 use Rattle.steps.proofs.Outlook.secret_safe.Tie as tie
 
-required-requires : tie.Need-required-requires
-required-requires c κs = search needs
-
-has-requires : tie.Need-has-requires
-has-requires c κs = search needs
-
 returns : tie.Need-returns
 unfolding secretSafeIn
 returns c = rw (← (c .before .before .required .ensures), ← (c .before .has .ensures), not-true (c .before .has .result) (c .if1 .taken))
@@ -24,4 +18,4 @@ unfolding secretSafeIn
 returns-3 c = rw (← (c .before .before .before .before .required .ensures), ← (c .before .before .before .has .ensures), not-false (c .before .before .before .has .result) (c .before .before .if1 .left), c .if2 .left)
 
 pub secret-safe-spec : {M : Type 1} → statement M
-secret-safe-spec = tie.close (tie.spec required-requires has-requires returns returns-2 returns-3)
+secret-safe-spec = tie.close (tie.spec (λ c κs. search needs) (λ c κs. search needs) returns returns-2 returns-3)

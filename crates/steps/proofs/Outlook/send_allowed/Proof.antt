@@ -9,9 +9,6 @@ returns : tie.Need-returns
 unfolding sendAllowedIn
 returns c = rw (c .if1 .taken)
 
-may-send-requires : tie.Need-may-send-requires
-may-send-requires c κs = search needs
-
 returns-2 : tie.Need-returns-2
 unfolding sendAllowedIn
 returns-2 c = rw (c .before .before .if1 .left, ← (c .before .may-send .ensures), not-true (c .before .may-send .result) (c .if2 .taken))
@@ -20,9 +17,6 @@ returns-3 : tie.Need-returns-3
 unfolding sendAllowedIn
 returns-3 c = rw (c .before .before .before .before .if1 .left, ← (c .before .before .before .may-send .ensures), not-false (c .before .before .before .may-send .result) (c .before .before .if2 .left), c .if3 .taken)
 
-safe-to-send-requires : tie.Need-safe-to-send-requires
-safe-to-send-requires c κs = search needs
-
 returns-4 : tie.Need-returns-4
 unfolding sendAllowedIn
 returns-4 c = rw (c .safe-to-send .ensures, ← (c .before .before .before .before .may-send .ensures), not-false (c .before .before .before .before .may-send .result) (c .before .before .before .if2 .left), c .before .if3 .left, c .before .before .before .before .before .if1 .left)
@@ -30,4 +24,4 @@ returns-4 c = rw (c .safe-to-send .ensures, ← (c .before .before .before .befo
 pub send-allowed-spec : {M : Type 1} → statement M
 send-allowed-spec =
     tie.close
-    (tie.spec returns may-send-requires returns-2 returns-3 safe-to-send-requires returns-4)
+    (tie.spec returns (λ c κs. search needs) returns-2 returns-3 (λ c κs. search needs) returns-4)

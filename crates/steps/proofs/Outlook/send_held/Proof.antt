@@ -5,9 +5,6 @@ use borrow.Author.Needs.{needs}
 use Rattle.steps.proofs.Outlook.send_held.Statement.{statement}
 use Rattle.steps.proofs.Outlook.send_held.Tie as tie
 
-send-allowed-requires : tie.Need-send-allowed-requires
-send-allowed-requires c κs = search needs
-
 returns : tie.Need-returns
 unfolding sendHeldIn
 returns c = rw (← (c .before .send-allowed .ensures), not-true (c .before .send-allowed .result) (c .if1 .taken))
@@ -16,13 +13,10 @@ returns-2 : tie.Need-returns-2
 unfolding sendHeldIn
 returns-2 c = rw (← (c .before .before .send-allowed .ensures), not-false (c .before .before .send-allowed .result) (c .before .if1 .left), not-true (c .before .before .before .before .args .back) (c .if2 .taken))
 
-is-contract-requires : tie.Need-is-contract-requires
-is-contract-requires c κs = search needs
-
 returns-3 : tie.Need-returns-3
 unfolding sendHeldIn
 returns-3 c = rw (← (c .before .before .before .send-allowed .ensures), not-false (c .before .before .before .send-allowed .result) (c .before .before .if1 .left), not-false (c .before .before .before .before .before .args .back) (c .before .if2 .left), c .is-contract .ensures)
 
 pub send-held-spec : {M : Type 1} → statement M
 send-held-spec =
-    tie.close (tie.spec send-allowed-requires returns returns-2 is-contract-requires returns-3)
+    tie.close (tie.spec (λ c κs. search needs) returns returns-2 (λ c κs. search needs) returns-3)

@@ -17,13 +17,10 @@ returns-3 : tie.Need-returns-3
 unfolding shareAllowedIn
 returns-3 c = simp (tests, c .before .before .if1 .left, c .before .if2 .left, c .if3 .taken)
 
-alice-shares-requires : tie.Need-alice-shares-requires
-alice-shares-requires c κs = search needs
-
 returns-4 : tie.Need-returns-4
 unfolding shareAllowedIn
 returns-4 c = simp (tests, c .before .before .before .if1 .left, c .before .before .if2 .left, c .before .if3 .left, c .alice-shares .ensures)
 
 pub share-allowed-spec : {M : Type 1} → statement M
 share-allowed-spec =
-    tie.close (tie.spec returns returns-2 returns-3 alice-shares-requires returns-4)
+    tie.close (tie.spec returns returns-2 returns-3 (λ c κs. search needs) returns-4)

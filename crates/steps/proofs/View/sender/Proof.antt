@@ -4,18 +4,6 @@ use borrow.Author.Needs.{needs}
 use Rattle.steps.proofs.View.sender.Statement.{statement}
 use Rattle.steps.proofs.View.sender.Tie as tie
 
-secrets-requires : tie.Need-secrets-requires
-secrets-requires c κs = search needs
-
-keys-requires : tie.Need-keys-requires
-keys-requires c κs = search needs
-
-shared-for-requires : tie.Need-shared-for-requires
-shared-for-requires c κs = search needs
-
-sender-mask-requires : tie.Need-sender-mask-requires
-sender-mask-requires c κs = search needs
-
 returns : tie.Need-returns
 unfolding senderIn
 returns c = rw (c .sender-mask .ensures, c .before .shared-for .ensures, c .before .before .keys .ensures, c .before .before .before .before .secrets .ensures)
@@ -23,4 +11,4 @@ returns c = rw (c .sender-mask .ensures, c .before .shared-for .ensures, c .befo
 pub sender-spec : {M : Type 1} → statement M
 sender-spec =
     tie.close
-    (tie.spec secrets-requires keys-requires shared-for-requires sender-mask-requires returns)
+    (tie.spec (λ c κs. search needs) (λ c κs. search needs) (λ c κs. search needs) (λ c κs. search needs) returns)

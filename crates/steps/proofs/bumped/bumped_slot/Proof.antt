@@ -8,12 +8,6 @@ use borrow.Author.Needs.{needs}
 use Rattle.steps.proofs.bumped.bumped_slot.Statement.{statement}
 use Rattle.steps.proofs.bumped.bumped_slot.Tie as tie
 
-has-requires : tie.Need-has-requires
-has-requires c κs = search needs
-
-with-block-requires : tie.Need-with-block-requires
-with-block-requires c κs = search needs
-
 returns : tie.Need-returns
 unfolding bumpedSlot
 returns c = rw (← (c .before .before .has .ensures), c .before .if1 .taken) (c .with-block .ensures)
@@ -21,12 +15,6 @@ returns c = rw (← (c .before .before .has .ensures), c .before .if1 .taken) (c
 returns-2 : tie.Need-returns-2
 unfolding bumpedSlot
 returns-2 c = rw (← (c .before .before .before .has .ensures), c .before .before .if1 .left) (block-out (inAncestry (now (c .before .before .before .before .before .args .sheet)) (bit (c .before .before .before .before .before .args .leaving)) (c .before .before .before .before .before .args .t)) (c .before .before .before .before .before .args .x) (c .if2 .taken))
-
-in-ancestry-requires : tie.Need-in-ancestry-requires
-in-ancestry-requires c κs = search needs
-
-with-block-requires-2 : tie.Need-with-block-requires-2
-with-block-requires-2 c κs = search needs
 
 returns-3 : tie.Need-returns-3
 unfolding bumpedSlot
@@ -40,11 +28,9 @@ pub bumped-slot-spec : {M : Type 1} → statement M
 bumped-slot-spec =
     tie.close
     (tie.spec
-    has-requires
-    with-block-requires
+    (λ c κs. search needs) (λ c κs. search needs)
     returns
     returns-2
-    in-ancestry-requires
-    with-block-requires-2
+    (λ c κs. search needs) (λ c κs. search needs)
     returns-3
     returns-4)

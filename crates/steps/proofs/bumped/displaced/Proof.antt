@@ -9,12 +9,9 @@ returns : tie.Need-returns
 unfolding displacedIn
 returns c = rw (eq-eqb _ _ (c .if1 .taken))
 
-conflicts-of-requires : tie.Need-conflicts-of-requires
-conflicts-of-requires c κs = search needs
-
 returns-2 : tie.Need-returns-2
 unfolding displacedIn
 returns-2 c = rw (ne-eqb _ _ (c .before .if1 .left)) (c .conflicts-of .ensures)
 
 pub displaced-spec : {M : Type 1} → statement M
-displaced-spec = tie.close (tie.spec returns conflicts-of-requires returns-2)
+displaced-spec = tie.close (tie.spec returns (λ c κs. search needs) returns-2)

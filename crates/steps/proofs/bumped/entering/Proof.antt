@@ -13,26 +13,8 @@ Inv-loop sheet view t line n found₀ k₀ found k = (k ≤ n) × (found ≡ set
 abbrev μ-loop : tie.MeasureT-loop
 μ-loop sheet view t line n found₀ k₀ found k = n - k
 
-line-of-requires : tie.Need-line-of-requires Inv-loop μ-loop
-line-of-requires c κs = search needs
-
-count-requires : tie.Need-count-requires Inv-loop μ-loop
-count-requires c κs = search needs
-
 loop-holds : tie.Need-loop-holds Inv-loop μ-loop
 loop-holds c = (search needs, set-start _)
-
-enters-in-requires : tie.Need-enters-in-requires Inv-loop μ-loop
-enters-in-requires c κs = search needs
-
-join-requires : tie.Need-join-requires Inv-loop μ-loop
-join-requires c κs = search needs
-
-add-k : tie.Need-add-k Inv-loop μ-loop
-add-k c = search needs
-
-loop-less : tie.Need-loop-less Inv-loop μ-loop
-loop-less c = search needs
 
 loop-again : tie.Need-loop-again Inv-loop μ-loop
 loop-again c = (search needs, set-more _ _ _ _ _ (c .before .before .before .loop .inv .1) (c .join .ensures) (c .before .enters-in .ensures))
@@ -46,12 +28,8 @@ entering-spec =
     (tie.spec
     Inv-loop
     μ-loop
-    line-of-requires
-    count-requires
+    (λ c κs. search needs) (λ c κs. search needs)
     loop-holds
-    enters-in-requires
-    join-requires
-    add-k
-    loop-less
+    (λ c κs. search needs) (λ c κs. search needs) (λ c. search needs) (λ c. search needs)
     loop-again
     returns)

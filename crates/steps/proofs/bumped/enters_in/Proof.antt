@@ -5,22 +5,13 @@ use borrow.Author.Needs.{needs}
 use Rattle.steps.proofs.bumped.enters_in.Statement.{statement}
 use Rattle.steps.proofs.bumped.enters_in.Tie as tie
 
-has-requires : tie.Need-has-requires
-has-requires c κs = search needs
-
 returns : tie.Need-returns
 unfolding entersIn
 returns c = rw (← (c .before .has .ensures), not-true (c .before .has .result) (c .if1 .taken))
 
-has-requires-2 : tie.Need-has-requires-2
-has-requires-2 c κs = search needs
-
 returns-2 : tie.Need-returns-2
 unfolding entersIn
 returns-2 c = rw (← (c .before .before .before .has .ensures), not-false (c .before .before .before .has .result) (c .before .before .if1 .left), ← (c .before .has2 .ensures), c .if2 .taken)
-
-has-requires-3 : tie.Need-has-requires-3
-has-requires-3 c κs = search needs
 
 returns-3 : tie.Need-returns-3
 unfolding entersIn
@@ -28,4 +19,4 @@ returns-3 c = rw (← (c .before .before .before .before .has .ensures), not-fal
 
 pub enters-in-spec : {M : Type 1} → statement M
 enters-in-spec =
-    tie.close (tie.spec has-requires returns has-requires-2 returns-2 has-requires-3 returns-3)
+    tie.close (tie.spec (λ c κs. search needs) returns (λ c κs. search needs) returns-2 (λ c κs. search needs) returns-3)

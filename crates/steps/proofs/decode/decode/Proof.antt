@@ -6,15 +6,9 @@ use borrow.Author.Needs.{needs}
 use Rattle.steps.proofs.decode.decode.Statement.{statement}
 use Rattle.steps.proofs.decode.decode.Tie as tie
 
-spelled-requires : tie.Need-spelled-requires
-spelled-requires c κs = search needs
-
-range-checked-requires : tie.Need-range-checked-requires
-range-checked-requires c κs = search needs
-
 returns : tie.Need-returns
 unfolding decode
 returns c = c .range-checked .ensures ∙ ap (rangeChecked (now (c .before .before .before .before .args .sheet)) (now (c .before .before .before .before .args .setup))) (c .before .spelled .ensures)
 
 pub decode-spec : {M : Type 1} → statement M
-decode-spec = tie.close (tie.spec spelled-requires range-checked-requires returns)
+decode-spec = tie.close (tie.spec (λ c κs. search needs) (λ c κs. search needs) returns)

@@ -9,9 +9,6 @@ returns : tie.Need-returns
 unfolding firstShareFields
 returns c = simp (tests, c .if1 .taken)
 
-conduct-requires : tie.Need-conduct-requires
-conduct-requires c κs = search needs
-
 returns-2 : tie.Need-returns-2
 unfolding firstShareFields
 returns-2 c = simp (tests, c .before .before .if1 .left, ← (c .before .conduct .ensures), c .if2 .taken)
@@ -21,4 +18,4 @@ unfolding firstShareFields
 returns-3 c = simp (tests, c .before .before .if1 .left, ← (c .before .conduct .ensures), c .if2 .left)
 
 pub first-share-fields-spec : {M : Type 1} → statement M
-first-share-fields-spec = tie.close (tie.spec returns conduct-requires returns-2 returns-3)
+first-share-fields-spec = tie.close (tie.spec returns (λ c κs. search needs) returns-2 returns-3)

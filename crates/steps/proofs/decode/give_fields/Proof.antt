@@ -5,17 +5,8 @@ use borrow.Author.Needs.{needs}
 use Rattle.steps.proofs.decode.give_fields.Statement.{statement}
 use Rattle.steps.proofs.decode.give_fields.Tie as tie
 
-is-party-requires : tie.Need-is-party-requires
-is-party-requires c κs = search needs
-
 returns : tie.Need-returns
 returns c = simp (← (c .before .is-party .ensures), not-true (c .before .is-party .result) (c .if1 .taken))
-
-signatures-requires : tie.Need-signatures-requires
-signatures-requires c κs = search needs
-
-is-other-requires : tie.Need-is-other-requires
-is-other-requires c κs = search needs
 
 returns-2 : tie.Need-returns-2
 returns-2 c = simp (tests, ← (c .before .before .before .before .is-party .ensures), not-false (c .before .before .before .before .is-party .result) (c .before .before .before .if1 .left), ← (c .before .before .signatures .ensures), c .before .if2 .taken, ← (c .is-other .ensures))
@@ -26,4 +17,4 @@ returns-3 c = simp (tests, ← (c .before .before .before .is-party .ensures), n
 pub give-fields-spec : {M : Type 1} → statement M
 give-fields-spec =
     tie.close
-    (tie.spec is-party-requires returns signatures-requires is-other-requires returns-2 returns-3)
+    (tie.spec (λ c κs. search needs) returns (λ c κs. search needs) (λ c κs. search needs) returns-2 returns-3)

@@ -5,9 +5,6 @@ use borrow.Author.Needs.{needs}
 use Rattle.steps.proofs.decode.is_other.Statement.{statement}
 use Rattle.steps.proofs.decode.is_other.Tie as tie
 
-is-party-requires : tie.Need-is-party-requires
-is-party-requires c κs = search needs
-
 returns : tie.Need-returns
 unfolding isOther
 returns c = simp (tests, ← (c .before .is-party .ensures), c .if1 .taken)
@@ -17,4 +14,4 @@ unfolding isOther
 returns-2 c = simp (tests, ← (c .before .is-party .ensures), c .if1 .left)
 
 pub is-other-spec : {M : Type 1} → statement M
-is-other-spec = tie.close (tie.spec is-party-requires returns returns-2)
+is-other-spec = tie.close (tie.spec (λ c κs. search needs) returns returns-2)

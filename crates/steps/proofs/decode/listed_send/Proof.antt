@@ -4,15 +4,6 @@ use borrow.Author.Needs.{needs}
 use Rattle.steps.proofs.decode.listed_send.Statement.{statement}
 use Rattle.steps.proofs.decode.listed_send.Tie as tie
 
-wide-requires : tie.Need-wide-requires
-wide-requires c κs = search needs
-
-count-requires : tie.Need-count-requires
-count-requires c κs = search needs
-
-sends-to-requires : tie.Need-sends-to-requires
-sends-to-requires c κs = search needs
-
 returns : tie.Need-returns
 returns c = simp (tests, ← (c .before .before .before .wide .ensures .is), ← (c .before .before .count .ensures .is), c .before .if1 .taken, ← (c .sends-to .ensures))
 
@@ -21,4 +12,4 @@ returns-2 c = simp (tests, ← (c .before .before .wide .ensures .is), ← (c .b
 
 pub listed-send-spec : {M : Type 1} → statement M
 listed-send-spec =
-    tie.close (tie.spec wide-requires count-requires sends-to-requires returns returns-2)
+    tie.close (tie.spec (λ c κs. search needs) (λ c κs. search needs) (λ c κs. search needs) returns returns-2)

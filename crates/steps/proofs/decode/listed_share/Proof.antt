@@ -4,15 +4,6 @@ use borrow.Author.Needs.{needs}
 use Rattle.steps.proofs.decode.listed_share.Statement.{statement}
 use Rattle.steps.proofs.decode.listed_share.Tie as tie
 
-wide-requires : tie.Need-wide-requires
-wide-requires c κs = search needs
-
-count-requires : tie.Need-count-requires
-count-requires c κs = search needs
-
-shares-to-requires : tie.Need-shares-to-requires
-shares-to-requires c κs = search needs
-
 returns : tie.Need-returns
 returns c = simp (tests, ← (c .before .before .before .wide .ensures .is), ← (c .before .before .count .ensures .is), c .before .if1 .taken, ← (c .shares-to .ensures))
 
@@ -21,4 +12,4 @@ returns-2 c = simp (tests, ← (c .before .before .wide .ensures .is), ← (c .b
 
 pub listed-share-spec : {M : Type 1} → statement M
 listed-share-spec =
-    tie.close (tie.spec wide-requires count-requires shares-to-requires returns returns-2)
+    tie.close (tie.spec (λ c κs. search needs) (λ c κs. search needs) (λ c κs. search needs) returns returns-2)

@@ -5,15 +5,6 @@ use borrow.Author.Needs.{needs}
 use Rattle.steps.proofs.decode.range_checked.Statement.{statement}
 use Rattle.steps.proofs.decode.range_checked.Tie as tie
 
-enum-known-read : tie.Need-enum-known-read
-enum-known-read c = search needs
-
-fields-right-requires : tie.Need-fields-right-requires
-fields-right-requires c κs = search needs
-
-enum-told : tie.Need-enum-told
-enum-told c = search needs
-
 returns : tie.Need-returns
 unfolding rangeChecked
 returns c = rw (c .before .before .before .read .given .1, sym (c .before .fields-right .ensures) ∙ c .if1 .taken)
@@ -29,4 +20,4 @@ returns-3 c = rw (c .enum-told .given .1)
 pub range-checked-spec : {M : Type 1} → statement M
 range-checked-spec =
     tie.close
-    (tie.spec enum-known-read fields-right-requires enum-told returns returns-2 returns-3)
+    (tie.spec (λ c. search needs) (λ c κs. search needs) (λ c. search needs) returns returns-2 returns-3)

@@ -4,17 +4,11 @@ use borrow.Author.Needs.{needs}
 use Rattle.steps.proofs.decode.send_fields.Statement.{statement}
 use Rattle.steps.proofs.decode.send_fields.Tie as tie
 
-is-party-requires : tie.Need-is-party-requires
-is-party-requires c κs = search needs
-
 returns : tie.Need-returns
 returns c = simp (← (c .before .is-party .ensures), not-true (c .before .is-party .result) (c .if1 .taken))
-
-listed-send-requires : tie.Need-listed-send-requires
-listed-send-requires c κs = search needs
 
 returns-2 : tie.Need-returns-2
 returns-2 c = simp (← (c .before .before .is-party .ensures), not-false (c .before .before .is-party .result) (c .before .if1 .left), ← (c .listed-send .ensures))
 
 pub send-fields-spec : {M : Type 1} → statement M
-send-fields-spec = tie.close (tie.spec is-party-requires returns listed-send-requires returns-2)
+send-fields-spec = tie.close (tie.spec (λ c κs. search needs) returns (λ c κs. search needs) returns-2)

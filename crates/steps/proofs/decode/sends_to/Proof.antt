@@ -5,15 +5,9 @@ use borrow.Author.Needs.{needs}
 use Rattle.steps.proofs.decode.sends_to.Statement.{statement}
 use Rattle.steps.proofs.decode.sends_to.Tie as tie
 
-is-contract-requires : tie.Need-is-contract-requires
-is-contract-requires c κs = search needs
-
 returns : tie.Need-returns
 unfolding sendsTo
 returns c = simp (← (c .before .is-contract .ensures), c .if1 .taken)
-
-is-payee-requires : tie.Need-is-payee-requires
-is-payee-requires c κs = search needs
 
 returns-2 : tie.Need-returns-2
 unfolding sendsTo
@@ -25,4 +19,4 @@ returns-3 c = simp (tests, ← (c .before .before .is-contract .ensures), c .bef
 
 pub sends-to-spec : {M : Type 1} → statement M
 sends-to-spec =
-    tie.close (tie.spec is-contract-requires returns is-payee-requires returns-2 returns-3)
+    tie.close (tie.spec (λ c κs. search needs) returns (λ c κs. search needs) returns-2 returns-3)

@@ -4,20 +4,11 @@ use borrow.Author.Needs.{needs}
 use Rattle.steps.proofs.decode.share_fields.Statement.{statement}
 use Rattle.steps.proofs.decode.share_fields.Tie as tie
 
-is-party-requires : tie.Need-is-party-requires
-is-party-requires c κs = search needs
-
 returns : tie.Need-returns
 returns c = simp (← (c .before .is-party .ensures), not-true (c .before .is-party .result) (c .if1 .taken))
 
-listed-share-requires : tie.Need-listed-share-requires
-listed-share-requires c κs = search needs
-
 returns-2 : tie.Need-returns-2
 returns-2 c = simp (← (c .before .before .before .is-party .ensures), not-false (c .before .before .before .is-party .result) (c .before .before .if1 .left), ← (c .before .listed-share .ensures), c .if2 .taken)
-
-first-share-fields-requires : tie.Need-first-share-fields-requires
-first-share-fields-requires c κs = search needs
 
 returns-3 : tie.Need-returns-3
 returns-3 c = simp (← (c .before .before .before .before .is-party .ensures), not-false (c .before .before .before .before .is-party .result) (c .before .before .before .if1 .left), ← (c .before .before .listed-share .ensures), c .before .if2 .left, ← (c .first-share-fields .ensures))
@@ -26,9 +17,9 @@ pub share-fields-spec : {M : Type 1} → statement M
 share-fields-spec =
     tie.close
     (tie.spec
-    is-party-requires
+    (λ c κs. search needs)
     returns
-    listed-share-requires
+    (λ c κs. search needs)
     returns-2
-    first-share-fields-requires
+    (λ c κs. search needs)
     returns-3)

@@ -5,18 +5,6 @@ use borrow.Author.Needs.{needs}
 use Rattle.steps.proofs.decode.spelled.Statement.{statement}
 use Rattle.steps.proofs.decode.spelled.Tie as tie
 
-of-kind-requires : tie.Need-of-kind-requires
-of-kind-requires c κs = search needs
-
-of-kind-requires-2 : tie.Need-of-kind-requires-2
-of-kind-requires-2 c κs = search needs
-
-of-kind-requires-3 : tie.Need-of-kind-requires-3
-of-kind-requires-3 c κs = search needs
-
-of-kind-requires-4 : tie.Need-of-kind-requires-4
-of-kind-requires-4 c κs = search needs
-
 returns : tie.Need-returns
 unfolding spelled
 returns c = rw (c .before .match .keys1) (c .of-kind .ensures)
@@ -41,10 +29,7 @@ pub spelled-spec : {M : Type 1} → statement M
 spelled-spec =
     tie.close
     (tie.spec
-    of-kind-requires
-    of-kind-requires-2
-    of-kind-requires-3
-    of-kind-requires-4
+    (λ c κs. search needs) (λ c κs. search needs) (λ c κs. search needs) (λ c κs. search needs)
     returns
     returns-2
     returns-3

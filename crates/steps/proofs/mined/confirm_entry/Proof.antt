@@ -11,21 +11,6 @@ returns : tie.Need-returns
 unfolding confirmEntry standing
 returns c = rw (c .if1 .taken)
 
-exposed-mask-requires : tie.Need-exposed-mask-requires
-exposed-mask-requires c κs = search needs
-
-sub-with-shared : tie.Need-sub-with-shared
-sub-with-shared c = search needs
-
-with-shared-requires : tie.Need-with-shared-requires
-with-shared-requires c κs = search needs
-
-with-confirmed-requires : tie.Need-with-confirmed-requires
-with-confirmed-requires c κs = search needs
-
-with-block-requires : tie.Need-with-block-requires
-with-block-requires c κs = search needs
-
 returns-2 : tie.Need-returns-2
 unfolding confirmEntry standing entryTo
 returns-2 c = rw (lt-ltb 0 (c .before .before .before .before .before .before .args .x .block) (omega (arith, c .before .before .before .before .if1 .left)), c .with-block .ensures, c .before .with-confirmed .ensures, c .before .before .with-shared .ensures, c .before .before .before .exposed-mask .ensures)
@@ -35,9 +20,5 @@ confirm-entry-spec =
     tie.close
     (tie.spec
     returns
-    exposed-mask-requires
-    sub-with-shared
-    with-shared-requires
-    with-confirmed-requires
-    with-block-requires
+    (λ c κs. search needs) (λ c. search needs) (λ c κs. search needs) (λ c κs. search needs) (λ c κs. search needs)
     returns-2)

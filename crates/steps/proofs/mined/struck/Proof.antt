@@ -11,15 +11,9 @@ returns : tie.Need-returns
 unfolding struckIn
 returns c = rw (eq-eqb _ _ (c .if1 .taken))
 
-contested-requires : tie.Need-contested-requires
-contested-requires c κs = search needs
-
 returns-2 : tie.Need-returns-2
 unfolding struckIn
 returns-2 c = rw (ne-eqb _ _ (c .before .before .if1 .left)) (uncontested-none _ _ (sym (c .before .contested .ensures) ∙ not-true _ (c .if2 .taken)))
-
-conflicts-of-requires : tie.Need-conflicts-of-requires
-conflicts-of-requires c κs = search needs
 
 returns-3 : tie.Need-returns-3
 unfolding struckIn
@@ -27,4 +21,4 @@ returns-3 c = rw (ne-eqb _ _ (c .before .before .before .if1 .left)) (c .conflic
 
 pub struck-spec : {M : Type 1} → statement M
 struck-spec =
-    tie.close (tie.spec returns contested-requires returns-2 conflicts-of-requires returns-3)
+    tie.close (tie.spec returns (λ c κs. search needs) returns-2 (λ c κs. search needs) returns-3)

@@ -7,11 +7,8 @@ use Rattle.steps.proofs.mining.block_met.Tie as tie
 returns : tie.Need-returns
 returns c = simp (tests, c .if1 .taken)
 
-has-requires : tie.Need-has-requires
-has-requires c κs = search needs
-
 returns-2 : tie.Need-returns-2
 returns-2 c = simp (tests, c .before .if1 .left, c .has .ensures)
 
 pub block-met-spec : {M : Type 1} → statement M
-block-met-spec = tie.close (tie.spec returns has-requires returns-2)
+block-met-spec = tie.close (tie.spec returns (λ c κs. search needs) returns-2)

@@ -7,28 +7,13 @@ use borrow.Author.Needs.{needs}
 use Rattle.steps.proofs.mining.include_refusal.Statement.{statement}
 use Rattle.steps.proofs.mining.include_refusal.Tie as tie
 
-placed-requires : tie.Need-placed-requires
-placed-requires c κs = search needs
-
-conflict-in-requires : tie.Need-conflict-in-requires
-conflict-in-requires c κs = search needs
-
 returns : tie.Need-returns
 unfolding includeTestsIn noConflict
 returns c = rw (← (c .before .before .placed .ensures)) (fails-not _ _ _ _ (c .before .conflict-in .ensures) (c .if1 .taken))
 
-placed-requires-2 : tie.Need-placed-requires-2
-placed-requires-2 c κs = search needs
-
-parent-there-requires : tie.Need-parent-there-requires
-parent-there-requires c κs = search needs
-
 returns-2 : tie.Need-returns-2
 unfolding includeTestsIn noConflict
 returns-2 c = rw (← (c .before .before .before .before .before .placed .ensures)) (passes-not _ _ _ _ _ (c .before .before .before .before .conflict-in .ensures) (c .before .before .before .if1 .left) (rw (c .before .before .before .before .before .placed .ensures, ← (c .before .before .placed2 .ensures)) (fails _ _ _ _ (c .before .parent-there .ensures) (c .if2 .taken))))
-
-has-requires : tie.Need-has-requires
-has-requires c κs = search needs
 
 returns-3 : tie.Need-returns-3
 unfolding includeTestsIn noConflict
@@ -46,13 +31,11 @@ pub include-refusal-spec : {M : Type 1} → statement M
 include-refusal-spec =
     tie.close
     (tie.spec
-    placed-requires
-    conflict-in-requires
+    (λ c κs. search needs) (λ c κs. search needs)
     returns
-    placed-requires-2
-    parent-there-requires
+    (λ c κs. search needs) (λ c κs. search needs)
     returns-2
-    has-requires
+    (λ c κs. search needs)
     returns-3
     returns-4
     returns-5)

@@ -14,9 +14,6 @@ returns : tie.Need-returns
 unfolding mineTestsIn
 returns c = fails-not _ _ _ _ refl (c .if1 .taken)
 
-block-met-requires : tie.Need-block-met-requires
-block-met-requires c κs = search needs
-
 returns-2 : tie.Need-returns-2
 unfolding mineTestsIn
 returns-2 c = passes-not _ _ _ _ _ refl (c .before .before .if1 .left) (fails _ _ _ _ (c .before .block-met .ensures) (c .if2 .taken))
@@ -30,4 +27,4 @@ unfolding mineTestsIn
 returns-4 c = passes-not _ _ _ _ _ refl (c .before .before .before .before .if1 .left) (passes _ _ _ _ _ (c .before .before .before .block-met .ensures) (c .before .before .if2 .left) (passes stepBlocks 0 (ltb (c .before .before .before .before .before .args .view .mined) 10000) (ltb (c .before .before .before .before .before .args .view .mined) 10000) [] refl (rw (lt-ltb _ _ (c .if3 .left))) none-left))
 
 pub mine-refusal-spec : {M : Type 1} → statement M
-mine-refusal-spec = tie.close (tie.spec returns block-met-requires returns-2 returns-3 returns-4)
+mine-refusal-spec = tie.close (tie.spec returns (λ c κs. search needs) returns-2 returns-3 returns-4)

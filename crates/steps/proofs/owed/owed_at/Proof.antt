@@ -5,28 +5,13 @@ use borrow.Author.Needs.{needs}
 use Rattle.steps.proofs.owed.owed_at.Statement.{statement}
 use Rattle.steps.proofs.owed.owed_at.Tie as tie
 
-has-requires : tie.Need-has-requires
-has-requires c κs = search needs
-
 returns : tie.Need-returns
 unfolding owedIn
 returns c = rw (← (c .before .has .ensures), not-true (c .before .has .result) (c .if1 .taken))
 
-has-requires-2 : tie.Need-has-requires-2
-has-requires-2 c κs = search needs
-
 returns-2 : tie.Need-returns-2
 unfolding owedIn
 returns-2 c = rw (← (c .before .before .before .has .ensures), not-false (c .before .before .before .has .result) (c .before .before .if1 .left), ← (c .before .has2 .ensures), c .if2 .taken)
-
-wide-requires : tie.Need-wide-requires
-wide-requires c κs = search needs
-
-add-result : tie.Need-add-result
-add-result c = search needs
-
-deadline-requires : tie.Need-deadline-requires
-deadline-requires c κs = search needs
 
 returns-3 : tie.Need-returns-3
 unfolding owedIn
@@ -36,11 +21,9 @@ pub owed-at-spec : {M : Type 1} → statement M
 owed-at-spec =
     tie.close
     (tie.spec
-    has-requires
+    (λ c κs. search needs)
     returns
-    has-requires-2
+    (λ c κs. search needs)
     returns-2
-    wide-requires
-    add-result
-    deadline-requires
+    (λ c κs. search needs) (λ c. search needs) (λ c κs. search needs)
     returns-3)

@@ -5,9 +5,6 @@ use borrow.Author.Needs.{needs}
 use Rattle.steps.proofs.parent.block_above.Statement.{statement}
 use Rattle.steps.proofs.parent.block_above.Tie as tie
 
-parent-requires : tie.Need-parent-requires
-parent-requires c κs = search needs
-
 returns : tie.Need-returns
 unfolding blockAbove
 returns c = simp (tests, ← (c .before .parent .ensures .is), c .if1 .taken)
@@ -17,4 +14,4 @@ unfolding blockAbove
 returns-2 c = simp (tests, ← (c .before .parent .ensures .is), c .if1 .left)
 
 pub block-above-spec : {M : Type 1} → statement M
-block-above-spec = tie.close (tie.spec parent-requires returns returns-2)
+block-above-spec = tie.close (tie.spec (λ c κs. search needs) returns returns-2)

@@ -6,18 +6,9 @@ use borrow.Author.Needs.{needs}
 use Rattle.steps.proofs.parent.parent_there.Statement.{statement}
 use Rattle.steps.proofs.parent.parent_there.Tie as tie
 
-opening-requires : tie.Need-opening-requires
-opening-requires c κs = search needs
-
 returns : tie.Need-returns
 unfolding hasParent
 returns c = rw (← (c .before .opening .ensures), c .if1 .taken)
-
-parent-requires : tie.Need-parent-requires
-parent-requires c κs = search needs
-
-has-requires : tie.Need-has-requires
-has-requires c κs = search needs
 
 returns-2 : tie.Need-returns-2
 unfolding hasParent
@@ -29,4 +20,4 @@ returns-3 c = rw (← (c .before .before .before .opening .ensures), c .before .
 
 pub parent-there-spec : {M : Type 1} → statement M
 parent-there-spec =
-    tie.close (tie.spec opening-requires returns parent-requires has-requires returns-2 returns-3)
+    tie.close (tie.spec (λ c κs. search needs) returns (λ c κs. search needs) (λ c κs. search needs) returns-2 returns-3)

@@ -5,9 +5,6 @@ use borrow.Author.Needs.{needs}
 use Rattle.steps.proofs.parent.slot_above.Statement.{statement}
 use Rattle.steps.proofs.parent.slot_above.Tie as tie
 
-parent-requires : tie.Need-parent-requires
-parent-requires c κs = search needs
-
 returns : tie.Need-returns
 unfolding slotAbove
 returns c = (simp (tests, ← (c .before .parent .ensures .is), c .if1 .taken), search needs)
@@ -17,4 +14,4 @@ unfolding slotAbove
 returns-2 c = (simp (tests, ← (c .before .parent .ensures .is), c .if1 .left), search needs)
 
 pub slot-above-spec : {M : Type 1} → statement M
-slot-above-spec = tie.close (tie.spec parent-requires returns returns-2)
+slot-above-spec = tie.close (tie.spec (λ c κs. search needs) returns returns-2)

@@ -3,14 +3,8 @@ use borrow.Author.Needs.{needs}
 use Rattle.steps.proofs.sending.in_time.Statement.{statement}
 use Rattle.steps.proofs.sending.in_time.Tie as tie
 
-wide-requires : tie.Need-wide-requires
-wide-requires c κs = search needs
-
-deadline-by-requires : tie.Need-deadline-by-requires
-deadline-by-requires c κs = search needs
-
 returns : tie.Need-returns
 returns c = rw (← (c .deadline-by .ensures .is), ← (c .before .wide .ensures .0))
 
 pub in-time-spec : {M : Type 1} → statement M
-in-time-spec = tie.close (tie.spec wide-requires deadline-by-requires returns)
+in-time-spec = tie.close (tie.spec (λ c κs. search needs) (λ c κs. search needs) returns)

@@ -6,24 +6,9 @@ use borrow.Author.Needs.{needs}
 use Rattle.steps.proofs.sending.miner_refusal.Statement.{statement}
 use Rattle.steps.proofs.sending.miner_refusal.Tie as tie
 
-stealth-requires : tie.Need-stealth-requires
-stealth-requires c κs = search needs
-
 returns : tie.Need-returns
 unfolding minerTestsIn firstFailing
 returns c = simp (tests, ← (c .before .stealth .ensures), c .if1 .taken)
-
-sender-requires : tie.Need-sender-requires
-sender-requires c κs = search needs
-
-per-day-requires : tie.Need-per-day-requires
-per-day-requires c κs = search needs
-
-placed-requires : tie.Need-placed-requires
-placed-requires c κs = search needs
-
-send-refusal-requires : tie.Need-send-refusal-requires
-send-refusal-requires c κs = search needs
 
 returns-2 : tie.Need-returns-2
 unfolding minerTestsIn firstFailing
@@ -33,10 +18,7 @@ pub miner-refusal-spec : {M : Type 1} → statement M
 miner-refusal-spec =
     tie.close
     (tie.spec
-    stealth-requires
+    (λ c κs. search needs)
     returns
-    sender-requires
-    per-day-requires
-    placed-requires
-    send-refusal-requires
+    (λ c κs. search needs) (λ c κs. search needs) (λ c κs. search needs) (λ c κs. search needs)
     returns-2)

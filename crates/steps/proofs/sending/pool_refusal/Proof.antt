@@ -5,23 +5,8 @@ use borrow.Author.Needs.{needs}
 use Rattle.steps.proofs.sending.pool_refusal.Statement.{statement}
 use Rattle.steps.proofs.sending.pool_refusal.Tie as tie
 
-per-day-requires : tie.Need-per-day-requires
-per-day-requires c κs = search needs
-
-sender-requires : tie.Need-sender-requires
-sender-requires c κs = search needs
-
-sent-requires : tie.Need-sent-requires
-sent-requires c κs = search needs
-
-send-refusal-requires : tie.Need-send-refusal-requires
-send-refusal-requires c κs = search needs
-
 returns : tie.Need-returns
 returns c = pool-failed _ _ _ _ _ _ _ _ _ _ _ _ _ (c .before .before .before .before .per-day .ensures) (c .before .before .sent .ensures) (c .before .before .before .sender .ensures) (c .before .send-refusal .ensures) (c .if1 .taken)
-
-in-time-requires : tie.Need-in-time-requires
-in-time-requires c κs = search needs
 
 returns-2 : tie.Need-returns-2
 returns-2 c = pool-passed _ _ _ _ _ _ _ _ _ _ _ _ _ (c .before .before .before .before .before .before .per-day .ensures) (c .before .before .before .before .sent .ensures) (c .before .before .before .before .before .sender .ensures) (c .before .before .before .send-refusal .ensures) _ (c .before .before .if1 .left) (fails _ _ _ _ (c .before .in-time .ensures) (c .if2 .taken))
@@ -33,11 +18,8 @@ pub pool-refusal-spec : {M : Type 1} → statement M
 pool-refusal-spec =
     tie.close
     (tie.spec
-    per-day-requires
-    sender-requires
-    sent-requires
-    send-refusal-requires
+    (λ c κs. search needs) (λ c κs. search needs) (λ c κs. search needs) (λ c κs. search needs)
     returns
-    in-time-requires
+    (λ c κs. search needs)
     returns-2
     returns-3)

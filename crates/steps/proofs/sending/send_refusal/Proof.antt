@@ -11,29 +11,17 @@ returns : tie.Need-returns
 unfolding sendTestsIn noConflict
 returns c = fails _ _ _ _ refl (c .if1 .taken)
 
-conflict-in-requires : tie.Need-conflict-in-requires
-conflict-in-requires c κs = search needs
-
 returns-2 : tie.Need-returns-2
 unfolding sendTestsIn noConflict
 returns-2 c = passes _ _ _ _ _ refl (c .before .before .if1 .left) (fails-not _ _ _ _ (c .before .conflict-in .ensures) (c .if2 .taken))
-
-parent-there-requires : tie.Need-parent-there-requires
-parent-there-requires c κs = search needs
 
 returns-3 : tie.Need-returns-3
 unfolding sendTestsIn noConflict
 returns-3 c = passes _ _ _ _ _ refl (c .before .before .before .before .if1 .left) (passes-not _ _ _ _ _ (c .before .before .before .conflict-in .ensures) (c .before .before .if2 .left) (fails _ _ _ _ (c .before .parent-there .ensures) (c .if3 .taken)))
 
-unlocked-requires : tie.Need-unlocked-requires
-unlocked-requires c κs = search needs
-
 returns-4 : tie.Need-returns-4
 unfolding sendTestsIn noConflict
 returns-4 c = passes _ _ _ _ _ refl (c .before .before .before .before .before .before .if1 .left) (passes-not _ _ _ _ _ (c .before .before .before .before .before .conflict-in .ensures) (c .before .before .before .before .if2 .left) (passes _ _ _ _ _ (c .before .before .before .parent-there .ensures) (c .before .before .if3 .left) (fails _ _ _ _ (c .before .unlocked .ensures) (c .if4 .taken))))
-
-signed-requires : tie.Need-signed-requires
-signed-requires c κs = search needs
 
 returns-5 : tie.Need-returns-5
 unfolding sendTestsIn noConflict
@@ -48,12 +36,12 @@ send-refusal-spec =
     tie.close
     (tie.spec
     returns
-    conflict-in-requires
+    (λ c κs. search needs)
     returns-2
-    parent-there-requires
+    (λ c κs. search needs)
     returns-3
-    unlocked-requires
+    (λ c κs. search needs)
     returns-4
-    signed-requires
+    (λ c κs. search needs)
     returns-5
     returns-6)

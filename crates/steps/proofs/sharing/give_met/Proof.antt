@@ -4,12 +4,6 @@ use borrow.Author.Needs.{needs}
 use Rattle.steps.proofs.sharing.give_met.Statement.{statement}
 use Rattle.steps.proofs.sharing.give_met.Tie as tie
 
-has-requires : tie.Need-has-requires
-has-requires c κs = search needs
-
-has-requires-2 : tie.Need-has-requires-2
-has-requires-2 c κs = search needs
-
 returns : tie.Need-returns
 unfolding giveMetIn
 returns c = rw (← (c .before .before .has .ensures), c .before .if1 .taken, c .has2 .ensures)
@@ -19,4 +13,4 @@ unfolding giveMetIn
 returns-2 c = rw (← (c .before .has .ensures), c .if1 .left)
 
 pub give-met-spec : {M : Type 1} → statement M
-give-met-spec = tie.close (tie.spec has-requires has-requires-2 returns returns-2)
+give-met-spec = tie.close (tie.spec (λ c κs. search needs) (λ c κs. search needs) returns returns-2)

@@ -4,19 +4,13 @@ use borrow.Author.Needs.{needs}
 use Rattle.steps.proofs.sharing.share_met.Statement.{statement}
 use Rattle.steps.proofs.sharing.share_met.Tie as tie
 
-marked-for-requires : tie.Need-marked-for-requires
-marked-for-requires c κs = search needs
-
 returns : tie.Need-returns
 unfolding shareMetIn
 returns c = rw (← (c .before .marked-for .ensures), c .if1 .taken)
-
-share-mask-requires : tie.Need-share-mask-requires
-share-mask-requires c κs = search needs
 
 returns-2 : tie.Need-returns-2
 unfolding shareMetIn
 returns-2 c = rw (← (c .before .before .marked-for .ensures), c .before .if1 .left, c .share-mask .ensures)
 
 pub share-met-spec : {M : Type 1} → statement M
-share-met-spec = tie.close (tie.spec marked-for-requires returns share-mask-requires returns-2)
+share-met-spec = tie.close (tie.spec (λ c κs. search needs) returns (λ c κs. search needs) returns-2)

@@ -20,33 +20,9 @@ unfolding succeeded
 from-zero (pos a) h = le-leb 0 a (omega arith)
 from-zero (negsuc a) h = sym h
 
-open-read-requires : tie.Need-open-read-requires
-open-read-requires c κs = search needs
-
-fail-requires : tie.Need-fail-requires
-fail-requires c κs = search needs
-
 returns : tie.Need-returns
 unfolding isReadable succeeded
 returns c = (search needs, (sym (rw (below-zero _ (c .before .if1 .taken)) refl), λ _. record { none = refl; kept = refl }))
-
-read-full-requires : tie.Need-read-full-requires
-read-full-requires c κs = search needs
-
-slice-aggregate-read : tie.Need-slice-aggregate-read
-slice-aggregate-read c = search needs
-
-read-requires : tie.Need-read-requires
-read-requires c κs = search needs
-
-fail-requires-2 : tie.Need-fail-requires-2
-fail-requires-2 c κs = search needs
-
-close-requires : tie.Need-close-requires
-close-requires c κs = search needs
-
-same-length : tie.Need-same-length
-same-length c = search needs
 
 returns-2 : tie.Need-returns-2
 unfolding isReadable succeeded
@@ -58,13 +34,7 @@ pub read-file-spec : {M : Type 1} → statement M
 read-file-spec =
     tie.close
     (tie.spec
-    open-read-requires
-    fail-requires
+    (λ c κs. search needs) (λ c κs. search needs)
     returns
-    read-full-requires
-    slice-aggregate-read
-    read-requires
-    fail-requires-2
-    close-requires
-    same-length
+    (λ c κs. search needs) (λ c. search needs) (λ c κs. search needs) (λ c κs. search needs) (λ c κs. search needs) (λ c. search needs)
     returns-2)

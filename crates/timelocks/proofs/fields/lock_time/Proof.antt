@@ -8,15 +8,9 @@ use borrow.Author.Needs.{needs}
 use Rattle.timelocks.proofs.fields.lock_time.Statement.{statement}
 use Rattle.timelocks.proofs.fields.lock_time.Tie as tie
 
-lock-type-requires : tie.Need-lock-type-requires
-lock-type-requires c κs = search needs
-
 returns : tie.Need-returns
 unfolding nLockTime
 returns c = simp (tests, ← (c .before .lock-type .ensures), c .if1 .taken)
-
-lock-blocks-requires : tie.Need-lock-blocks-requires
-lock-blocks-requires c κs = search needs
 
 add-result : tie.Need-add-result
 add-result c =
@@ -29,4 +23,4 @@ returns-2 c = simp (tests, ← (c .before .before .lock-type .ensures), c .befor
 
 pub lock-time-spec : {M : Type 1} → statement M
 lock-time-spec =
-    tie.close (tie.spec lock-type-requires returns lock-blocks-requires add-result returns-2)
+    tie.close (tie.spec (λ c κs. search needs) returns (λ c κs. search needs) add-result returns-2)

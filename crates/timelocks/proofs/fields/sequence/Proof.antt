@@ -5,9 +5,6 @@ use borrow.Author.Needs.{needs}
 use Rattle.timelocks.proofs.fields.sequence.Statement.{statement}
 use Rattle.timelocks.proofs.fields.sequence.Tie as tie
 
-lock-type-requires : tie.Need-lock-type-requires
-lock-type-requires c κs = search needs
-
 returns : tie.Need-returns
 unfolding nSequence
 returns c = simp (tests, ← (c .before .lock-type .ensures), c .if1 .taken)
@@ -16,12 +13,6 @@ returns-2 : tie.Need-returns-2
 unfolding nSequence
 returns-2 c = simp (tests, ← (c .before .before .lock-type .ensures), c .if2 .taken)
 
-lock-blocks-requires : tie.Need-lock-blocks-requires
-lock-blocks-requires c κs = search needs
-
-add-result : tie.Need-add-result
-add-result c = search needs
-
 returns-3 : tie.Need-returns-3
 unfolding nSequence
 returns-3 c = simp (tests, ← (c .before .before .before .lock-type .ensures), c .before .before .if1 .left, c .before .if2 .left, c .lock-blocks .ensures .is)
@@ -29,4 +20,4 @@ returns-3 c = simp (tests, ← (c .before .before .before .lock-type .ensures), 
 pub sequence-spec : {M : Type 1} → statement M
 sequence-spec =
     tie.close
-    (tie.spec lock-type-requires returns returns-2 lock-blocks-requires add-result returns-3)
+    (tie.spec (λ c κs. search needs) returns returns-2 (λ c κs. search needs) (λ c. search needs) returns-3)

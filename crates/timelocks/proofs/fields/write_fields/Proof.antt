@@ -24,9 +24,6 @@ Inv-loop sheet per-day base out₀ n at₀ t₀ out at t = Turns (fieldBytes she
 abbrev μ-loop : tie.MeasureT-loop
 μ-loop sheet per-day base out₀ n at₀ t₀ out at t = n - t
 
-count-requires : tie.Need-count-requires Inv-loop μ-loop
-count-requires c κs = search needs
-
 loop-holds : tie.Need-loop-holds Inv-loop μ-loop
 loop-holds c =
     let k = c .before .before .before in
@@ -38,17 +35,11 @@ lock-time-requires c κs =
     let l : c .before .loop .t < count (k .args .sheet .now) = omega (arith, c .loop-test .taken, c .before .before .count .ensures .is) in
     (k .pre .0, (l, all-at _ (absoluteRight (k .args .sheet .now) (k .args .per-day) (k .args .base)) (k .pre .1 .0) _ l))
 
-sequence-requires : tie.Need-sequence-requires Inv-loop μ-loop
-sequence-requires c κs = search needs
-
 sub-write-pair : tie.Need-sub-write-pair Inv-loop μ-loop
 sub-write-pair c = omega (arith, c .before .before .before .loop .inv .wrote)
 
 part-write-pair-start : tie.Need-part-write-pair-start Inv-loop μ-loop
 part-write-pair-start c = omega (arith, c .before .before .before .loop .inv .wrote)
-
-part-write-pair-end : tie.Need-part-write-pair-end Inv-loop μ-loop
-part-write-pair-end c = search needs
 
 write-pair-requires : tie.Need-write-pair-requires Inv-loop μ-loop
 write-pair-requires c κs =
@@ -61,12 +52,6 @@ add-at c =
     let k = c .before .before .before .before .before .before .before .before .before .before .before in
     let i = c .before .before .before .before .before .before .before .loop in
     omega (arith, turn-end _ _ _ _ _ _ 8 (i .inv) (c .before .before .before .before .before .before .loop-test .taken) (sym (field-length (k .args .sheet .now) (k .args .per-day) (k .args .base) (i .t))))
-
-add-t : tie.Need-add-t Inv-loop μ-loop
-add-t c = search needs
-
-loop-less : tie.Need-loop-less Inv-loop μ-loop
-loop-less c = search needs
 
 loop-again : tie.Need-loop-again Inv-loop μ-loop
 loop-again c =
@@ -88,17 +73,16 @@ write-fields-spec =
     (tie.spec
     Inv-loop
     μ-loop
-    count-requires
+    (λ c κs. search needs)
     loop-holds
     lock-time-requires
-    sequence-requires
+    (λ c κs. search needs)
     sub-write-pair
     part-write-pair-start
-    part-write-pair-end
+    (λ c. search needs)
     write-pair-requires
     add-at
-    add-t
-    loop-less
+    (λ c. search needs) (λ c. search needs)
     loop-again
     same-length
     returns)

@@ -6,15 +6,9 @@ use borrow.Author.Needs.{needs}
 use Rattle.timelocks.proofs.limits.limit_refusal.Statement.{statement}
 use Rattle.timelocks.proofs.limits.limit_refusal.Tie as tie
 
-all-right-requires : tie.Need-all-right-requires
-all-right-requires c κs = search needs
-
 returns : tie.Need-returns
 unfolding limitTests limitRule
 returns c = fails _ _ _ _ (c .before .all-right .ensures) (c .if1 .taken)
-
-all-right-requires-2 : tie.Need-all-right-requires-2
-all-right-requires-2 c κs = search needs
 
 returns-2 : tie.Need-returns-2
 unfolding limitTests limitRule
@@ -28,4 +22,4 @@ returns-3 c = passes _ _ _ _ _ (c .before .before .before .all-right .ensures) (
 
 pub limit-refusal-spec : {M : Type 1} → statement M
 limit-refusal-spec =
-    tie.close (tie.spec all-right-requires returns all-right-requires-2 returns-2 returns-3)
+    tie.close (tie.spec (λ c κs. search needs) returns (λ c κs. search needs) returns-2 returns-3)

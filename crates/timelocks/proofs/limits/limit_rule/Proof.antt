@@ -5,15 +5,9 @@ use borrow.Author.Needs.{needs}
 use Rattle.timelocks.proofs.limits.limit_rule.Statement.{statement}
 use Rattle.timelocks.proofs.limits.limit_rule.Tie as tie
 
-relative-right-requires : tie.Need-relative-right-requires
-relative-right-requires c κs = search needs
-
 returns : tie.Need-returns
 unfolding limitRule
 returns c = simp (c .before .if1 .taken, ← (c .relative-right .ensures))
-
-absolute-right-requires : tie.Need-absolute-right-requires
-absolute-right-requires c κs = search needs
 
 returns-2 : tie.Need-returns-2
 unfolding limitRule
@@ -21,4 +15,4 @@ returns-2 c = simp (tests, c .before .if1 .left, ← (c .absolute-right .ensures
 
 pub limit-rule-spec : {M : Type 1} → statement M
 limit-rule-spec =
-    tie.close (tie.spec relative-right-requires returns absolute-right-requires returns-2)
+    tie.close (tie.spec (λ c κs. search needs) returns (λ c κs. search needs) returns-2)

@@ -5,19 +5,13 @@ use borrow.Author.Needs.{needs}
 use Rattle.timelocks.proofs.limits.relative_right.Statement.{statement}
 use Rattle.timelocks.proofs.limits.relative_right.Tie as tie
 
-lock-type-requires : tie.Need-lock-type-requires
-lock-type-requires c κs = search needs
-
 returns : tie.Need-returns
 unfolding relativeRight
 returns c = simp (tests, ← (c .before .lock-type .ensures), c .if1 .taken)
-
-sequence-requires : tie.Need-sequence-requires
-sequence-requires c κs = search needs
 
 returns-2 : tie.Need-returns-2
 unfolding relativeRight
 returns-2 c = simp (tests, ← (c .before .before .lock-type .ensures), c .before .if1 .left, ← (c .sequence .ensures))
 
 pub relative-right-spec : {M : Type 1} → statement M
-relative-right-spec = tie.close (tie.spec lock-type-requires returns sequence-requires returns-2)
+relative-right-spec = tie.close (tie.spec (λ c κs. search needs) returns (λ c κs. search needs) returns-2)
