@@ -1,9 +1,6 @@
 -- The claim, from the ledger's link to the position, the order of the entries and the report read back.
 -- Assumes nothing.
-use Prim.Native.Nat.{ℕ, _<_}
-use mathlib.Core.Path.{_≡_, ap, sym, _∙_}
-use mathlib.Core.Bool.{true}
-use mathlib.Core.List.{List}
+use Rattle.laws.proofs.Prelude.{ℕ, _<_, _≡_, sym, ap, _∙_, true, List}
 use Rattle.laws.specs.All.{All, all-weaken}
 use Rattle.sheet.specs.Field.{count}
 use Rattle.sheet.specs.Check.{sheetRefusal}

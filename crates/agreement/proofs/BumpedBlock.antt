@@ -1,12 +1,6 @@
 -- A bump: the block being filled with some of a line put in, and without what these put out.
 -- Assumes nothing.
-use Prim.Native.Nat.{ℕ, _<_}
-use native.Mathlib.Omega.{arith}
-use mathlib.Core.Path.{_≡_}
-use mathlib.Core.Bool.{Bool, true, false, not, _&&_, _||_}
-use mathlib.Core.Logic.{_⊎_, inl, inr}
-use mathlib.Core.List.{List}
-use borrow.Author.Tests.{not-true}
+use Rattle.laws.proofs.Prelude.{ℕ, _<_, _≡_, Bool, true, false, not, _&&_, _||_, List, _⊎_, inl, inr, not-true, arith}
 use Rattle.laws.specs.Booleans.{split, either, clash, and-parts, or-parts, or-right, fails-by}
 use Rattle.sheet.specs.Field.{count, parent, opening}
 use Rattle.sheet.specs.Checked.{Checked}

@@ -1,11 +1,6 @@
 -- The coin of a transaction: its own number for an opening, its parent's coin for a spend; it stands above the transaction.
 -- Assumes nothing.
-use Prim.Native.Nat.{ℕ, zero, suc, _<_}
-use native.Mathlib.Omega.{arith}
-use mathlib.Core.Path.{_≡_, _∙_}
-use mathlib.Core.Bool.{true, false}
-use mathlib.Core.List.{List}
-use borrow.Author.Tests.{lt-ltb}
+use Rattle.laws.proofs.Prelude.{ℕ, zero, suc, _<_, _≡_, _∙_, true, false, List, lt-ltb, arith}
 use Rattle.laws.specs.Booleans.{pick, split}
 use Rattle.laws.specs.Climb.{climbIn, climb, climb-step}
 use Rattle.sheet.specs.Field.{count, parent, opening}

@@ -1,10 +1,6 @@
 -- What a taken step confirms: nothing, or, kind 6, the block being filled.
 -- Assumes nothing.
-use Prim.Native.Nat.{ℕ}
-use mathlib.Core.Path.{_≡_, refl}
-use mathlib.Core.Bool.{false}
-use mathlib.Core.List.{List, [], _∷_, _++_}
-use lib.Dec.{eqb}
+use Rattle.laws.proofs.Prelude.{ℕ, _≡_, refl, false, List, [], _∷_, _++_, eqb}
 use Rattle.sheet.specs.Refusal.{accepted}
 use Rattle.sheet.specs.Checked.{Checked}
 use Rattle.slots.specs.declared.Step.{Step}

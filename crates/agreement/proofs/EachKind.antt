@@ -1,13 +1,7 @@
 -- Each kind of step, taken, leads from a sound position to a sound one.
 -- Assumes nothing.
-use Prim.Native.Nat.{ℕ, _≤_, _<_}
-use native.Mathlib.Omega.{arith}
-use mathlib.Core.Path.{_≡_, _∙_}
-use mathlib.Core.Bool.{Bool, true, false, not, _&&_, _||_, false≢true}
-use mathlib.Core.List.{List}
-use lib.Dec.{eqb, ltb}
-use lib.ListN.{length}
-use borrow.Author.Tests.{eqb-true, eqb-false, ne-eqb, ltb-true, not-true}
+use Rattle.laws.proofs.Prelude.{ℕ, _≤_, _<_, _≡_, _∙_, Bool, true, false, not, _&&_, _||_, false≢true, List, eqb, ltb, length, eqb-true}
+use Rattle.laws.proofs.Prelude.{eqb-false, ltb-true, ne-eqb, not-true, arith}
 use Rattle.laws.specs.Booleans.{split, either, clash, and-parts, or-parts}
 use Rattle.laws.specs.Gather.{every}
 use Rattle.sheet.specs.Field.{count}

@@ -1,13 +1,9 @@
 -- What the claim's words come to on the SASwap sheet, computed: where Bob is paid from coin A and Alice from coin B, where it is the
 -- other way round, and where nobody is paid.
 -- Assumes nothing.
-use Prim.Native.Nat.{ℕ, _<_}
-use native.Mathlib.Omega.{arith}
-use mathlib.Core.Path.{_≡_, refl}
-use mathlib.Core.Bool.{Bool, true, false, not, _&&_, false≢true}
-use mathlib.Core.List.{List, [], _∷_, _++_, flatMap}
-use lib.Dec.{eqb, lit<}
-use lib.ListN.{length, replicate}
+use Rattle.laws.proofs.Prelude.{ℕ, _<_, _≡_, refl, Bool, true, false, not, _&&_, false≢true, List, [], _∷_, _++_, eqb, lit<, length}
+use Rattle.laws.proofs.Prelude.{replicate, arith}
+use mathlib.Core.List.{flatMap}
 use Rattle.laws.specs.Booleans.{pick}
 use Rattle.laws.specs.Gather.{gather, every}
 use Rattle.laws.specs.Same.{same}

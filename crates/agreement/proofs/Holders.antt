@@ -1,14 +1,9 @@
 -- Where the ledger is linked to what is confirmed, its holder of every coin is the one read from there.
 -- Assumes nothing.
-use Prim.Native.Nat.{ℕ, zero, suc, _<_}
-use native.Mathlib.Omega.{arith}
+use Rattle.laws.proofs.Prelude.{ℕ, zero, suc, _<_, _≡_, refl, sym, ap, _∙_, Bool, true, false, not, _&&_, List, eqb, ltb, eqb-true}
+use Rattle.laws.proofs.Prelude.{ltb-true, eq-eqb, lt-ltb, not-true, arith}
 use native.Mathlib.Nat.{not-suc-le-zero, le-of-suc-le-suc, eq-or-lt-of-le}
-use mathlib.Core.Path.{_≡_, refl, sym, ap, _∙_}
-use mathlib.Core.Bool.{Bool, true, false, not, _&&_}
-use mathlib.Core.List.{List}
 use mathlib.Core.Option.{none, some}
-use lib.Dec.{eqb, ltb}
-use borrow.Author.Tests.{eqb-true, eq-eqb, ltb-true, lt-ltb, not-true}
 use Rattle.laws.specs.Booleans.{pick, split, either, clash, and-parts, fails-by}
 use Rattle.laws.specs.Below.{any-some, any-found}
 use Rattle.laws.specs.All.{none-some, some-same}

@@ -1,15 +1,9 @@
 -- What the ledger has kept when it comes to a place of a list that it takes.
 -- Assumes nothing.
-use Prim.Native.Nat.{ℕ, zero, suc, _≤_, _<_}
-use native.Mathlib.Omega.{arith}
-use mathlib.Core.Path.{_≡_, refl, sym, _∙_}
-use mathlib.Core.Bool.{true}
-use mathlib.Core.Logic.{_⊎_, inl, inr}
-use mathlib.Core.List.{List, [], _∷_}
+use Rattle.laws.proofs.Prelude.{ℕ, zero, suc, _≤_, _<_, _≡_, refl, sym, _∙_, true, List, [], _∷_, _⊎_, inl, inr, eqb, eqb-true, eq-eqb}
+use Rattle.laws.proofs.Prelude.{arith}
 use mathlib.Core.Option.{Option, some}
-use lib.Dec.{eqb}
 use lib.ListN.{getElem?}
-use borrow.Author.Tests.{eqb-true, eq-eqb}
 use Rattle.laws.specs.Booleans.{split, either}
 use Rattle.laws.specs.All.{none-some, some-same, All, also}
 use Rattle.sheet.specs.Field.{count, parent}

@@ -1,10 +1,6 @@
 -- The plain ledger linked to what is confirmed: the entry kept for a coin is that of its one confirmed transaction without a confirmed child.
 -- Assumes nothing.
-use Prim.Native.Nat.{ℕ, _<_}
-use mathlib.Core.Path.{_≡_}
-use mathlib.Core.Bool.{false}
-use mathlib.Core.Logic.{_⊎_, inl, inr}
-use mathlib.Core.List.{List}
+use Rattle.laws.proofs.Prelude.{ℕ, _<_, _≡_, false, List, _⊎_, inl, inr}
 use mathlib.Core.Option.{some}
 use Rattle.laws.specs.Booleans.{either}
 use Rattle.sheet.specs.Field.{count, parent, opening}

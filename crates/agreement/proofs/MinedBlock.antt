@@ -1,13 +1,7 @@
 -- A mined block: what was in it is settled, and the pool waits on.
 -- Assumes nothing.
-use Prim.Native.Nat.{ℕ, _+_, _≤_, _<_}
-use native.Mathlib.Omega.{arith}
-use mathlib.Core.Path.{_≡_, sym, _∙_}
-use mathlib.Core.Bool.{Bool, true, false, not, _&&_, _||_}
-use mathlib.Core.Logic.{_⊎_, inl, inr}
-use mathlib.Core.List.{List}
-use lib.Dec.{eqb}
-use borrow.Author.Tests.{eqb-true, eqb-false, eq-eqb, ne-eqb, not-true}
+use Rattle.laws.proofs.Prelude.{ℕ, _+_, _≤_, _<_, _≡_, sym, _∙_, Bool, true, false, not, _&&_, _||_, List, _⊎_, inl, inr, eqb, eqb-true}
+use Rattle.laws.proofs.Prelude.{eqb-false, eq-eqb, ne-eqb, not-true, arith}
 use Rattle.laws.specs.Booleans.{pick, split, either, and-parts, or-neither}
 use Rattle.sheet.specs.Field.{count, parent, opening, lockType}
 use Rattle.sheet.specs.LockHeight.{lockBlocks, sinceParent, lockHeight}

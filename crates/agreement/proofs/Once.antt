@@ -1,14 +1,8 @@
 -- In a list that the ledger takes, no two entries are rivals, and a spend stands behind its parent's entry.
 -- Assumes nothing.
-use Prim.Native.Nat.{ℕ, _≤_, _<_}
-use native.Mathlib.Omega.{arith}
-use mathlib.Core.Path.{_≡_, sym, ap, _∙_}
-use mathlib.Core.Bool.{true, false}
-use mathlib.Core.List.{List}
+use Rattle.laws.proofs.Prelude.{ℕ, _≤_, _<_, _≡_, sym, ap, _∙_, true, false, List, ltb, ltb-true, ltb-false, arith}
 use mathlib.Core.Option.{Option, some}
-use lib.Dec.{ltb}
 use lib.ListN.{getElem?}
-use borrow.Author.Tests.{ltb-true, ltb-false}
 use Rattle.laws.specs.Booleans.{split, either, clash}
 use Rattle.laws.specs.All.{none-some, some-same, All, all-place}
 use Rattle.sheet.specs.Field.{count, parent, opening}

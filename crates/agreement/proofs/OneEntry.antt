@@ -1,14 +1,8 @@
 -- The ledger takes the entry of one more confirmed transaction, and stays linked.
 -- Assumes nothing.
-use Prim.Native.Nat.{ℕ, zero, suc, _<_}
-use native.Mathlib.Omega.{arith}
-use mathlib.Core.Path.{_≡_, refl, sym, ap, _∙_}
-use mathlib.Core.Bool.{true, false}
-use mathlib.Core.Logic.{inl, inr}
-use mathlib.Core.List.{List}
+use Rattle.laws.proofs.Prelude.{ℕ, zero, suc, _<_, _≡_, refl, sym, ap, _∙_, true, false, List, inl, inr, eqb, eqb-true, eqb-false, eq-eqb}
+use Rattle.laws.proofs.Prelude.{arith}
 use mathlib.Core.Option.{Option, none, some}
-use lib.Dec.{eqb}
-use borrow.Author.Tests.{eqb-true, eqb-false, eq-eqb}
 use Rattle.laws.specs.Booleans.{pick, split, either, clash}
 use Rattle.laws.specs.All.{some-same}
 use Rattle.sheet.specs.Field.{count, parent, opening}

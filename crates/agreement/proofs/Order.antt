@@ -1,12 +1,6 @@
 -- The confirmed entries of a list stand by block and then number, and name the sheet's transactions.
 -- Assumes nothing.
-use Prim.Native.Nat.{ℕ, zero, suc, _+_, _<_}
-use native.Mathlib.Omega.{arith}
-use mathlib.Core.Path.{_≡_, refl, ap, _∙_}
-use mathlib.Core.Bool.{true}
-use mathlib.Core.List.{List, [], _∷_, _++_}
-use lib.Dec.{ltb}
-use borrow.Author.Tests.{lt-ltb, eq-eqb}
+use Rattle.laws.proofs.Prelude.{ℕ, zero, suc, _+_, _<_, _≡_, refl, ap, _∙_, true, List, [], _∷_, _++_, ltb, eq-eqb, lt-ltb, arith}
 use Rattle.laws.specs.Booleans.{pick, split, and-parts, or-right}
 use Rattle.laws.specs.Gather.{gather}
 use Rattle.laws.specs.All.{All, empty, also, all-append, all-weaken}

@@ -1,12 +1,7 @@
 -- Who leaves the pool at a mined block is mined or dead afterwards, since nobody who waits in the pool is dead before it.
 -- Assumes nothing.
-use Prim.Native.Nat.{ℕ, _+_, _<_}
-use native.Mathlib.Omega.{arith}
-use mathlib.Core.Path.{_≡_, refl, sym, ap, _∙_}
-use mathlib.Core.Bool.{Bool, true, false, not, _||_}
-use mathlib.Core.List.{List}
-use lib.Dec.{eqb, ltb}
-use borrow.Author.Tests.{eqb-true, eqb-false, ltb-true, ltb-false, lt-ltb}
+use Rattle.laws.proofs.Prelude.{ℕ, _+_, _<_, _≡_, refl, sym, ap, _∙_, Bool, true, false, not, _||_, List, eqb, ltb, eqb-true, eqb-false}
+use Rattle.laws.proofs.Prelude.{ltb-true, ltb-false, lt-ltb, arith}
 use Rattle.laws.specs.Booleans.{split, either, clash, fails-by}
 use Rattle.sheet.specs.Refusal.{accepted}
 use Rattle.sheet.specs.Field.{count}

@@ -1,9 +1,6 @@
 -- Holders read from the report of a list's accepted steps are those of the position after the list.
 -- Assumes nothing.
-use Prim.Native.Nat.{ℕ, _*_}
-use mathlib.Core.Path.{_≡_}
-use mathlib.Core.List.{List}
-use lib.ListN.{take}
+use Rattle.laws.proofs.Prelude.{ℕ, _*_, _≡_, List, take}
 use Rattle.sheet.specs.Refusal.{accepted}
 use Rattle.sheet.specs.Field.{count}
 use Rattle.readings.specs.Reported.{rowWidth, reportedHolder}

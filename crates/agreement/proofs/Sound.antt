@@ -1,12 +1,7 @@
 -- What holds in every position that the empty journal's leads to, over functions: the block of each transaction (0 where it is
 -- unconfirmed), and the sets of those that wait in the pool and in the block being filled.
 -- Assumes nothing.
-use Prim.Native.Nat.{ℕ, _≤_, _<_}
-use mathlib.Core.Path.{_≡_}
-use mathlib.Core.Bool.{Bool, true, false}
-use mathlib.Core.Logic.{_⊎_}
-use mathlib.Core.List.{List}
-use lib.ListN.{length}
+use Rattle.laws.proofs.Prelude.{ℕ, _≤_, _<_, _≡_, Bool, true, false, List, _⊎_, length}
 use Rattle.sheet.specs.Field.{count, parent, opening}
 use Rattle.sheet.specs.LockHeight.{lockHeight}
 use Rattle.sheet.specs.Setup.{perDay}

@@ -1,12 +1,7 @@
 -- The empty journal's position is sound, and every step of any four bytes keeps it so.
 -- Assumes nothing.
-use Prim.Native.Nat.{ℕ, _<_}
-use native.Mathlib.Omega.{arith}
-use mathlib.Core.Path.{_≡_, refl, ap, fun-ext}
-use mathlib.Core.Bool.{true, false, _&&_, _||_, false≢true}
-use mathlib.Core.List.{List, [], _∷_}
-use lib.Dec.{eqb, ltb}
-use borrow.Author.Tests.{ltb-true, leb-true}
+use Rattle.laws.proofs.Prelude.{ℕ, _<_, _≡_, refl, ap, fun-ext, true, false, _&&_, _||_, false≢true, List, [], _∷_, eqb, ltb, ltb-true}
+use Rattle.laws.proofs.Prelude.{leb-true, arith}
 use Rattle.laws.specs.Booleans.{and-parts}
 use Rattle.laws.specs.Failing.{passed}
 use Rattle.sheet.specs.Field.{count}

@@ -1,12 +1,6 @@
 -- A pool entry whose parent is confirmed, or an opening, at a mined block.
 -- Assumes nothing.
-use Prim.Native.Nat.{ℕ, _+_, _<_}
-use native.Mathlib.Omega.{arith}
-use mathlib.Core.Path.{_≡_}
-use mathlib.Core.Logic.{_⊎_}
-use mathlib.Core.Bool.{true, false}
-use mathlib.Core.List.{List}
-use borrow.Author.Tests.{eq-eqb}
+use Rattle.laws.proofs.Prelude.{ℕ, _+_, _<_, _≡_, true, false, List, _⊎_, eq-eqb, arith}
 use Rattle.laws.specs.Booleans.{either, clash}
 use Rattle.laws.specs.Below.{any-none}
 use Rattle.sheet.specs.Field.{count, parent, opening}

@@ -1,12 +1,7 @@
 -- The ledger takes a mined block, entry by entry, and stays linked.
 -- Assumes nothing.
-use Prim.Native.Nat.{ℕ, zero, suc, _+_, _≤_, _<_}
-use native.Mathlib.Omega.{arith}
-use mathlib.Core.Path.{_≡_, refl, sym, ap, _∙_, fun-ext}
-use mathlib.Core.Bool.{Bool, true, false, _&&_}
-use mathlib.Core.List.{List, [], _∷_, _++_, append-assoc}
-use lib.Dec.{eqb, ltb}
-use borrow.Author.Tests.{eqb-true, eqb-false, eq-eqb, ne-eqb, lt-ltb, le-ltb, ltb-true, ltb-false}
+use Rattle.laws.proofs.Prelude.{ℕ, zero, suc, _+_, _≤_, _<_, _≡_, refl, sym, ap, _∙_, fun-ext, Bool, true, false, _&&_, List, [], _∷_, _++_}
+use Rattle.laws.proofs.Prelude.{append-assoc, eqb, ltb, eqb-true, eqb-false, ltb-true, ltb-false, eq-eqb, ne-eqb, lt-ltb, le-ltb, arith}
 use Rattle.laws.specs.Booleans.{pick, split, either, and-parts}
 use Rattle.laws.specs.Gather.{gather}
 use Rattle.sheet.specs.Field.{count, parent, opening, lockType}

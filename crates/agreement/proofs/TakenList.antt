@@ -1,10 +1,6 @@
 -- The ledger takes all that the accepted kind 6 steps of a list confirm, and stays linked to the position.
 -- Assumes nothing.
-use Prim.Native.Nat.{ℕ, _+_}
-use native.Mathlib.Omega.{arith}
-use mathlib.Core.Path.{_≡_, refl}
-use mathlib.Core.Bool.{true}
-use mathlib.Core.List.{List, [], _∷_, _++_}
+use Rattle.laws.proofs.Prelude.{ℕ, _+_, _≡_, refl, true, List, [], _∷_, _++_, arith}
 use Rattle.laws.specs.All.{none-some}
 use Rattle.sheet.specs.Check.{sheetRefusal}
 use Rattle.sheet.specs.Setup.{perDay, setupRefusal}

@@ -1,13 +1,7 @@
 -- The words of `Once` by tests over a list's places, for computed examples.
 -- Assumes nothing.
-use Prim.Native.Nat.{ℕ, zero, suc, _<_}
-use native.Mathlib.Omega.{arith}
-use mathlib.Core.Path.{_≡_, refl}
-use mathlib.Core.Bool.{Bool, true, not, _&&_, _||_}
-use mathlib.Core.List.{List, [], _∷_}
-use lib.Dec.{eqb, ltb, leb}
-use lib.ListN.{length, getD}
-use borrow.Author.Tests.{eqb-true, eq-eqb, ltb-true, leb-true, le-leb}
+use Rattle.laws.proofs.Prelude.{ℕ, zero, suc, _<_, _≡_, refl, Bool, true, not, _&&_, _||_, List, [], _∷_, eqb, ltb, leb, length, getD}
+use Rattle.laws.proofs.Prelude.{eqb-true, ltb-true, leb-true, eq-eqb, le-leb, arith}
 use Rattle.laws.specs.Booleans.{split, and-parts}
 use Rattle.laws.specs.All.{none-some, some-same}
 use Rattle.laws.specs.Below.{allBelow, anyBelow, all-at, any-found, any-some}

@@ -1,11 +1,7 @@
 -- Demand 3, and what it comes to for a reader.
 -- Assumes nothing.
-use Prim.Native.Nat.{ℕ, _+_, _≤_}
+use Rattle.laws.proofs.Prelude.{ℕ, _+_, _≤_, _≡_, sym, _∙_, List, length, ltb-true, ne-eqb}
 use native.Mathlib.Nat.{zero-add}
-use mathlib.Core.Path.{_≡_, sym, _∙_}
-use mathlib.Core.List.{List}
-use lib.ListN.{length}
-use borrow.Author.Tests.{ltb-true, ne-eqb}
 use Rattle.sheet.specs.Refusal.{accepted}
 use Rattle.sheet.specs.Check.{sheetRefusal}
 use Rattle.sheet.specs.Setup.{perDay, setupRefusal}

@@ -1,13 +1,7 @@
 -- Who waits: nobody, or one transaction more whose tests passed.
 -- Assumes nothing.
-use Prim.Native.Nat.{ℕ, _≤_, _<_}
-use native.Mathlib.Omega.{arith}
-use mathlib.Core.Path.{_≡_, sym, _∙_}
-use mathlib.Core.Bool.{Bool, true, false, _||_, false≢true}
-use mathlib.Core.Logic.{_⊎_, inl, inr}
-use mathlib.Core.List.{List}
-use lib.Dec.{eqb, ltb}
-use borrow.Author.Tests.{eqb-true, ltb-true, ltb-false}
+use Rattle.laws.proofs.Prelude.{ℕ, _≤_, _<_, _≡_, sym, _∙_, Bool, true, false, _||_, false≢true, List, _⊎_, inl, inr, eqb, ltb, eqb-true}
+use Rattle.laws.proofs.Prelude.{ltb-true, ltb-false, arith}
 use Rattle.laws.specs.Booleans.{either, clash, or-parts, or-right, or-neither}
 use Rattle.sheet.specs.Field.{count, parent, opening}
 use Rattle.sheet.specs.LockHeight.{lockHeight}

@@ -1,12 +1,7 @@
 -- A journal with one more step behind it: its steps, and its run.
 -- Assumes nothing.
-use Prim.Native.Nat.{ℕ, _+_, _%_, _≤_}
-use native.Mathlib.Omega.{arith}
-use mathlib.Core.Path.{_≡_, refl, ap, _∙_}
-use mathlib.Core.Bool.{true}
-use mathlib.Core.List.{List, [], _∷_, _++_}
-use lib.ListN.{length, length-append}
-use borrow.Author.Tests.{eq-eqb, le-leb}
+use Rattle.laws.proofs.Prelude.{ℕ, _+_, _%_, _≤_, _≡_, refl, ap, _∙_, true, List, [], _∷_, _++_, length, length-append, eq-eqb, le-leb}
+use Rattle.laws.proofs.Prelude.{arith}
 use Rattle.laws.specs.Failing.{firstFailing}
 use Rattle.sheet.specs.Refusal.{accepted}
 use Rattle.position.specs.declared.Position.{Position}

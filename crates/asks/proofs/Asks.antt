@@ -1,13 +1,7 @@
 -- The answer of ask, case by case.
 -- Assumes nothing.
-use Prim.Native.Nat.{ℕ, _≤_, _<_}
-use native.Mathlib.Omega.{arith}
-use mathlib.Core.Path.{_≡_, refl, sym, _∙_}
-use mathlib.Core.Bool.{Bool}
-use mathlib.Core.List.{List, [], _∷_}
-use lib.Dec.{eqb, lit<}
-use lib.ListN.{length}
-use borrow.Author.Tests.{eq-eqb, ne-eqb, eqb-true, eqb-false}
+use Rattle.laws.proofs.Prelude.{ℕ, _≤_, _<_, _≡_, refl, sym, _∙_, Bool, List, [], _∷_, eqb, lit<, length, eqb-true, eqb-false, eq-eqb}
+use Rattle.laws.proofs.Prelude.{ne-eqb, arith}
 use Rattle.laws.specs.Booleans.{split}
 use Rattle.sheet.specs.Refusal.{accepted, stepField}
 use Rattle.position.specs.declared.Position.{Position}

@@ -1,14 +1,9 @@
 -- What the answers of ask and commit say of each other, of run and of the open steps.
 -- Assumes nothing.
-use Prim.Native.Nat.{ℕ, _+_, _%_, _≤_, _<_}
-use native.Mathlib.Omega.{arith}
-use mathlib.Core.Path.{_≡_, refl, sym, ap, _∙_}
-use mathlib.Core.Bool.{true, false, _&&_}
-use mathlib.Core.List.{List, _++_, append-assoc}
-use lib.Dec.{eqb, leb, ltb}
-use lib.ListN.{length, take, drop, length-append, length-drop}
+use Rattle.laws.proofs.Prelude.{ℕ, _+_, _%_, _≤_, _<_, _≡_, refl, sym, ap, _∙_, true, false, _&&_, List, _++_, append-assoc, eqb, ltb, leb}
+use Rattle.laws.proofs.Prelude.{length, take, drop, length-append, length-drop, eqb-true, eqb-false, ltb-true, ltb-false, eq-eqb, lt-ltb}
+use Rattle.laws.proofs.Prelude.{le-ltb, le-leb, arith}
 use lib.Seq.{take-append-seam, take-at, drop-at, length-take-le}
-use borrow.Author.Tests.{eq-eqb, eqb-true, eqb-false, le-leb, le-ltb, lt-ltb, ltb-true, ltb-false}
 use Rattle.laws.specs.Booleans.{pick, split, and-parts}
 use Rattle.sheet.specs.Refusal.{accepted, journalLength, bufferShort}
 use Rattle.position.specs.Play.{run}

@@ -1,14 +1,10 @@
 -- The answer of commit, case by case, and what an answer of 0 says.
 -- Assumes nothing.
-use Prim.Native.Nat.{ℕ, _+_, _-_, _≤_, _<_}
-use native.Mathlib.Omega.{arith}
-use mathlib.Core.Path.{_≡_, refl, sym, ap, _∙_}
-use mathlib.Core.Bool.{Bool, true, false}
-use mathlib.Core.List.{List, [], _∷_, _++_, append-nil}
-use lib.Dec.{eqb, leb, lit<}
-use lib.ListN.{length, take, drop, getD, set, length-drop, drop-of-length-le}
+use Rattle.laws.proofs.Prelude.{ℕ, _+_, _-_, _≤_, _<_, _≡_, refl, sym, ap, _∙_, Bool, true, false, List, [], _∷_, _++_, append-nil, eqb}
+use Rattle.laws.proofs.Prelude.{leb, lit<, length, getD, take, drop, set, length-drop, eqb-true, eqb-false, leb-true, eq-eqb, ne-eqb}
+use Rattle.laws.proofs.Prelude.{le-leb, lt-leb, arith}
+use lib.ListN.{drop-of-length-le}
 use lib.Seq.{take-all, drop-drop}
-use borrow.Author.Tests.{eq-eqb, ne-eqb, eqb-true, eqb-false, le-leb, lt-leb, leb-true}
 use borrow.Rule.Slice.PartMut.{putMid}
 use Rattle.laws.specs.Booleans.{split, and-parts}
 use Rattle.laws.specs.Failing.{firstFailing}

@@ -1,11 +1,6 @@
 -- Computed examples: the answers of ask and commit with their refusals on both sides, and the words of the claims.
 -- Assumes nothing.
-use Prim.Native.Nat.{ℕ}
-use native.Mathlib.Omega.{arith}
-use mathlib.Core.Path.{_≡_, refl, ap}
-use mathlib.Core.Bool.{true, false}
-use mathlib.Core.List.{List, [], _∷_, _++_}
-use lib.ListN.{length, getD, take, drop}
+use Rattle.laws.proofs.Prelude.{ℕ, _≡_, refl, ap, true, false, List, [], _∷_, _++_, length, getD, take, drop, arith}
 use Rattle.sheet.specs.Refusal.{accepted, setupBlocks, stepField, stepConflict, journalLength, bufferShort}
 use Rattle.position.specs.Play.{run}
 use Rattle.position.proofs.Opened.{opened}

@@ -1,12 +1,7 @@
 -- The journal's run behind the tests of both calls: with a length that passes it is run's.
 -- Assumes nothing.
-use Prim.Native.Nat.{ℕ, _≤_, _<_}
-use native.Mathlib.Omega.{arith}
-use mathlib.Core.Path.{_≡_, refl, sym, _∙_}
-use mathlib.Core.Bool.{Bool, true, false, false≢true}
-use mathlib.Core.List.{List, [], _∷_, _++_}
-use lib.Dec.{eqb, lit<, lit≤}
-use borrow.Author.Tests.{ne-eqb, eqb-true, eqb-false}
+use Rattle.laws.proofs.Prelude.{ℕ, _≤_, _<_, _≡_, refl, sym, _∙_, Bool, true, false, false≢true, List, [], _∷_, _++_, eqb, lit<, lit≤}
+use Rattle.laws.proofs.Prelude.{eqb-true, eqb-false, ne-eqb, arith}
 use Rattle.laws.specs.Booleans.{split}
 use Rattle.laws.specs.Failing.{firstFailing, passed, passed-append, failed-append, answer-below}
 use Rattle.sheet.specs.Refusal.{accepted, journalLength}

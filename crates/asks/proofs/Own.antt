@@ -1,11 +1,6 @@
 -- A number that stands for itself among tests: it passes where it is 0, and is the answer where it is not.
 -- Assumes nothing.
-use Prim.Native.Nat.{ℕ}
-use mathlib.Core.Path.{_≡_, sym, _∙_}
-use mathlib.Core.Bool.{Bool}
-use mathlib.Core.List.{List, [], _∷_}
-use lib.Dec.{eqb}
-use borrow.Author.Tests.{eq-eqb, ne-eqb, eqb-true, eqb-false}
+use Rattle.laws.proofs.Prelude.{ℕ, _≡_, sym, _∙_, Bool, List, [], _∷_, eqb, eqb-true, eqb-false, eq-eqb, ne-eqb}
 use Rattle.laws.specs.Booleans.{split}
 use Rattle.laws.specs.Failing.{firstFailing}
 use Rattle.asks.specs.Ask.{own}

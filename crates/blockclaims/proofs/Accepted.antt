@@ -1,13 +1,7 @@
 -- The tests of a block list, read: what passes them, and what an accepted list is known to have.
 -- Assumes nothing.
-use Prim.Native.Nat.{ℕ, _%_, _≤_, _<_}
-use native.Mathlib.Omega.{arith}
-use mathlib.Core.Path.{_≡_, refl, sym, _∙_}
-use mathlib.Core.Bool.{true}
-use mathlib.Core.List.{List}
-use lib.Dec.{eqb, ltb, leb}
-use lib.ListN.{length}
-use borrow.Author.Tests.{lt-ltb, ltb-true, le-leb, leb-true}
+use Rattle.laws.proofs.Prelude.{ℕ, _%_, _≤_, _<_, _≡_, refl, sym, _∙_, true, List, eqb, ltb, leb, length, ltb-true, leb-true, lt-ltb}
+use Rattle.laws.proofs.Prelude.{le-leb, arith}
 use Rattle.laws.specs.Booleans.{and-parts}
 use Rattle.laws.specs.All.{All, all-weaken}
 use Rattle.laws.specs.Gather.{every}

@@ -1,11 +1,6 @@
 -- A block list written and read back.
 -- Assumes nothing.
-use Prim.Native.Nat.{_%_, _<_}
-use native.Mathlib.Omega.{arith}
-use mathlib.Core.Path.{_≡_, refl}
-use mathlib.Core.Bool.{Bool, true}
-use mathlib.Core.List.{List, [], _∷_}
-use lib.ListN.{length}
+use Rattle.laws.proofs.Prelude.{_%_, _<_, _≡_, refl, Bool, true, List, [], _∷_, length, arith}
 use Rattle.laws.specs.Booleans.{and-parts}
 use Rattle.laws.specs.All.{All, empty, also}
 use Rattle.laws.specs.Gather.{every}

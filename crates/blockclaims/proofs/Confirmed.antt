@@ -1,10 +1,6 @@
 -- What the accepted kind 6 steps confirm: right destinations, and blocks within 1 to 10,000.
 -- Assumes nothing.
-use Prim.Native.Nat.{ℕ, zero, suc, _+_, _≤_, _<_}
-use native.Mathlib.Omega.{arith}
-use mathlib.Core.Path.{_≡_, ap, _∙_}
-use mathlib.Core.Bool.{true}
-use mathlib.Core.List.{List, [], _∷_}
+use Rattle.laws.proofs.Prelude.{ℕ, zero, suc, _+_, _≤_, _<_, _≡_, ap, _∙_, true, List, [], _∷_, arith}
 use Rattle.laws.specs.Booleans.{pick, split}
 use Rattle.laws.specs.Gather.{gather}
 use Rattle.laws.specs.All.{All, empty, also, all-append}

@@ -1,15 +1,9 @@
 -- A list each of whose entries fits those before it is taken by the ledger, and one that it takes is such a list.
 -- Assumes nothing.
-use Prim.Native.Nat.{ℕ, zero, suc, _<_}
-use native.Mathlib.Omega.{arith}
-use mathlib.Core.Path.{_≡_, refl, sym, ap, _∙_}
-use mathlib.Core.Bool.{true, false}
-use mathlib.Core.Logic.{_⊎_, inl, inr}
-use mathlib.Core.List.{List, [], _∷_}
+use Rattle.laws.proofs.Prelude.{ℕ, zero, suc, _<_, _≡_, refl, sym, ap, _∙_, true, false, List, [], _∷_, _⊎_, inl, inr, eqb, eqb-true}
+use Rattle.laws.proofs.Prelude.{eq-eqb, arith}
 use mathlib.Core.Option.{Option, none, some}
-use lib.Dec.{eqb}
 use lib.ListN.{getElem?}
-use borrow.Author.Tests.{eqb-true, eq-eqb}
 use Rattle.laws.specs.Booleans.{split, either, clash, fails-by}
 use Rattle.laws.specs.All.{none-some, some-same, All, also}
 use Rattle.sheet.specs.Field.{count, parent, opening}

@@ -1,11 +1,6 @@
 -- What block lists get, computed: one table over a small sheet at 2 blocks per day; and the slip's own words of two of the lists.
 -- Assumes nothing.
-use Prim.Native.Nat.{ℕ}
-use native.Mathlib.Omega.{arith}
-use mathlib.Core.Path.{_≡_, refl}
-use mathlib.Core.Bool.{Bool, true}
-use mathlib.Core.List.{List, [], _∷_, _++_}
-use lib.Dec.{eqb}
+use Rattle.laws.proofs.Prelude.{ℕ, _≡_, refl, Bool, true, List, [], _∷_, _++_, eqb, arith}
 use Rattle.laws.specs.Gather.{every}
 use Rattle.sheet.specs.Check.{sheetRefusal}
 use Rattle.sheet.specs.Setup.{setupRefusal}

@@ -1,13 +1,6 @@
 -- The front of a list that gets 0 gets 0.
 -- Assumes nothing.
-use Prim.Native.Nat.{ℕ, _%_}
-use native.Mathlib.Omega.{arith}
-use mathlib.Core.Path.{_≡_, refl}
-use mathlib.Core.Bool.{Bool, true}
-use mathlib.Core.List.{List, [], _∷_, _++_}
-use lib.Dec.{eqb}
-use lib.ListN.{length}
-use borrow.Author.Tests.{eq-eqb}
+use Rattle.laws.proofs.Prelude.{ℕ, _%_, _≡_, refl, Bool, true, List, [], _∷_, _++_, eqb, length, eq-eqb, arith}
 use Rattle.laws.specs.Booleans.{and-parts}
 use Rattle.laws.specs.Gather.{every}
 use Rattle.ledger.specs.Entry.{Entry, before, inOrder}

@@ -1,15 +1,8 @@
 -- The slip's own words, of a list whose entries rise, come to what the ledger asks.
 -- Assumes nothing.
-use Prim.Native.Nat.{ℕ, _≤_, _<_}
-use native.Mathlib.Omega.{arith}
-use mathlib.Core.Path.{_≡_}
-use mathlib.Core.Bool.{true, false}
-use mathlib.Core.Logic.{inl, inr}
-use mathlib.Core.List.{List}
+use Rattle.laws.proofs.Prelude.{ℕ, _≤_, _<_, _≡_, true, false, List, inl, inr, ltb, ltb-true, ltb-false, arith}
 use mathlib.Core.Option.{some}
-use lib.Dec.{ltb}
 use lib.ListN.{getElem?}
-use borrow.Author.Tests.{ltb-true, ltb-false}
 use Rattle.laws.specs.Booleans.{split}
 use Rattle.laws.specs.All.{All, all-place}
 use Rattle.sheet.specs.Field.{count, parent, lockType, opening}

@@ -1,9 +1,6 @@
 -- What the ledger asks of an entry, over those before it.
 -- Assumes nothing.
-use Prim.Native.Nat.{ℕ, _<_}
-use mathlib.Core.Path.{_≡_}
-use mathlib.Core.Bool.{true, false}
-use mathlib.Core.List.{List}
+use Rattle.laws.proofs.Prelude.{ℕ, _<_, _≡_, true, false, List}
 use mathlib.Core.Option.{some}
 use lib.ListN.{getElem?}
 use Rattle.sheet.specs.Field.{parent, opening}

@@ -1,12 +1,6 @@
 -- Slip 8, for a reader: what the answer to a block list comes to.
 -- Assumes nothing.
-use Prim.Native.Nat.{ℕ, _%_}
-use mathlib.Core.Path.{_≡_}
-use mathlib.Core.Bool.{true}
-use mathlib.Core.List.{List, _++_}
-use lib.Dec.{eqb}
-use lib.ListN.{length}
-use borrow.Author.Tests.{eq-eqb, ne-eqb}
+use Rattle.laws.proofs.Prelude.{ℕ, _%_, _≡_, true, List, _++_, eqb, length, eq-eqb, ne-eqb}
 use Rattle.laws.specs.Booleans.{split, clash}
 use Rattle.laws.specs.All.{all-weaken}
 use Rattle.sheet.specs.Refusal.{accepted}

@@ -1,15 +1,9 @@
 -- What an array keeps for each coin, and the ledger over it.
 -- Assumes nothing.
-use Prim.Native.Nat.{ℕ, zero, suc, _+_, _*_, _≤_, _<_}
-use native.Mathlib.Omega.{arith}
-use mathlib.Core.Path.{_≡_, refl, sym, fun-ext, _∙_}
-use mathlib.Core.Bool.{Bool, true, false, not}
-use mathlib.Core.List.{List, [], _∷_}
+use Rattle.laws.proofs.Prelude.{ℕ, zero, suc, _+_, _*_, _≤_, _<_, _≡_, refl, sym, _∙_, fun-ext, Bool, true, false, not, List, [], _∷_, eqb}
+use Rattle.laws.proofs.Prelude.{ltb, length, getD, replicate, set, eqb-true, eqb-false, ltb-true, eq-eqb, ne-eqb, not-false, arith}
 use mathlib.Core.Option.{Option, none, some}
-use lib.Dec.{eqb, ltb}
-use lib.ListN.{length, getD, set, replicate}
 use lib.Seq.{getD-set-same, getD-set-other}
-use borrow.Author.Tests.{eqb-true, eqb-false, eq-eqb, ne-eqb, ltb-true, not-false}
 use Rattle.laws.specs.Booleans.{pick, split, clash}
 use Rattle.laws.specs.Climb.{climbIn, climb}
 use Rattle.sheet.specs.Field.{count, parent, opening}

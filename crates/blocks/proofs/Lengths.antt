@@ -1,10 +1,6 @@
 -- "A list has 4 bytes for each entry".
 -- Assumes nothing.
-use Prim.Native.Nat.{_*_}
-use native.Mathlib.Omega.{arith}
-use mathlib.Core.Path.{_≡_, refl}
-use mathlib.Core.List.{List, [], _∷_}
-use lib.ListN.{length, length-append}
+use Rattle.laws.proofs.Prelude.{_*_, _≡_, refl, List, [], _∷_, length, length-append, arith}
 use Rattle.laws.specs.Little.{length-bytes}
 use Rattle.ledger.specs.Entry.{Entry}
 use Rattle.blocks.specs.BlockList.{entryBytes, listBytes}

@@ -1,12 +1,6 @@
 -- Entries whose fields are right, one after the other.
 -- Assumes nothing.
-use Prim.Native.Nat.{ℕ, _+_, _*_, _%_, _≤_, _<_}
-use mathlib.Core.Path.{_≡_, _∙_}
-use mathlib.Core.Bool.{Bool, true, false}
-use mathlib.Core.List.{List}
-use lib.Dec.{eqb, ltb}
-use lib.ListN.{length}
-use borrow.Author.Tests.{eq-eqb, ne-eqb, ltb-true}
+use Rattle.laws.proofs.Prelude.{ℕ, _+_, _*_, _%_, _≤_, _<_, _≡_, _∙_, Bool, true, false, List, eqb, ltb, length, ltb-true, eq-eqb, ne-eqb}
 use Rattle.laws.specs.Booleans.{and-parts}
 use Rattle.laws.specs.Gather.{every}
 use Rattle.sheet.specs.Field.{count}

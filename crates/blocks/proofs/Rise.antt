@@ -1,11 +1,7 @@
 -- Entries that rise within the blocks, one behind the other.
 -- Assumes nothing.
-use native.Mathlib.Omega.{arith}
-use mathlib.Core.Path.{_≡_, refl}
-use mathlib.Core.Bool.{Bool, true, false, _&&_, and-false}
-use mathlib.Core.List.{List, [], _∷_}
-use lib.Dec.{ltb, leb}
-use borrow.Author.Tests.{leb-true, lt-ltb, le-ltb, eq-eqb}
+use Rattle.laws.proofs.Prelude.{_≡_, refl, Bool, true, false, _&&_, and-false, List, [], _∷_, ltb, leb, leb-true, eq-eqb, lt-ltb, le-ltb}
+use Rattle.laws.proofs.Prelude.{arith}
 use Rattle.laws.specs.Booleans.{split, and-parts}
 use Rattle.laws.specs.Gather.{every}
 use Rattle.ledger.specs.Entry.{Entry, before, inOrder}

@@ -1,10 +1,6 @@
 -- The tests of the call, one after another: the sheet's, the setup's, the list's own.
 -- Assumes nothing.
-use Prim.Native.Nat.{ℕ, _<_}
-use mathlib.Core.Path.{_≡_, refl, sym, _∙_}
-use mathlib.Core.Bool.{Bool}
-use mathlib.Core.List.{List, _++_}
-use lib.Dec.{lit<}
+use Rattle.laws.proofs.Prelude.{ℕ, _<_, _≡_, refl, sym, _∙_, Bool, List, _++_, lit<}
 use Rattle.laws.specs.Failing.{firstFailing, answer-below, passed-append, failed-append}
 use Rattle.sheet.specs.Check.{arrayTests, sheetTests, sheetRefusal}
 use Rattle.sheet.specs.Setup.{perDay, setupTests, setupRefusal}

@@ -1,13 +1,8 @@
 -- A list passed entry by entry, each tested over what was passed before: one law for every loop over a list.
 -- Assumes nothing.
-use Prim.Native.Nat.{ℕ, _+_, _*_, _≤_, _<_}
-use native.Mathlib.Omega.{arith}
-use mathlib.Core.Path.{_≡_, refl, sym, _∙_}
-use mathlib.Core.Bool.{Bool, true, false, not, _&&_}
-use mathlib.Core.List.{List, [], _∷_}
-use lib.ListN.{length, drop, length-drop}
+use Rattle.laws.proofs.Prelude.{ℕ, _+_, _*_, _≤_, _<_, _≡_, refl, sym, _∙_, Bool, true, false, not, _&&_, List, [], _∷_, length, drop}
+use Rattle.laws.proofs.Prelude.{length-drop, not-true, not-false, arith}
 use lib.Seq.{getD-drop, drop-drop}
-use borrow.Author.Tests.{not-true, not-false}
 use Rattle.laws.specs.Gather.{every}
 use Rattle.laws.specs.Little.{numberAt, number-part}
 use Rattle.ledger.specs.Entry.{Entry}

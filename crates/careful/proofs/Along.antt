@@ -1,9 +1,6 @@
 -- Every row of four-byte groups keeps the invariant.
 -- Assumes nothing.
-use Prim.Native.Nat.{ℕ, _≤_, _<_}
-use mathlib.Core.Path.{_≡_}
-use mathlib.Core.Bool.{true}
-use mathlib.Core.List.{List, [], _∷_}
+use Rattle.laws.proofs.Prelude.{ℕ, _≤_, _<_, _≡_, true, List, [], _∷_}
 use Rattle.sheet.specs.Checked.{Checked, SetupChecked}
 use Rattle.sheet.specs.Setup.{perDay, conduct, setupRefusal}
 use Rattle.sheet.proofs.Theorems.{saswap-passes, sheet-checked, setup-checked}

@@ -1,11 +1,6 @@
 -- In one position: the two secrets are never both out.
 -- Assumes nothing.
-use Prim.Native.Nat.{ℕ, _≤_, _<_}
-use native.Mathlib.Omega.{arith}
-use mathlib.Core.Path.{_≡_}
-use mathlib.Core.Logic.{inl, inr}
-use mathlib.Core.Bool.{true}
-use mathlib.Core.List.{List}
+use Rattle.laws.proofs.Prelude.{ℕ, _≤_, _<_, _≡_, true, List, inl, inr, arith}
 use Rattle.laws.specs.Booleans.{either}
 use Rattle.sheet.specs.Field.{count}
 use Rattle.sheet.specs.Setup.{perDay}

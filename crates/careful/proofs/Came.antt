@@ -1,13 +1,8 @@
 -- How a signature comes to be shared under careful conduct on the SASwap sheet.
 -- Assumes nothing.
-use Prim.Native.Nat.{ℕ, _≤_, _<_}
-use native.Mathlib.Omega.{arith}
-use mathlib.Core.Path.{_≡_, sym, _∙_}
-use mathlib.Core.Bool.{true, false, not, _&&_, false≢true}
-use mathlib.Core.List.{List}
-use lib.Dec.{eqb, leb}
+use Rattle.laws.proofs.Prelude.{ℕ, _≤_, _<_, _≡_, sym, _∙_, true, false, not, _&&_, false≢true, List, eqb, leb, eqb-true, leb-true}
+use Rattle.laws.proofs.Prelude.{not-true, arith}
 use lib.Bits.{bitAnd}
-use borrow.Author.Tests.{eqb-true, leb-true, not-true}
 use Rattle.laws.specs.Booleans.{split, and-parts}
 use Rattle.laws.specs.Gather.{every}
 use Rattle.laws.specs.Mask.{bit, without}

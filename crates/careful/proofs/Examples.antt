@@ -1,11 +1,8 @@
 -- Three blocks per day, computed: a careful swap in which each party is paid once and one secret is known, a loose journal after
 -- which both secrets are known and Alice is paid from both coins, an open one in which Bob is; and by what a secret is known.
 -- Assumes nothing.
-use Prim.Native.Nat.{ℕ}
-use mathlib.Core.Path.{_≡_, refl}
-use mathlib.Core.Bool.{Bool, true, false, _&&_, _||_, Bool·beq}
-use mathlib.Core.List.{List, [], _∷_, _++_}
-use lib.Dec.{eqb}
+use Rattle.laws.proofs.Prelude.{ℕ, _≡_, refl, Bool, true, false, _&&_, _||_, List, [], _∷_, _++_, eqb}
+use mathlib.Core.Bool.{Bool·beq}
 use Rattle.laws.specs.Booleans.{clash}
 use Rattle.laws.specs.Gather.{every}
 use Rattle.sheet.specs.Refusal.{accepted, stepConduct}

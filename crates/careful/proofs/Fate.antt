@@ -1,11 +1,6 @@
 -- What lasts through an accepted step: time, confirmations, and a pool entry whose parent is confirmed. The bump rule is used here alone.
 -- Assumes nothing.
-use Prim.Native.Nat.{ℕ, _+_, _≤_, _<_}
-use native.Mathlib.Omega.{arith}
-use mathlib.Core.Path.{_≡_}
-use mathlib.Core.Logic.{inr}
-use mathlib.Core.Bool.{true, false}
-use mathlib.Core.List.{List}
+use Rattle.laws.proofs.Prelude.{ℕ, _+_, _≤_, _<_, _≡_, true, false, List, inr, arith}
 use Rattle.laws.specs.Booleans.{split, either}
 use Rattle.sheet.specs.Field.{count, parent}
 use Rattle.sheet.specs.Checked.{Checked}

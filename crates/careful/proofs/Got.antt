@@ -1,11 +1,7 @@
 -- How a key comes to be held under careful conduct on the SASwap sheet.
 -- Assumes nothing.
-use Prim.Native.Nat.{ℕ, _^_, _<_}
-use mathlib.Core.Path.{_≡_, refl, sym, _∙_}
-use mathlib.Core.Bool.{true, false, not, _&&_, _||_}
-use mathlib.Core.List.{List}
-use lib.Dec.{eqb, leb}
-use borrow.Author.Tests.{eqb-true, eqb-false, not-true}
+use Rattle.laws.proofs.Prelude.{ℕ, _^_, _<_, _≡_, refl, sym, _∙_, true, false, not, _&&_, _||_, List, eqb, leb, eqb-true, eqb-false}
+use Rattle.laws.proofs.Prelude.{not-true}
 use Rattle.laws.specs.Booleans.{either, and-parts, or-parts}
 use Rattle.laws.specs.Below.{allBelow, all-at}
 use Rattle.laws.specs.Bits.{zero-or-one}

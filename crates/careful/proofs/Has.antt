@@ -1,9 +1,6 @@
 -- Where a signature that a sender has comes from: held, shared for the same transaction and destination, or a secret shared anywhere.
 -- Assumes nothing.
-use Prim.Native.Nat.{ℕ, _<_}
-use mathlib.Core.Path.{_≡_, sym, _∙_}
-use mathlib.Core.Bool.{true}
-use mathlib.Core.List.{List}
+use Rattle.laws.proofs.Prelude.{ℕ, _<_, _≡_, sym, _∙_, true, List}
 use lib.Bits.{bitAnd, bitOr}
 use Rattle.laws.specs.Booleans.{either, and-parts}
 use Rattle.laws.specs.Mask.{bit, unionBelow}

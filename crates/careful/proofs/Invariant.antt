@@ -1,10 +1,6 @@
 -- What holds in every position that careful conduct on the SASwap sheet leads to, beside what holds in every sound one.
 -- Assumes nothing.
-use Prim.Native.Nat.{ℕ, _+_, _*_, _<_}
-use mathlib.Core.Path.{_≡_}
-use mathlib.Core.Logic.{_⊎_}
-use mathlib.Core.Bool.{true}
-use mathlib.Core.List.{List}
+use Rattle.laws.proofs.Prelude.{ℕ, _+_, _*_, _<_, _≡_, true, List, _⊎_}
 use Rattle.laws.specs.Mask.{bit}
 use Rattle.sheet.specs.Setup.{perDay}
 use Rattle.slots.specs.Destination.{alice, bob, contract, destinations}

@@ -1,13 +1,7 @@
 -- What careful conduct on the SASwap sheet says of an accepted send.
 -- Assumes nothing.
-use Prim.Native.Nat.{ℕ, _≤_, _<_}
-use native.Mathlib.Omega.{arith}
-use mathlib.Core.Path.{_≡_}
-use mathlib.Core.Logic.{_⊎_, inl, inr}
-use mathlib.Core.Bool.{true, not, _&&_, _||_, false≢true}
-use mathlib.Core.List.{List}
-use lib.Dec.{eqb, ltb, leb}
-use borrow.Author.Tests.{eqb-true, ltb-true, leb-true}
+use Rattle.laws.proofs.Prelude.{ℕ, _≤_, _<_, _≡_, true, not, _&&_, _||_, false≢true, List, _⊎_, inl, inr, eqb, ltb, leb, eqb-true, ltb-true}
+use Rattle.laws.proofs.Prelude.{leb-true, arith}
 use Rattle.laws.specs.Booleans.{split, either, clash, and-parts, or-parts}
 use Rattle.laws.specs.Mask.{bit}
 use Rattle.laws.specs.Bits.{no-bit}

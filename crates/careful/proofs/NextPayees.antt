@@ -1,11 +1,6 @@
 -- An accepted step keeps what the invariant says of transactions that pay a party.
 -- Assumes nothing.
-use Prim.Native.Nat.{ℕ, _<_}
-use native.Mathlib.Omega.{arith}
-use mathlib.Core.Path.{_≡_, sym}
-use mathlib.Core.Logic.{_⊎_, inl, inr}
-use mathlib.Core.Bool.{true, false}
-use mathlib.Core.List.{List}
+use Rattle.laws.proofs.Prelude.{ℕ, _<_, _≡_, sym, true, false, List, _⊎_, inl, inr, arith}
 use Rattle.laws.specs.Booleans.{either, clash}
 use Rattle.sheet.specs.Setup.{perDay, conduct}
 use Rattle.slots.specs.Destination.{alice, bob, destinations, isContract}

@@ -1,11 +1,6 @@
 -- An accepted step keeps what the invariant says of transactions that have exposed a secret: confirmed, or in the pool before the deadline.
 -- Assumes nothing.
-use Prim.Native.Nat.{ℕ, _+_, _*_, _≤_, _<_}
-use native.Mathlib.Omega.{arith}
-use mathlib.Core.Path.{_≡_, refl, sym, _∙_}
-use mathlib.Core.Logic.{_⊎_, inl, inr}
-use mathlib.Core.Bool.{true}
-use mathlib.Core.List.{List}
+use Rattle.laws.proofs.Prelude.{ℕ, _+_, _*_, _≤_, _<_, _≡_, refl, sym, _∙_, true, List, _⊎_, inl, inr, arith}
 use Rattle.laws.specs.Booleans.{either}
 use Rattle.laws.specs.Bits.{zero-or-one}
 use Rattle.sheet.specs.Field.{count, parent}

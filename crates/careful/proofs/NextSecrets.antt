@@ -1,11 +1,6 @@
 -- An accepted step keeps what the invariant says of keys, of lock_A, of the refunds, and of where secrets are shared.
 -- Assumes nothing.
-use Prim.Native.Nat.{ℕ, _≤_, _<_}
-use native.Mathlib.Omega.{arith}
-use mathlib.Core.Path.{_≡_, refl}
-use mathlib.Core.Logic.{_⊎_, inl, inr}
-use mathlib.Core.Bool.{true}
-use mathlib.Core.List.{List}
+use Rattle.laws.proofs.Prelude.{ℕ, _≤_, _<_, _≡_, refl, true, List, _⊎_, inl, inr, arith}
 use Rattle.laws.specs.Booleans.{either}
 use Rattle.laws.specs.Mask.{bit}
 use Rattle.sheet.specs.Setup.{perDay, conduct}

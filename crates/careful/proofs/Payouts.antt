@@ -1,13 +1,6 @@
 -- No party is paid from both coins.
 -- Assumes nothing.
-use Prim.Native.Nat.{ℕ, zero, suc, _<_}
-use native.Mathlib.Omega.{arith}
-use mathlib.Core.Path.{_≡_, refl, _∙_}
-use mathlib.Core.Logic.{inl}
-use mathlib.Core.Bool.{Bool, true, not, _&&_}
-use mathlib.Core.List.{List}
-use lib.Dec.{eqb}
-use borrow.Author.Tests.{eqb-true, ltb-true}
+use Rattle.laws.proofs.Prelude.{ℕ, zero, suc, _<_, _≡_, refl, _∙_, Bool, true, not, _&&_, List, inl, eqb, eqb-true, ltb-true, arith}
 use Rattle.laws.specs.Booleans.{split, either, and-parts, fails-by}
 use Rattle.laws.specs.Bits.{zero-or-one}
 use Rattle.sheet.specs.Field.{count, opening}

@@ -1,11 +1,7 @@
 -- Phase 2, as document 02's Slip 6 has it, in every position: "In phase 2 Alice may now send any transaction under the same conduct tests as in phase 3; she neither
 -- shares success nor gives keys there."
 -- Assumes nothing.
-use Prim.Native.Nat.{ℕ}
-use mathlib.Core.Path.{_≡_, refl}
-use mathlib.Core.Bool.{false, not, _||_}
-use mathlib.Core.List.{List}
-use lib.Dec.{eqb}
+use Rattle.laws.proofs.Prelude.{ℕ, _≡_, refl, false, not, _||_, List, eqb}
 use Rattle.laws.specs.Booleans.{split}
 use Rattle.slots.specs.Destination.{alice}
 use Rattle.steps.specs.Decode.{noTransaction}

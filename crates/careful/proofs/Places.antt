@@ -1,12 +1,6 @@
 -- An entry in pool or block or confirmed, in a sound position: its transaction is one of the sheet's, its destination right, its lock reached.
 -- Assumes nothing.
-use Prim.Native.Nat.{ℕ, _≤_, _<_}
-use native.Mathlib.Omega.{arith}
-use mathlib.Core.Path.{_≡_, refl}
-use mathlib.Core.Bool.{true, false}
-use mathlib.Core.List.{List}
-use lib.Dec.{ltb}
-use borrow.Author.Tests.{ltb-true, ltb-false, lt-ltb, eqb-true}
+use Rattle.laws.proofs.Prelude.{ℕ, _≤_, _<_, _≡_, refl, true, false, List, ltb, eqb-true, ltb-true, ltb-false, lt-ltb, arith}
 use Rattle.laws.specs.Booleans.{split, clash, and-parts}
 use Rattle.sheet.specs.Field.{count}
 use Rattle.sheet.specs.LockHeight.{lockHeight}

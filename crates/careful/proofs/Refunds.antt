@@ -1,12 +1,7 @@
 -- Bob never locks: three blocks per day, careful conduct, computed. Alice gets coin A back by refund_1, or by revoke and refund_2, and Bob takes no step after the
 -- first shares.
 -- Assumes nothing.
-use Prim.Native.Nat.{ℕ}
-use mathlib.Core.Path.{_≡_, refl}
-use mathlib.Core.Bool.{Bool, true, false, not}
-use mathlib.Core.List.{List, [], _∷_, _++_}
-use lib.Dec.{eqb}
-use lib.ListN.{length}
+use Rattle.laws.proofs.Prelude.{ℕ, _≡_, refl, Bool, true, false, not, List, [], _∷_, _++_, eqb, length}
 use Rattle.laws.specs.Gather.{every}
 use Rattle.sheet.specs.Refusal.{accepted, stepConduct}
 use Rattle.sheet.specs.Saswap.{saswap}

@@ -1,8 +1,6 @@
 -- The claim, from the invariant of the position, and from the agreement of ledger and report with it.
 -- Assumes nothing.
-use Prim.Native.Nat.{ℕ}
-use mathlib.Core.Path.{_≡_, sym}
-use mathlib.Core.List.{List}
+use Rattle.laws.proofs.Prelude.{ℕ, _≡_, sym, List}
 use Rattle.sheet.specs.Setup.{perDay}
 use Rattle.sheet.proofs.Theorems.{saswap-passes, setup-checked}
 use Rattle.ledger.specs.Ledger.{ledgerHolder}

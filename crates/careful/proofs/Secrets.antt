@@ -1,11 +1,6 @@
 -- The two secrets are never both known beyond their owners.
 -- Assumes nothing.
-use Prim.Native.Nat.{ℕ, _<_}
-use mathlib.Core.Path.{_≡_, refl}
-use mathlib.Core.Logic.{_⊎_, inl, inr}
-use mathlib.Core.Bool.{true, false, not, _&&_}
-use mathlib.Core.List.{List}
-use borrow.Author.Tests.{not-true}
+use Rattle.laws.proofs.Prelude.{ℕ, _<_, _≡_, refl, true, false, not, _&&_, List, _⊎_, inl, inr, not-true}
 use Rattle.laws.specs.Booleans.{either, clash, and-parts, or-parts, fails-by}
 use Rattle.laws.specs.Below.{any-some}
 use Rattle.laws.specs.Bits.{zero-or-one}

@@ -1,12 +1,6 @@
 -- The SASwap sheet of a setup, under careful conduct.
 -- Assumes nothing.
-use Prim.Native.Nat.{ℕ, _<_}
-use native.Mathlib.Omega.{arith}
-use mathlib.Core.Path.{_≡_}
-use mathlib.Core.Bool.{Bool, true, _||_}
-use mathlib.Core.List.{List}
-use lib.Dec.{ltb}
-use borrow.Author.Tests.{eqb-false, ltb-true, ltb-false}
+use Rattle.laws.proofs.Prelude.{ℕ, _<_, _≡_, Bool, true, _||_, List, ltb, eqb-false, ltb-true, ltb-false, arith}
 use Rattle.laws.specs.Booleans.{split}
 use Rattle.sheet.specs.Field.{place, isParty}
 use Rattle.sheet.specs.Saswap.{saswap}

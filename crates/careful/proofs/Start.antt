@@ -1,10 +1,6 @@
 -- The invariant holds at the start.
 -- Assumes nothing.
-use Prim.Native.Nat.{ℕ}
-use mathlib.Core.Path.{_≡_, refl}
-use mathlib.Core.Bool.{true, false}
-use mathlib.Core.List.{List}
-use lib.Dec.{eqb}
+use Rattle.laws.proofs.Prelude.{ℕ, _≡_, refl, true, false, List, eqb}
 use Rattle.laws.specs.Booleans.{split, either, clash}
 use Rattle.laws.specs.Mask.{bit}
 use Rattle.laws.specs.Bits.{no-bit}

@@ -1,12 +1,6 @@
 -- The table of the SASwap sheet, for every number of blocks per day at once: each rule is one test of all fifteen transactions.
 -- Assumes nothing.
-use Prim.Native.Nat.{ℕ, _<_}
-use native.Mathlib.Omega.{arith}
-use mathlib.Core.Path.{_≡_, refl}
-use mathlib.Core.Logic.{_⊎_, inl, inr}
-use mathlib.Core.Bool.{Bool, true, false, not, _&&_, _||_}
-use lib.Dec.{eqb}
-use borrow.Author.Tests.{eqb-true, eq-eqb}
+use Rattle.laws.proofs.Prelude.{ℕ, _<_, _≡_, refl, Bool, true, false, not, _&&_, _||_, _⊎_, inl, inr, eqb, eqb-true, eq-eqb, arith}
 use Rattle.laws.specs.Booleans.{either, and-parts, or-parts}
 use Rattle.laws.specs.Below.{allBelow, all-at}
 use Rattle.laws.specs.Mask.{bit}

@@ -1,13 +1,6 @@
 -- One accepted step under careful conduct: when success gets shared, when Alice gets secretBob, and what a send of success or a refund implies.
 -- Assumes nothing.
-use Prim.Native.Nat.{ℕ, _≤_, _<_}
-use native.Mathlib.Omega.{arith}
-use mathlib.Core.Path.{_≡_, refl}
-use mathlib.Core.Logic.{_⊎_, inl, inr}
-use mathlib.Core.Bool.{true, false}
-use mathlib.Core.List.{List}
-use lib.Dec.{eqb}
-use borrow.Author.Tests.{eqb-true, leb-false}
+use Rattle.laws.proofs.Prelude.{ℕ, _≤_, _<_, _≡_, refl, true, false, List, _⊎_, inl, inr, eqb, eqb-true, leb-false, arith}
 use Rattle.laws.specs.Booleans.{either, clash, and-parts}
 use Rattle.laws.specs.Bits.{zero-or-one}
 use Rattle.laws.specs.Mask.{bit}

@@ -1,11 +1,6 @@
 -- Who acted in a step: no party X, but for sends that it may make; and where what stands after the step comes from.
 -- Assumes nothing.
-use Prim.Native.Nat.{ℕ, _<_}
-use mathlib.Core.Path.{_≡_}
-use mathlib.Core.Logic.{_⊎_}
-use mathlib.Core.Bool.{Bool, true, false}
-use mathlib.Core.List.{List}
-use lib.Dec.{eqb}
+use Rattle.laws.proofs.Prelude.{ℕ, _<_, _≡_, Bool, true, false, List, _⊎_, eqb}
 use Rattle.laws.specs.Mask.{bit}
 use Rattle.sheet.specs.Field.{parent, opening}
 use Rattle.sheet.specs.Setup.{stealth}

@@ -1,12 +1,6 @@
 -- What stands is not dead, and what is gone stays gone.
 -- Assumes nothing.
-use Prim.Native.Nat.{ℕ, _<_}
-use native.Mathlib.Omega.{arith}
-use mathlib.Core.Path.{_≡_}
-use mathlib.Core.Logic.{_⊎_}
-use mathlib.Core.Bool.{Bool, true, false, not, _&&_, _||_}
-use mathlib.Core.List.{List}
-use borrow.Author.Tests.{ltb-true, eqb-false}
+use Rattle.laws.proofs.Prelude.{ℕ, _<_, _≡_, Bool, true, false, not, _&&_, _||_, List, _⊎_, eqb-false, ltb-true, arith}
 use Rattle.laws.specs.Booleans.{either, clash, and-parts, or-parts, fails-by}
 use Rattle.sheet.specs.Field.{count, parent, opening}
 use Rattle.sheet.specs.Setup.{perDay}

@@ -1,16 +1,9 @@
 -- What every list of steps without X keeps: the others' keys, entries and shared signatures come from a closed set of the first position.
 -- Assumes nothing.
-use Prim.Native.Nat.{ℕ, zero, suc, _≤_, _<_}
+use Rattle.laws.proofs.Prelude.{ℕ, zero, suc, _≤_, _<_, _≡_, refl, sym, _∙_, Bool, true, false, _&&_, List, _⊎_, inl, inr, eqb, ltb, leb}
+use Rattle.laws.proofs.Prelude.{length, eqb-true, ltb-true, ltb-false, leb-true, eq-eqb, lt-ltb, arith}
 use native.Mathlib.Nat.{not-suc-le-zero}
-use native.Mathlib.Omega.{arith}
-use mathlib.Core.Path.{_≡_, refl, sym, _∙_}
-use mathlib.Core.Logic.{_⊎_, inl, inr}
-use mathlib.Core.Bool.{Bool, true, false, _&&_}
-use mathlib.Core.List.{List}
 use lib.Bits.{bitAnd}
-use lib.Dec.{eqb, ltb, leb}
-use lib.ListN.{length}
-use borrow.Author.Tests.{eqb-true, eq-eqb, ltb-true, ltb-false, lt-ltb, leb-true}
 use Rattle.laws.specs.Booleans.{split, either, clash, and-parts, fails-by, or-right}
 use Rattle.laws.specs.Mask.{bit, unionBelow, without}
 use Rattle.laws.specs.Bits.{bit-and, no-bit}

@@ -1,11 +1,6 @@
 -- The words of specs/ by example: on the SASwap sheet at 1 block per day, and on a ring of three.
 -- Assumes nothing.
-use Prim.Native.Nat.{ℕ, _+_, _^_}
-use native.Mathlib.Omega.{arith}
-use mathlib.Core.Path.{_≡_, refl}
-use mathlib.Core.Bool.{Bool, true, false, false≢true}
-use mathlib.Core.List.{List, [], _∷_, _++_}
-use lib.Dec.{eqb}
+use Rattle.laws.proofs.Prelude.{ℕ, _+_, _^_, _≡_, refl, Bool, true, false, false≢true, List, [], _∷_, _++_, eqb, arith}
 use Rattle.laws.specs.Booleans.{either}
 use Rattle.laws.specs.Below.{allBelow, anyBelow}
 use Rattle.laws.specs.Sets.{joined, setBelow}

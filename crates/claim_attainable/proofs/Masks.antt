@@ -1,11 +1,7 @@
 -- Bits of unions and subsets, and the number of a set's members.
 -- Assumes nothing.
-use Prim.Native.Nat.{ℕ, zero, suc, _≤_, _<_}
+use Rattle.laws.proofs.Prelude.{ℕ, zero, suc, _≤_, _<_, _≡_, refl, _∙_, Bool, true, false, not, _||_, _⊎_, inl, inr, arith}
 use native.Mathlib.Nat.{not-suc-le-zero, le-of-suc-le-suc, eq-or-lt-of-le}
-use native.Mathlib.Omega.{arith}
-use mathlib.Core.Path.{_≡_, refl, _∙_}
-use mathlib.Core.Logic.{_⊎_, inl, inr}
-use mathlib.Core.Bool.{Bool, true, false, not, _||_}
 use lib.Bits.{bitOr}
 use Rattle.laws.specs.Booleans.{pick, split, either, or-right}
 use Rattle.laws.specs.Below.{allBelow, all-from}

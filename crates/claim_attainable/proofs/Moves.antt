@@ -1,14 +1,7 @@
 -- Every accepted step in which X is idle: where the entries, shared signatures and keys after it come from.
 -- Assumes nothing.
-use Prim.Native.Nat.{ℕ, _+_, _≤_, _<_}
-use native.Mathlib.Omega.{arith}
-use mathlib.Core.Path.{_≡_, refl}
-use mathlib.Core.Logic.{_⊎_, inl, inr}
-use mathlib.Core.Bool.{Bool, true, false, not, _&&_, _||_, false≢true}
-use mathlib.Core.List.{List}
-use lib.Dec.{eqb, ltb}
-use lib.ListN.{length}
-use borrow.Author.Tests.{eqb-true, ltb-true, not-true}
+use Rattle.laws.proofs.Prelude.{ℕ, _+_, _≤_, _<_, _≡_, refl, Bool, true, false, not, _&&_, _||_, false≢true, List, _⊎_, inl, inr, eqb, ltb}
+use Rattle.laws.proofs.Prelude.{length, eqb-true, ltb-true, not-true, arith}
 use Rattle.laws.specs.Booleans.{pick, split, either, and-parts, or-parts}
 use Rattle.laws.specs.Failing.{passed}
 use Rattle.sheet.specs.Field.{count, parent, opening, signatures}

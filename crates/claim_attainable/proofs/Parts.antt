@@ -1,13 +1,7 @@
 -- What a transaction that comes for a destination passes, part by part, and that a larger set brings no less.
 -- Assumes nothing.
-use Prim.Native.Nat.{ℕ, _<_}
-use mathlib.Core.Path.{_≡_, refl}
-use mathlib.Core.Logic.{_⊎_, inl, inr}
-use mathlib.Core.Bool.{Bool, true, false, not, _&&_, _||_}
-use mathlib.Core.List.{List}
+use Rattle.laws.proofs.Prelude.{ℕ, _<_, _≡_, refl, Bool, true, false, not, _&&_, _||_, List, _⊎_, inl, inr, eqb, not-true}
 use lib.Bits.{bitOr}
-use lib.Dec.{eqb}
-use borrow.Author.Tests.{not-true}
 use Rattle.laws.specs.Booleans.{pick, split, either, clash, and-parts, or-parts, or-right}
 use Rattle.laws.specs.Mask.{bit, unionBelow}
 use Rattle.laws.specs.Bits.{or-bit, union-bit, no-bit, subset-bit}

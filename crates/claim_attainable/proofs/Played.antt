@@ -1,12 +1,6 @@
 -- A list of steps in which X takes none, or none but sends of some transactions, leads to bounded positions.
 -- Assumes nothing.
-use Prim.Native.Nat.{ℕ}
-use mathlib.Core.Path.{_≡_}
-use mathlib.Core.Logic.{inl, inr}
-use mathlib.Core.Bool.{Bool, true, false, not, _||_, false≢true}
-use mathlib.Core.List.{List, [], _∷_}
-use lib.Dec.{eqb}
-use borrow.Author.Tests.{eqb-true, not-true}
+use Rattle.laws.proofs.Prelude.{ℕ, _≡_, Bool, true, false, not, _||_, false≢true, List, [], _∷_, inl, inr, eqb, eqb-true, not-true}
 use Rattle.laws.specs.Booleans.{split, either, and-parts, or-parts, fails-by}
 use Rattle.laws.specs.Gather.{every}
 use Rattle.sheet.specs.Check.{sheetRefusal}

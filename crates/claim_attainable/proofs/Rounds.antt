@@ -1,12 +1,6 @@
 -- The attainable set is the least closed one: growing keeps what there is, and as many rounds as there are transactions suffice.
 -- Assumes nothing.
-use Prim.Native.Nat.{ℕ, zero, suc, _≤_, _<_}
-use native.Mathlib.Omega.{arith}
-use mathlib.Core.Path.{_≡_, sym, _∙_}
-use mathlib.Core.Logic.{_⊎_, inl, inr}
-use mathlib.Core.Bool.{Bool, true, not, _&&_}
-use mathlib.Core.List.{List}
-use borrow.Author.Tests.{not-true}
+use Rattle.laws.proofs.Prelude.{ℕ, zero, suc, _≤_, _<_, _≡_, sym, _∙_, Bool, true, not, _&&_, List, _⊎_, inl, inr, not-true, arith}
 use Rattle.laws.specs.Booleans.{split, either, clash, and-parts}
 use Rattle.laws.specs.Below.{anyBelow, any-some, any-none, any-found}
 use Rattle.laws.specs.Mask.{bit}

@@ -1,13 +1,7 @@
 -- Shared signatures and keys after each kind of step: where each comes from.
 -- Assumes nothing.
-use Prim.Native.Nat.{ℕ, _+_, _^_, _<_}
-use mathlib.Core.Path.{_≡_, refl, sym, _∙_}
-use mathlib.Core.Logic.{_⊎_, inl, inr}
-use mathlib.Core.Bool.{true}
-use mathlib.Core.List.{List, [], _∷_}
+use Rattle.laws.proofs.Prelude.{ℕ, _+_, _^_, _<_, _≡_, refl, sym, _∙_, true, List, [], _∷_, _⊎_, inl, inr, eqb, eqb-true}
 use lib.Bits.{bitOr}
-use lib.Dec.{eqb}
-use borrow.Author.Tests.{eqb-true}
 use Rattle.laws.specs.Booleans.{split, either}
 use Rattle.laws.specs.Bits.{or-bit, no-bit}
 use Rattle.laws.specs.Sets.{joined, bit-joined}

@@ -1,14 +1,8 @@
 -- What can come without X after such a list could come before it.
 -- Assumes nothing.
-use Prim.Native.Nat.{ℕ, _<_}
-use native.Mathlib.Omega.{arith}
-use mathlib.Core.Path.{_≡_, sym, _∙_}
-use mathlib.Core.Logic.{_⊎_, inl, inr}
-use mathlib.Core.Bool.{Bool, true, false, not, _&&_, _||_}
-use mathlib.Core.List.{List}
+use Rattle.laws.proofs.Prelude.{ℕ, _<_, _≡_, sym, _∙_, Bool, true, false, not, _&&_, _||_, List, _⊎_, inl, inr, eqb, leb, eqb-true}
+use Rattle.laws.proofs.Prelude.{leb-true, lt-ltb, le-leb, arith}
 use lib.Bits.{bitAnd, bitOr}
-use lib.Dec.{eqb, leb}
-use borrow.Author.Tests.{eqb-true, leb-true, le-leb, lt-ltb}
 use Rattle.laws.specs.Booleans.{split, either, clash, and-parts, or-parts, fails-by}
 use Rattle.laws.specs.Mask.{bit, unionBelow}
 use Rattle.laws.specs.Bits.{bit-and, or-bit, union-bit, no-bit, subset-bit}

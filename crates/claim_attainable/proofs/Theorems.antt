@@ -1,12 +1,6 @@
 -- Nobody confirms what nobody else can sign: the claims of specs/Claim.antt.
 -- Assumes nothing.
-use Prim.Native.Nat.{ℕ, _<_}
-use mathlib.Core.Path.{_≡_, refl, _∙_}
-use mathlib.Core.Logic.{_⊎_, inl, inr}
-use mathlib.Core.Bool.{Bool, true, false, not, _&&_}
-use mathlib.Core.List.{List, [], _∷_}
-use lib.Dec.{eqb}
-use borrow.Author.Tests.{ne-eqb}
+use Rattle.laws.proofs.Prelude.{ℕ, _<_, _≡_, refl, _∙_, Bool, true, false, not, _&&_, List, [], _∷_, _⊎_, inl, inr, eqb, ne-eqb}
 use Rattle.laws.specs.Booleans.{either, and-parts}
 use Rattle.laws.specs.Below.{anyBelow, any-found}
 use Rattle.laws.specs.Gather.{every}

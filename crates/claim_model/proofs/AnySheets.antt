@@ -1,11 +1,6 @@
 -- What holds in every sound position of any checked sheet.
 -- Assumes nothing.
-use Prim.Native.Nat.{ℕ, _<_}
-use native.Mathlib.Omega.{arith}
-use mathlib.Core.Path.{_≡_}
-use mathlib.Core.Bool.{Bool, true, false, _||_}
-use mathlib.Core.List.{List}
-use borrow.Author.Tests.{ltb-true}
+use Rattle.laws.proofs.Prelude.{ℕ, _<_, _≡_, Bool, true, false, _||_, List, ltb-true, arith}
 use Rattle.laws.specs.Booleans.{either, or-parts, fails-by}
 use Rattle.sheet.specs.Field.{count}
 use Rattle.sheet.specs.Setup.{perDay}

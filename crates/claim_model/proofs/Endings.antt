@@ -1,13 +1,8 @@
 -- The endings: who is paid from both coins, what remains then, and what a timeout leaves.
 -- Assumes nothing.
-use Prim.Native.Nat.{ℕ, _<_}
-use native.Mathlib.Omega.{arith}
-use mathlib.Core.Path.{_≡_, refl, sym, _∙_}
-use mathlib.Core.Bool.{Bool, true, false, not, _&&_, _||_, or-false, and-true, and-false}
-use mathlib.Core.Logic.{_⊎_, inl}
-use mathlib.Core.List.{List, [], _∷_}
-use lib.Dec.{eqb, ltb}
-use borrow.Author.Tests.{eqb-true, eq-eqb, ltb-true, lt-ltb, not-true}
+use Rattle.laws.proofs.Prelude.{ℕ, _<_, _≡_, refl, sym, _∙_, Bool, true, false, not, _&&_, _||_, and-false, List, [], _∷_, _⊎_, inl, eqb}
+use Rattle.laws.proofs.Prelude.{ltb, eqb-true, ltb-true, eq-eqb, lt-ltb, not-true, arith}
+use mathlib.Core.Bool.{or-false, and-true}
 use Rattle.laws.specs.Booleans.{split, either, clash, and-parts, or-parts, or-right, fails-by}
 use Rattle.laws.specs.Below.{anyBelow, any-found, any-some, any-none}
 use Rattle.laws.specs.Bits.{zero-or-one}

@@ -1,10 +1,7 @@
 -- Three blocks per day, computed: a journal for each ending and some for none, and for each claim a position in which it is false.
 -- Assumes nothing.
-use Prim.Native.Nat.{ℕ}
-use native.Mathlib.Omega.{arith}
-use mathlib.Core.Path.{_≡_, refl}
-use mathlib.Core.Bool.{Bool, true, false}
-use mathlib.Core.List.{List, [], _∷_, _++_, map}
+use Rattle.laws.proofs.Prelude.{ℕ, _≡_, refl, Bool, true, false, List, [], _∷_, _++_, arith}
+use mathlib.Core.List.{map}
 use Rattle.laws.specs.Booleans.{pick, clash, either}
 use Rattle.laws.specs.Gather.{gather}
 use Rattle.sheet.specs.Refusal.{accepted}

@@ -1,14 +1,7 @@
 -- What holds beside the invariant of careful conduct: a confirmed contract transaction has exposed its signatures, each party keeps its own
 -- secret, and success is shared only once lock_B is confirmed.
 -- Assumes nothing.
-use Prim.Native.Nat.{ℕ, _≤_, _<_}
-use native.Mathlib.Omega.{arith}
-use mathlib.Core.Path.{_≡_, refl, _∙_}
-use mathlib.Core.Bool.{true, not, _&&_, false≢true}
-use mathlib.Core.List.{List}
-use lib.Dec.{eqb, leb}
-use lib.ListN.{length}
-use borrow.Author.Tests.{ltb-true}
+use Rattle.laws.proofs.Prelude.{ℕ, _≤_, _<_, _≡_, refl, _∙_, true, not, _&&_, false≢true, List, eqb, leb, length, ltb-true, arith}
 use Rattle.laws.specs.Booleans.{split, either, clash, and-parts, or-right}
 use Rattle.laws.specs.Bits.{bit-or}
 use Rattle.laws.specs.Mask.{bit}

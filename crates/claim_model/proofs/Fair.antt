@@ -1,13 +1,6 @@
 -- A fair ending: who is paid, and what the other party then has.
 -- Assumes nothing.
-use Prim.Native.Nat.{ℕ, _<_}
-use native.Mathlib.Omega.{arith}
-use mathlib.Core.Path.{_≡_, refl}
-use mathlib.Core.Bool.{Bool, true, false, not, _&&_, _||_}
-use mathlib.Core.Logic.{inl, inr}
-use mathlib.Core.List.{List}
-use lib.Dec.{eqb}
-use borrow.Author.Tests.{eqb-true, eq-eqb}
+use Rattle.laws.proofs.Prelude.{ℕ, _<_, _≡_, refl, Bool, true, false, not, _&&_, _||_, List, inl, inr, eqb, eqb-true, eq-eqb, arith}
 use Rattle.laws.specs.Booleans.{either, clash, or-parts, or-right, fails-by}
 use Rattle.laws.specs.Mask.{bit}
 use Rattle.sheet.specs.Field.{secrets}

@@ -1,12 +1,6 @@
 -- An ending is final: what is confirmed stays so, for the same destination, and after a timeout secretBob stays with Bob.
 -- Assumes nothing.
-use Prim.Native.Nat.{ℕ, _<_}
-use native.Mathlib.Omega.{arith}
-use mathlib.Core.Path.{_≡_}
-use mathlib.Core.Bool.{true, false, not, _&&_}
-use mathlib.Core.List.{List, [], _∷_}
-use lib.Dec.{eqb}
-use borrow.Author.Tests.{not-true}
+use Rattle.laws.proofs.Prelude.{ℕ, _<_, _≡_, true, false, not, _&&_, List, [], _∷_, eqb, not-true, arith}
 use Rattle.laws.specs.Booleans.{split, either, clash, and-parts, or-parts, or-right, fails-by}
 use Rattle.sheet.specs.Field.{count}
 use Rattle.sheet.specs.Checked.{Checked, SetupChecked}

@@ -1,13 +1,8 @@
 -- Under careful conduct both first shares are made exactly if their signatures are in shared knowledge: document 01's phase 1 is 001's.
 -- Assumes nothing.
-use Prim.Native.Nat.{ℕ, _-_, _<_}
-use native.Mathlib.Omega.{arith}
-use mathlib.Core.Path.{_≡_, refl, sym, ap, fun-ext, _∙_}
-use mathlib.Core.Bool.{Bool, true, false, not, _&&_, _||_, and-false, false≢true}
-use mathlib.Core.List.{List, [], _∷_}
-use lib.Dec.{eqb, ltb, leb}
+use Rattle.laws.proofs.Prelude.{ℕ, _-_, _<_, _≡_, refl, sym, ap, _∙_, fun-ext, Bool, true, false, not, _&&_, _||_, and-false, false≢true}
+use Rattle.laws.proofs.Prelude.{List, [], _∷_, eqb, ltb, leb, eqb-true, eqb-false, ltb-true, not-true, arith}
 use lib.Bits.{bitAnd}
-use borrow.Author.Tests.{eqb-true, eqb-false, ltb-true, not-true}
 use Rattle.laws.specs.Booleans.{split, either, clash, and-parts, or-parts, or-right, fails-by}
 use Rattle.laws.specs.Below.{anyBelow, any-some}
 use Rattle.laws.specs.Bits.{bit-and, bit-or, zero-or-one}

@@ -1,15 +1,8 @@
 -- Share marks: which steps set them, and which leave them alone.
 -- Assumes nothing.
-use Prim.Native.Nat.{ℕ, _-_, _<_}
-use native.Mathlib.Omega.{arith}
-use mathlib.Core.Path.{_≡_, refl, sym, ap, _∙_}
-use mathlib.Core.Bool.{Bool, true, false}
-use mathlib.Core.Logic.{_⊎_, inl, inr}
-use mathlib.Core.List.{List, [], _∷_}
-use lib.Dec.{eqb}
+use Rattle.laws.proofs.Prelude.{ℕ, _-_, _<_, _≡_, refl, sym, ap, _∙_, Bool, true, false, List, [], _∷_, _⊎_, inl, inr, eqb, length, eq-eqb}
+use Rattle.laws.proofs.Prelude.{ne-eqb, arith}
 use lib.Bits.{bitAnd}
-use lib.ListN.{length}
-use borrow.Author.Tests.{eq-eqb, ne-eqb}
 use Rattle.laws.specs.Booleans.{split, either, clash, and-parts, or-right}
 use Rattle.laws.specs.Bits.{bit-or, bit-and, zero-or-one}
 use Rattle.laws.specs.Cases.{stored}

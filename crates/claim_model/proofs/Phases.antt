@@ -1,8 +1,6 @@
 -- Exactly one phase, and it is document 01's where both first shares are made exactly if they are shared.
 -- Assumes nothing.
-use mathlib.Core.Path.{_≡_, _∙_}
-use mathlib.Core.Bool.{true, false}
-use lib.ListN.{getD}
+use Rattle.laws.proofs.Prelude.{_≡_, _∙_, true, false, getD}
 use Rattle.laws.specs.Booleans.{split}
 use Rattle.steps.specs.Names.{lockA, lockB}
 use Rattle.position.specs.declared.Position.{Position}

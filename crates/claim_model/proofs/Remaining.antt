@@ -1,11 +1,7 @@
 -- What remains on the SASwap sheet, by what is confirmed: tests over the sets that can be confirmed together.
 -- Assumes nothing.
-use Prim.Native.Nat.{ℕ, _<_}
-use mathlib.Core.Path.{_≡_, refl}
-use mathlib.Core.Bool.{Bool, true, false, not, _&&_, _||_, Bool·beq}
-use mathlib.Core.Logic.{_⊎_}
-use mathlib.Core.List.{List}
-use lib.Dec.{eqb}
+use Rattle.laws.proofs.Prelude.{ℕ, _<_, _≡_, refl, Bool, true, false, not, _&&_, _||_, List, _⊎_, eqb}
+use mathlib.Core.Bool.{Bool·beq}
 use Rattle.laws.specs.Booleans.{and-parts, beq-same, implied}
 use Rattle.laws.specs.Below.{allBelow, anyBelow, all-at}
 use Rattle.laws.specs.Mask.{bit}

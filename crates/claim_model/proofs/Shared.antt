@@ -1,12 +1,7 @@
 -- What is in shared knowledge: a signature shared for a transaction, and what a sender has by it.
 -- Assumes nothing.
-use Prim.Native.Nat.{ℕ, zero, suc, _<_}
-use native.Mathlib.Omega.{arith}
-use mathlib.Core.Path.{_≡_, refl, _∙_}
-use mathlib.Core.Bool.{true, false, _||_}
-use mathlib.Core.List.{List}
+use Rattle.laws.proofs.Prelude.{ℕ, zero, suc, _<_, _≡_, refl, _∙_, true, false, _||_, List, eqb, arith}
 use lib.Bits.{bitAnd, bitOr}
-use lib.Dec.{eqb}
 use Rattle.laws.specs.Booleans.{or-right}
 use Rattle.laws.specs.Below.{allBelow, anyBelow, any-found, any-some, all-at}
 use Rattle.laws.specs.Bits.{bit-or, bit-and, no-bit}

@@ -1,13 +1,8 @@
 -- The sets of transactions that can be confirmed together: each with its parents and without its rivals. A test that all of them pass is
 -- passed by what is confirmed in any sound position.
 -- Assumes nothing.
-use Prim.Native.Nat.{ℕ, zero, suc, _≤_, _<_}
-use native.Mathlib.Omega.{arith}
-use mathlib.Core.Path.{_≡_, sym, fun-ext, _∙_}
-use mathlib.Core.Bool.{Bool, true, false, not, _&&_, _||_}
-use mathlib.Core.List.{List}
-use lib.Dec.{ltb}
-use borrow.Author.Tests.{ltb-true, ltb-false, lt-ltb}
+use Rattle.laws.proofs.Prelude.{ℕ, zero, suc, _≤_, _<_, _≡_, sym, _∙_, fun-ext, Bool, true, false, not, _&&_, _||_, List, ltb, ltb-true}
+use Rattle.laws.proofs.Prelude.{ltb-false, lt-ltb, arith}
 use Rattle.laws.specs.Booleans.{split, clash, and-parts, fails-by, implied}
 use Rattle.laws.specs.Below.{any-all-false}
 use Rattle.laws.specs.Bits.{bit-above}

@@ -1,13 +1,7 @@
 -- Who can take coin B: with lock_B confirmed and both secrets at hand a party's send of spend_B to the pool passes.
 -- Assumes nothing.
-use Prim.Native.Nat.{ℕ, _<_}
-use native.Mathlib.Omega.{arith}
-use mathlib.Core.Path.{_≡_, refl, sym, ap, _∙_}
-use mathlib.Core.Bool.{Bool, true, false, not, _&&_}
-use mathlib.Core.Logic.{_⊎_}
-use mathlib.Core.List.{List}
-use lib.Dec.{eqb}
-use borrow.Author.Tests.{eqb-true, lt-ltb, le-leb}
+use Rattle.laws.proofs.Prelude.{ℕ, _<_, _≡_, refl, sym, ap, _∙_, Bool, true, false, not, _&&_, List, _⊎_, eqb, eqb-true, lt-ltb, le-leb}
+use Rattle.laws.proofs.Prelude.{arith}
 use Rattle.laws.specs.Booleans.{clash, and-parts, or-right, fails-by}
 use Rattle.laws.specs.Below.{any-all-false}
 use Rattle.laws.specs.Bits.{zero-or-one}

@@ -1,7 +1,6 @@
 -- What document 001's model checks, proved.
 -- Assumes nothing.
-use mathlib.Core.Path.{_≡_, _∙_}
-use mathlib.Core.Bool.{true}
+use Rattle.laws.proofs.Prelude.{_≡_, _∙_, true}
 use Rattle.laws.specs.Booleans.{either, or-parts}
 use Rattle.sheet.specs.Saswap.{saswap}
 use Rattle.sheet.specs.Setup.{perDay}

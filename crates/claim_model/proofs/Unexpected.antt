@@ -1,12 +1,6 @@
 -- spend_refund_1_bob stands nowhere: it would need refund_1, and sigAlice in Bob's hands.
 -- Assumes nothing.
-use Prim.Native.Nat.{ℕ, _<_}
-use native.Mathlib.Omega.{arith}
-use mathlib.Core.Path.{_≡_, refl}
-use mathlib.Core.Bool.{true, false}
-use mathlib.Core.Logic.{inr}
-use mathlib.Core.List.{List}
-use borrow.Author.Tests.{ltb-true}
+use Rattle.laws.proofs.Prelude.{ℕ, _<_, _≡_, refl, true, false, List, inr, ltb-true, arith}
 use Rattle.laws.specs.Booleans.{either, or-parts, fails-by}
 use Rattle.sheet.specs.Field.{count, parent, opening}
 use Rattle.sheet.specs.Setup.{perDay}

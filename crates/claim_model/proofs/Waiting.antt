@@ -1,11 +1,6 @@
 -- What waits in the pool or in the block remains.
 -- Assumes nothing.
-use Prim.Native.Nat.{ℕ, _<_}
-use native.Mathlib.Omega.{arith}
-use mathlib.Core.Path.{_≡_}
-use mathlib.Core.Bool.{Bool, true, false}
-use mathlib.Core.List.{List}
-use borrow.Author.Tests.{eqb-false}
+use Rattle.laws.proofs.Prelude.{ℕ, _<_, _≡_, Bool, true, false, List, eqb-false, arith}
 use Rattle.laws.specs.Booleans.{either, fails-by}
 use Rattle.sheet.specs.Field.{count}
 use Rattle.sheet.specs.Checked.{Checked}

@@ -1,8 +1,6 @@
 -- All that holds in every position that careful conduct on the SASwap sheet leads to, along every row of four-byte groups.
 -- Assumes nothing.
-use Prim.Native.Nat.{ℕ}
-use mathlib.Core.Path.{_≡_}
-use mathlib.Core.List.{List, [], _∷_}
+use Rattle.laws.proofs.Prelude.{ℕ, _≡_, List, [], _∷_}
 use Rattle.sheet.specs.Checked.{Checked, SetupChecked}
 use Rattle.sheet.specs.Setup.{perDay, conduct, setupRefusal}
 use Rattle.sheet.proofs.Theorems.{saswap-passes, sheet-checked, setup-checked}

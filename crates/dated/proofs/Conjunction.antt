@@ -1,7 +1,6 @@
 -- Four tests that must all hold: where one fails, and where the other three hold.
 -- Assumes nothing.
-use mathlib.Core.Path.{_≡_, refl, sym}
-use mathlib.Core.Bool.{Bool, true, false, _&&_, and-false}
+use Rattle.laws.proofs.Prelude.{_≡_, refl, sym, Bool, true, false, _&&_, and-false}
 
 module _ (a b c d : Bool) where
   pub second-fails : b ≡ false → false ≡ (a && (b && (c && d)))

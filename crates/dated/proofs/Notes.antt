@@ -1,9 +1,6 @@
 -- The counts once a position is seen, place by place.
 -- Assumes nothing.
-use Prim.Native.Nat.{ℕ, _<_}
-use mathlib.Core.Path.{_≡_}
-use mathlib.Core.List.{List}
-use lib.ListN.{length, getD}
+use Rattle.laws.proofs.Prelude.{ℕ, _<_, _≡_, List, length, getD}
 use Rattle.laws.specs.Each.{length-rewriteFirst, rewritten}
 use Rattle.sheet.specs.Field.{count}
 use Rattle.sheet.specs.LockHeight.{never}

@@ -1,12 +1,7 @@
 -- What is open over a view, a slot and the parent's block is what is open in the position.
 -- Assumes nothing.
-use Prim.Native.Nat.{ℕ, _<_}
-use mathlib.Core.Path.{_≡_, refl, sym, ap, _∙_}
-use mathlib.Core.Bool.{Bool, true, false, not}
-use mathlib.Core.List.{List}
-use lib.Dec.{eqb, leb}
-use lib.ListN.{length}
-use borrow.Author.Tests.{eqb-true, not-true, not-false}
+use Rattle.laws.proofs.Prelude.{ℕ, _<_, _≡_, refl, sym, ap, _∙_, Bool, true, false, not, List, eqb, leb, length, eqb-true, not-true}
+use Rattle.laws.proofs.Prelude.{not-false}
 use Rattle.laws.specs.Booleans.{split, clash}
 use Rattle.laws.specs.Below.{anyBelow}
 use Rattle.laws.specs.Mask.{bit}

@@ -1,9 +1,6 @@
 -- The report's answer by the model's run and the counts.
 -- Assumes nothing.
-use Prim.Native.Nat.{ℕ, _*_}
-use mathlib.Core.Path.{_≡_, sym, ap, _∙_}
-use mathlib.Core.List.{List}
-use lib.ListN.{length, take}
+use Rattle.laws.proofs.Prelude.{ℕ, _*_, _≡_, sym, ap, _∙_, List, length, take}
 use Rattle.sheet.specs.Refusal.{accepted}
 use Rattle.sheet.specs.Field.{count}
 use Rattle.readings.specs.Reported.{rowWidth}

@@ -1,10 +1,6 @@
 -- A step on a position with its counts, accepted or refused; a row of steps by its first.
 -- Assumes nothing.
-use Prim.Native.Nat.{ℕ, _+_}
-use mathlib.Core.Path.{_≡_, refl}
-use mathlib.Core.Bool.{true, false}
-use mathlib.Core.List.{List, [], _∷_}
-use lib.Dec.{eqb}
+use Rattle.laws.proofs.Prelude.{ℕ, _+_, _≡_, refl, true, false, List, [], _∷_, eqb}
 use Rattle.sheet.specs.Refusal.{accepted}
 use Rattle.position.specs.Play.{FourBytes, step}
 use Rattle.dated.specs.declared.Dated.{Dated}

@@ -1,11 +1,6 @@
 -- What open, the counts and the claims' words mean, by computed examples on both sides.
 -- Assumes nothing.
-use Prim.Native.Nat.{ℕ}
-use native.Mathlib.Omega.{arith}
-use mathlib.Core.Path.{_≡_, refl, ap}
-use mathlib.Core.Bool.{true, false}
-use mathlib.Core.List.{List, [], _∷_, _++_}
-use lib.ListN.{length}
+use Rattle.laws.proofs.Prelude.{ℕ, _≡_, refl, ap, true, false, List, [], _∷_, _++_, length, arith}
 use Rattle.laws.specs.Booleans.{clash}
 use Rattle.sheet.specs.LockHeight.{never}
 use Rattle.sheet.specs.Saswap.{saswap}

@@ -1,11 +1,7 @@
 -- A count that is set stays.
 -- Assumes nothing.
-use Prim.Native.Nat.{ℕ, _+_}
-use mathlib.Core.Path.{_≡_, refl, sym, ap, _∙_}
-use mathlib.Core.List.{List, [], _∷_}
-use lib.Dec.{eqb, ltb}
-use lib.ListN.{length, getD, List·getD-eq-default}
-use borrow.Author.Tests.{ltb-true, ltb-false, ne-eqb}
+use Rattle.laws.proofs.Prelude.{ℕ, _+_, _≡_, refl, sym, ap, _∙_, List, [], _∷_, eqb, ltb, length, getD, ltb-true, ltb-false, ne-eqb}
+use lib.ListN.{List·getD-eq-default}
 use Rattle.laws.specs.Booleans.{split}
 use Rattle.laws.specs.Each.{not-rewritten}
 use Rattle.sheet.specs.Refusal.{accepted}

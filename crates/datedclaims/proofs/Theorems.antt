@@ -1,10 +1,6 @@
 -- The claims about the counts.
 -- Assumes nothing.
-use Prim.Native.Nat.{ℕ, zero, suc, _<_}
-use native.Mathlib.Omega.{arith}
-use mathlib.Core.Path.{_≡_, refl, sym, ap, _∙_}
-use mathlib.Core.List.{List}
-use lib.ListN.{length, getD, replicate}
+use Rattle.laws.proofs.Prelude.{ℕ, zero, suc, _<_, _≡_, refl, sym, ap, _∙_, List, length, getD, replicate, arith}
 use Rattle.sheet.specs.LockHeight.{never}
 use Rattle.position.specs.declared.Position.{Position}
 use Rattle.position.specs.Position.{start}

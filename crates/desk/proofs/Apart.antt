@@ -1,14 +1,9 @@
 -- Two bundles that differ in one swap's setup and journal alone.
 -- Assumes nothing.
-use Prim.Native.Nat.{ℕ, _+_, _*_, _/_, _%_, _≤_, _<_}
-use native.Mathlib.Omega.{arith}
-use mathlib.Core.Path.{_≡_, refl, sym, ap, _∙_}
-use mathlib.Core.Logic.{_⊎_, inl, inr}
-use mathlib.Core.List.{List}
-use lib.Dec.{eqb, leb, ltb}
-use lib.ListN.{length, take, drop, getD, length-take, length-drop}
+use Rattle.laws.proofs.Prelude.{ℕ, _+_, _*_, _/_, _%_, _≤_, _<_, _≡_, refl, sym, ap, _∙_, List, _⊎_, inl, inr, eqb, ltb, leb, length, getD}
+use Rattle.laws.proofs.Prelude.{take, drop, length-drop, eqb-true, eqb-false, ltb-true, ltb-false, leb-true, leb-false, arith}
+use lib.ListN.{length-take}
 use lib.Seq.{getD-take, getD-drop, ext-getD}
-use borrow.Author.Tests.{eqb-true, eqb-false, leb-true, leb-false, ltb-true, ltb-false}
 use Rattle.laws.specs.Booleans.{split, either}
 use Rattle.laws.specs.Failing.{firstFailing}
 use Rattle.laws.specs.Little.{number-same}

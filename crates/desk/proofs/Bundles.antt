@@ -1,14 +1,8 @@
 -- Where the parts of a bundle stand, and the two ways out of its check.
 -- Assumes nothing.
-use Prim.Native.Nat.{ℕ, zero, suc, _+_, _-_, _*_, _≤_, _<_}
-use native.Mathlib.Omega.{arith}
+use Rattle.laws.proofs.Prelude.{ℕ, zero, suc, _+_, _-_, _*_, _≤_, _<_, _≡_, refl, true, false, _&&_, List, eqb, leb, length, eqb-true}
+use Rattle.laws.proofs.Prelude.{leb-true, le-leb, lt-leb, arith}
 use native.Mathlib.Nat.{not-suc-le-zero, le-of-suc-le-suc, eq-or-lt-of-le}
-use mathlib.Core.Path.{_≡_, refl}
-use mathlib.Core.Bool.{true, false, _&&_}
-use mathlib.Core.List.{List}
-use lib.Dec.{eqb, leb}
-use lib.ListN.{length}
-use borrow.Author.Tests.{eqb-true, leb-true, lt-leb, le-leb}
 use Rattle.laws.specs.Booleans.{either, and-parts}
 use Rattle.laws.specs.Sum.{sumBelow}
 use Rattle.desk.specs.Bundle.{swaps, lengthOf, journals, startOf, addsUp, bundleRight}

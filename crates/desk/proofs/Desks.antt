@@ -1,13 +1,7 @@
 -- The checks of the call, one after another, and its answers, case by case.
 -- Assumes nothing.
-use Prim.Native.Nat.{ℕ, _*_, _≤_, _<_}
-use native.Mathlib.Omega.{arith}
-use mathlib.Core.Path.{_≡_, refl, sym, _∙_}
-use mathlib.Core.Bool.{Bool, true, false, not}
-use mathlib.Core.List.{List, [], _∷_}
-use lib.Dec.{eqb, lit<}
-use lib.ListN.{length}
-use borrow.Author.Tests.{eq-eqb, ne-eqb, eqb-true, eqb-false}
+use Rattle.laws.proofs.Prelude.{ℕ, _*_, _≤_, _<_, _≡_, refl, sym, _∙_, Bool, true, false, not, List, [], _∷_, eqb, lit<, length, eqb-true}
+use Rattle.laws.proofs.Prelude.{eqb-false, eq-eqb, ne-eqb, arith}
 use Rattle.laws.specs.Booleans.{split}
 use Rattle.laws.specs.Failing.{firstFailing, passed, passed-append, failed-append, answer-below, fails, passes, none-left}
 use Rattle.laws.specs.Gather.{length-gather}

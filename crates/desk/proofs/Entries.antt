@@ -1,12 +1,7 @@
 -- The entries in the buffer afterwards.
 -- Assumes nothing.
-use Prim.Native.Nat.{ℕ, _+_, _*_, _≤_, _<_}
-use native.Mathlib.Omega.{arith}
-use mathlib.Core.Path.{_≡_, refl, _∙_}
-use mathlib.Core.List.{List}
-use lib.Dec.{eqb, leb}
-use lib.ListN.{length, getD}
-use borrow.Author.Tests.{eqb-true, eqb-false, leb-true, leb-false}
+use Rattle.laws.proofs.Prelude.{ℕ, _+_, _*_, _≤_, _<_, _≡_, refl, _∙_, List, eqb, leb, length, getD, eqb-true, eqb-false, leb-true}
+use Rattle.laws.proofs.Prelude.{leb-false, arith}
 use Rattle.laws.specs.Booleans.{split}
 use Rattle.laws.specs.Failing.{firstFailing}
 use Rattle.laws.specs.Gather.{gather-at}

@@ -1,12 +1,7 @@
 -- Computed examples: the parts of a bundle, the answers of a desk with its refusals on both sides, and the words of the claims.
 -- Assumes nothing.
-use Prim.Native.Nat.{ℕ, zero, suc, _+_, _*_, _≤_, _<_}
-use native.Mathlib.Omega.{arith}
-use mathlib.Core.Path.{_≡_, refl, ap}
-use mathlib.Core.Bool.{true, false}
-use mathlib.Core.Logic.{_⊎_, inl, inr}
-use mathlib.Core.List.{List, [], _∷_, _++_}
-use lib.ListN.{length, getD, replicate, set, length-set}
+use Rattle.laws.proofs.Prelude.{ℕ, zero, suc, _+_, _*_, _≤_, _<_, _≡_, refl, ap, true, false, List, [], _∷_, _++_, _⊎_, inl, inr, length}
+use Rattle.laws.proofs.Prelude.{getD, replicate, set, length-set, arith}
 use lib.Seq.{getD-set-other}
 use Rattle.laws.specs.Booleans.{either}
 use Rattle.laws.specs.Sum.{sumBelow}

@@ -1,11 +1,9 @@
 -- Lists of a list's elements, end to end: where each stands.
 -- Assumes nothing.
-use Prim.Native.Nat.{ℕ, zero, suc, _+_, _*_, _≤_, _<_}
-use native.Mathlib.Omega.{arith}
+use Rattle.laws.proofs.Prelude.{ℕ, zero, suc, _+_, _*_, _≤_, _<_, _≡_, refl, sym, ap, _∙_, List, [], _∷_, _++_, append-assoc, append-nil}
+use Rattle.laws.proofs.Prelude.{length, getD, take, drop, length-append, arith}
 use native.Mathlib.Nat.{mul-zero, mul-suc, not-suc-le-zero, le-of-suc-le-suc}
-use mathlib.Core.Path.{_≡_, refl, sym, ap, _∙_}
-use mathlib.Core.List.{List, [], _∷_, _++_, flatMap, append-assoc, append-nil}
-use lib.ListN.{length, take, drop, getD, length-append}
+use mathlib.Core.List.{flatMap}
 use lib.Seq.{take-append-seam, drop-append-add}
 use Rattle.laws.specs.All.{All, also}
 use Rattle.laws.specs.Gather.{gather, gather-none}

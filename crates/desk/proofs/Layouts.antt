@@ -1,13 +1,9 @@
 -- The parts of a bundle that is laid out from its swaps are theirs.
 -- Assumes nothing.
-use Prim.Native.Nat.{ℕ, zero, suc, _+_, _-_, _*_, _≤_, _<_}
-use native.Mathlib.Omega.{arith}
-use mathlib.Core.Path.{_≡_, refl, ap, _∙_}
-use mathlib.Core.Bool.{true}
-use mathlib.Core.List.{List, [], _∷_, _++_, flatMap, append-nil}
-use lib.ListN.{length, take, drop, getD, length-append}
+use Rattle.laws.proofs.Prelude.{ℕ, zero, suc, _+_, _-_, _*_, _≤_, _<_, _≡_, refl, ap, _∙_, true, List, [], _∷_, _++_, append-nil, length}
+use Rattle.laws.proofs.Prelude.{getD, take, drop, length-append, eq-eqb, le-leb, arith}
+use mathlib.Core.List.{flatMap}
 use lib.Seq.{take-all, drop-append-add}
-use borrow.Author.Tests.{eq-eqb, le-leb}
 use Rattle.laws.specs.All.{All, empty, also, all-weaken}
 use Rattle.laws.specs.Little.{bytesOf, numberAt, length-bytes, number-part, number-back}
 use Rattle.laws.specs.Sum.{sumBelow, sum-same}

@@ -1,10 +1,6 @@
 -- The answers of the swaps, one after the other: what each need of their writer asks.
 -- Assumes nothing.
-use Prim.Native.Nat.{ℕ, _+_, _-_, _*_, _≤_, _<_}
-use native.Mathlib.Omega.{arith}
-use mathlib.Core.Path.{_≡_, sym}
-use mathlib.Core.List.{List, _++_}
-use lib.ListN.{length, take, drop}
+use Rattle.laws.proofs.Prelude.{ℕ, _+_, _-_, _*_, _≤_, _<_, _≡_, sym, List, _++_, length, take, drop, arith}
 use borrow.Rule.Slice.PartMut.{putMid}
 use Rattle.laws.specs.Gather.{gather, length-gather}
 use Rattle.laws.specs.Little.{bytesOf}

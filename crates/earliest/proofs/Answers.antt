@@ -1,13 +1,7 @@
 -- The answer of the call, case by case, and how large it can be.
 -- Assumes nothing.
-use Prim.Native.Nat.{ℕ, _*_, _^_, _≤_, _<_}
-use native.Mathlib.Omega.{arith}
-use mathlib.Core.Path.{_≡_, refl, sym, _∙_}
-use mathlib.Core.Bool.{true, not, _&&_}
-use mathlib.Core.List.{List, _++_}
-use lib.Dec.{eqb, ltb, lit<}
-use lib.ListN.{length}
-use borrow.Author.Tests.{eq-eqb, ne-eqb, eqb-true, not-true}
+use Rattle.laws.proofs.Prelude.{ℕ, _*_, _^_, _≤_, _<_, _≡_, refl, sym, _∙_, true, not, _&&_, List, _++_, eqb, ltb, lit<, length, eqb-true}
+use Rattle.laws.proofs.Prelude.{eq-eqb, ne-eqb, not-true, arith}
 use Rattle.laws.specs.Booleans.{split, and-parts}
 use Rattle.laws.specs.Below.{allBelow, all-at}
 use Rattle.laws.specs.Failing.{firstFailing, answer-below, passed, passed-append, failed-append, front-passes}

@@ -1,11 +1,6 @@
 -- Why an ending is impossible.
 -- Assumes nothing.
-use Prim.Native.Nat.{ℕ, _<_}
-use mathlib.Core.Path.{_≡_}
-use mathlib.Core.Bool.{false, not, _&&_}
-use mathlib.Core.List.{List}
-use lib.Dec.{eqb, leb}
-use borrow.Author.Tests.{eqb-true, eqb-false, leb-false, not-false}
+use Rattle.laws.proofs.Prelude.{ℕ, _<_, _≡_, false, not, _&&_, List, eqb, leb, eqb-true, eqb-false, leb-false, not-false}
 use Rattle.laws.specs.Booleans.{split, and-parts, or-neither}
 use Rattle.laws.specs.Below.{allBelow, all-fails}
 use Rattle.laws.specs.Mask.{bit}

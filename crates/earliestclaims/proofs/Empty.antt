@@ -1,11 +1,7 @@
 -- The empty mask: nothing is planned, nothing is refused.
 -- Assumes nothing.
-use Prim.Native.Nat.{ℕ, zero, suc, _+_, _^_, _<_}
-use mathlib.Core.Path.{_≡_, refl}
-use mathlib.Core.Bool.{true, false, _&&_}
-use mathlib.Core.List.{List, []}
+use Rattle.laws.proofs.Prelude.{ℕ, zero, suc, _+_, _^_, _<_, _≡_, refl, true, false, _&&_, List, [], lt-ltb}
 use lib.Pow.{pow-pos}
-use borrow.Author.Tests.{lt-ltb}
 use Rattle.laws.specs.Booleans.{clash}
 use Rattle.laws.specs.Below.{any-all-false, all-from}
 use Rattle.laws.specs.Bits.{no-bit}

@@ -1,13 +1,9 @@
 -- Over an empty chain, no block and none mined, the soonest block is the earliest one.
 -- Assumes nothing.
-use Prim.Native.Nat.{ℕ, zero, suc, _+_, _<_, max}
+use Rattle.laws.proofs.Prelude.{ℕ, zero, suc, _+_, _<_, _≡_, sym, _∙_, true, false, List, ltb, eqb-true, ltb-true, ltb-false, lt-ltb}
+use Rattle.laws.proofs.Prelude.{le-ltb, arith}
+use Prim.Native.Nat.{max}
 use native.Mathlib.Nat.{max-eq-left, max-eq-right, le-max-left}
-use native.Mathlib.Omega.{arith}
-use mathlib.Core.Path.{_≡_, sym, _∙_}
-use mathlib.Core.Bool.{true, false}
-use mathlib.Core.List.{List}
-use lib.Dec.{ltb}
-use borrow.Author.Tests.{lt-ltb, le-ltb, ltb-true, ltb-false, eqb-true}
 use Rattle.laws.specs.Booleans.{split}
 use Rattle.laws.specs.Climb.{climb-step}
 use Rattle.sheet.specs.Field.{count, parent, opening}

@@ -1,14 +1,9 @@
 -- A list that the ledger takes has one paying entry of a coin at most; so one that confirms a mask's shows that mask possible.
 -- Assumes nothing.
-use Prim.Native.Nat.{ℕ, zero, suc, _≤_, _<_}
-use native.Mathlib.Omega.{arith}
-use mathlib.Core.Path.{_≡_, refl, sym, ap, _∙_}
-use mathlib.Core.Bool.{true, false}
-use mathlib.Core.List.{List, [], _∷_}
+use Rattle.laws.proofs.Prelude.{ℕ, zero, suc, _≤_, _<_, _≡_, refl, sym, ap, _∙_, true, false, List, [], _∷_, eqb, ltb, eqb-true, ltb-true}
+use Rattle.laws.proofs.Prelude.{ltb-false, eq-eqb, arith}
 use mathlib.Core.Option.{Option, some}
-use lib.Dec.{eqb, ltb}
 use lib.ListN.{getElem?}
-use borrow.Author.Tests.{eqb-true, eq-eqb, ltb-true, ltb-false}
 use Rattle.laws.specs.Booleans.{split, clash, fails-by}
 use Rattle.laws.specs.All.{All, also, none-some, some-same, all-place}
 use Rattle.laws.specs.Mask.{bit}

@@ -1,13 +1,7 @@
 -- The tests 33 and 34, read.
 -- Assumes nothing.
-use Prim.Native.Nat.{ℕ, _*_, _^_, _≤_, _<_}
-use native.Mathlib.Omega.{arith}
-use mathlib.Core.Path.{_≡_, refl}
-use mathlib.Core.Bool.{Bool, true, false, not, _&&_, _||_}
-use mathlib.Core.List.{List}
-use lib.Dec.{eqb, ltb, leb}
-use lib.ListN.{length}
-use borrow.Author.Tests.{eqb-true, eqb-false, eq-eqb, leb-true, le-leb, ltb-true, ltb-false, not-true}
+use Rattle.laws.proofs.Prelude.{ℕ, _*_, _^_, _≤_, _<_, _≡_, refl, Bool, true, false, not, _&&_, _||_, List, eqb, ltb, leb, length, eqb-true}
+use Rattle.laws.proofs.Prelude.{eqb-false, ltb-true, ltb-false, leb-true, eq-eqb, le-leb, not-true, arith}
 use Rattle.laws.specs.Booleans.{split, and-parts, implied}
 use Rattle.laws.specs.Below.{allBelow, all-at, all-from}
 use Rattle.laws.specs.Mask.{bit}

@@ -1,13 +1,7 @@
 -- Earliest lists and their refusals, computed: one table over a small sheet at 2 blocks per day; and the words of the claims on both
 -- sides.
 -- Assumes nothing.
-use Prim.Native.Nat.{ℕ}
-use native.Mathlib.Omega.{arith}
-use mathlib.Core.Path.{_≡_, refl, ap, sym, _∙_}
-use mathlib.Core.Bool.{Bool, true, _&&_, false≢true}
-use mathlib.Core.List.{List, [], _∷_, _++_}
-use lib.Dec.{eqb, lit<}
-use lib.ListN.{getD}
+use Rattle.laws.proofs.Prelude.{ℕ, _≡_, refl, sym, ap, _∙_, Bool, true, _&&_, false≢true, List, [], _∷_, _++_, eqb, lit<, getD, arith}
 use Rattle.laws.specs.All.{some-same}
 use Rattle.laws.specs.Gather.{every}
 use Rattle.laws.specs.Same.{same}

@@ -1,15 +1,8 @@
 -- Accepted block lists: none confirms a transaction before its earliest block, one that confirms a mask's shows it possible, and a possible plan is one.
 -- Assumes nothing.
-use Prim.Native.Nat.{ℕ, _≤_, _<_}
-use native.Mathlib.Omega.{arith}
-use mathlib.Core.Path.{_≡_, refl, sym}
-use mathlib.Core.Bool.{true}
-use mathlib.Core.Logic.{_⊎_, inl, inr}
-use mathlib.Core.List.{List}
+use Rattle.laws.proofs.Prelude.{ℕ, _≤_, _<_, _≡_, refl, sym, true, List, _⊎_, inl, inr, ltb, ltb-true, ltb-false, eq-eqb, arith}
 use mathlib.Core.Option.{some}
-use lib.Dec.{ltb}
 use lib.ListN.{getElem?}
-use borrow.Author.Tests.{ltb-true, ltb-false, eq-eqb}
 use Rattle.laws.specs.Booleans.{split, either, clash}
 use Rattle.laws.specs.All.{All, all-weaken}
 use Rattle.laws.specs.Mask.{bit}

@@ -1,15 +1,9 @@
 -- No entry of a list that the ledger takes, in order, is of an earlier block than its transaction's earliest.
 -- Assumes nothing.
-use Prim.Native.Nat.{ℕ, zero, suc, _+_, _≤_, _<_}
+use Rattle.laws.proofs.Prelude.{ℕ, zero, suc, _+_, _≤_, _<_, _≡_, _∙_, true, false, List, eqb, eqb-true, lt-ltb, le-ltb, arith}
 use native.Mathlib.Nat.{max-le, le-max-left, le-max-right}
-use native.Mathlib.Omega.{arith}
-use mathlib.Core.Path.{_≡_, _∙_}
-use mathlib.Core.Bool.{true, false}
-use mathlib.Core.List.{List}
 use mathlib.Core.Option.{some}
-use lib.Dec.{eqb}
 use lib.ListN.{getElem?}
-use borrow.Author.Tests.{lt-ltb, le-ltb, eqb-true}
 use Rattle.laws.specs.Booleans.{split, clash}
 use Rattle.laws.specs.All.{All, all-place}
 use Rattle.laws.specs.Climb.{climb-step}

@@ -1,14 +1,9 @@
 -- The plan of a mask that is possible: its entries rise, and each may stand where it does.
 -- Assumes nothing.
-use Prim.Native.Nat.{ℕ, _+_, _≤_, _<_}
-use native.Mathlib.Omega.{arith}
-use mathlib.Core.Path.{_≡_, refl, sym, ap, _∙_}
-use mathlib.Core.Bool.{true, false, _&&_}
-use mathlib.Core.List.{List, List·Memᴰ, List·Memᴰ·head, List·Memᴰ·not-nil, List·Memᴰ·eq-of-singleton}
+use Rattle.laws.proofs.Prelude.{ℕ, _+_, _≤_, _<_, _≡_, refl, sym, ap, _∙_, true, false, _&&_, List, eqb, eqb-true, eq-eqb, arith}
+use mathlib.Core.List.{List·Memᴰ, List·Memᴰ·head, List·Memᴰ·not-nil, List·Memᴰ·eq-of-singleton}
 use mathlib.Core.Option.{some}
-use lib.Dec.{eqb}
 use lib.ListN.{getElem?}
-use borrow.Author.Tests.{eqb-true, eq-eqb}
 use Rattle.laws.specs.Booleans.{split, either, and-parts, fails-by}
 use Rattle.laws.specs.Below.{any-found, any-some}
 use Rattle.laws.specs.Gather.{gather}

@@ -1,9 +1,6 @@
 -- An ending that is possible, and one that a list confirms to whatever destinations.
 -- Assumes nothing.
-use Prim.Native.Nat.{ℕ, _<_, _≤_}
-use mathlib.Core.Path.{_≡_}
-use mathlib.Core.Bool.{true}
-use mathlib.Core.List.{List}
+use Rattle.laws.proofs.Prelude.{ℕ, _≤_, _<_, _≡_, true, List}
 use mathlib.Core.Option.{some}
 use lib.ListN.{getElem?}
 use Rattle.laws.specs.Mask.{bit}

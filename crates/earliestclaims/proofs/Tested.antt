@@ -1,13 +1,6 @@
 -- The words of the claims by tests, for computed examples.
 -- Assumes nothing.
-use Prim.Native.Nat.{ℕ, _<_}
-use native.Mathlib.Omega.{arith}
-use mathlib.Core.Path.{_≡_}
-use mathlib.Core.Bool.{Bool, true, not, _&&_, _||_}
-use mathlib.Core.List.{List}
-use lib.Dec.{eqb}
-use lib.ListN.{length}
-use borrow.Author.Tests.{eqb-true, eq-eqb, leb-true}
+use Rattle.laws.proofs.Prelude.{ℕ, _<_, _≡_, Bool, true, not, _&&_, _||_, List, eqb, length, eqb-true, leb-true, eq-eqb, arith}
 use Rattle.laws.specs.Booleans.{and-parts}
 use Rattle.laws.specs.Below.{allBelow, anyBelow, all-at, any-found, any-some}
 use Rattle.laws.specs.Mask.{bit}

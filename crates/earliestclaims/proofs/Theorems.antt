@@ -1,15 +1,10 @@
 -- Slip 11, for a reader: what the earliest block is, case by case, and what the answer comes to.
 -- Assumes nothing.
-use Prim.Native.Nat.{ℕ, _+_, _*_, _≤_, _<_, max}
+use Rattle.laws.proofs.Prelude.{ℕ, _+_, _*_, _≤_, _<_, _≡_, refl, sym, _∙_, true, false, List, [], _++_, eqb, ltb, length, take, drop}
+use Rattle.laws.proofs.Prelude.{eqb-true, eqb-false, ltb-true, ltb-false, lt-ltb, le-ltb, arith}
+use Prim.Native.Nat.{max}
 use native.Mathlib.Nat.{max-eq-left, max-eq-right, zero-add}
-use native.Mathlib.Omega.{arith}
-use mathlib.Core.Path.{_≡_, refl, sym, _∙_}
-use mathlib.Core.Bool.{true, false}
-use mathlib.Core.List.{List, [], _++_}
-use lib.Dec.{eqb, ltb}
-use lib.ListN.{length, take, drop}
 use lib.Seq.{sets-eq, drop-at}
-use borrow.Author.Tests.{eqb-true, eqb-false, ltb-true, ltb-false, lt-ltb, le-ltb}
 use Rattle.laws.specs.Booleans.{split, fails-by, clash}
 use Rattle.laws.specs.Failing.{firstFailing, passed, passed-append}
 use Rattle.laws.specs.Over.{over, take-over, length-over, stores-over}

@@ -1,15 +1,10 @@
 -- What the words of the claims come to, computed on the sheet of Examples.antt: that a list confirms an ending to these destinations and to no
 -- others; what is said of the list written to pay Bob from the first coin; why an ending is impossible.
 -- Assumes nothing.
-use Prim.Native.Nat.{ℕ, zero, suc, _<_}
-use native.Mathlib.Omega.{arith}
-use mathlib.Core.Path.{_≡_, refl, ap}
-use mathlib.Core.Bool.{Bool, true, false, not, _&&_, _||_, false≢true}
-use mathlib.Core.List.{List, [], _∷_}
+use Rattle.laws.proofs.Prelude.{ℕ, zero, suc, _<_, _≡_, refl, ap, Bool, true, false, not, _&&_, _||_, false≢true, List, [], _∷_, eqb, ltb}
+use Rattle.laws.proofs.Prelude.{eqb-true, eq-eqb, ne-eqb, lt-ltb, arith}
 use mathlib.Core.Option.{some}
-use lib.Dec.{eqb, ltb}
 use lib.ListN.{getElem?}
-use borrow.Author.Tests.{eqb-true, eq-eqb, ne-eqb, lt-ltb}
 use Rattle.laws.specs.All.{none-some, some-same}
 use Rattle.laws.specs.Below.{allBelow, all-at}
 use Rattle.laws.specs.Mask.{bit}

@@ -1,11 +1,7 @@
 -- The lock over a parent's block, and the earliest block over it.
 -- Assumes nothing.
-use Prim.Native.Nat.{ℕ, _+_, _≤_, _<_}
+use Rattle.laws.proofs.Prelude.{ℕ, _+_, _≤_, _<_, _≡_, sym, _∙_, List, eq-eqb, ne-eqb, lt-ltb, le-ltb, arith}
 use native.Mathlib.Nat.{max-eq-left, max-eq-right}
-use native.Mathlib.Omega.{arith}
-use mathlib.Core.Path.{_≡_, sym, _∙_}
-use mathlib.Core.List.{List}
-use borrow.Author.Tests.{eq-eqb, ne-eqb, lt-ltb, le-ltb}
 use Rattle.laws.specs.Climb.{climb-step}
 use Rattle.sheet.specs.Field.{parent, lockType}
 use Rattle.sheet.specs.LockHeight.{lockBlocks}

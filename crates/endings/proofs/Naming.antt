@@ -1,12 +1,7 @@
 -- The tests of an ending, from what the code finds.
 -- Assumes nothing.
-use Prim.Native.Nat.{ℕ, _*_, _^_}
-use mathlib.Core.Path.{_≡_, sym, _∙_}
-use mathlib.Core.Bool.{Bool, true, false, not, _&&_}
-use mathlib.Core.List.{List}
-use lib.Dec.{eqb, ltb, leb}
-use lib.ListN.{length}
-use borrow.Author.Tests.{eq-eqb, ne-eqb, not-true, not-false}
+use Rattle.laws.proofs.Prelude.{ℕ, _*_, _^_, _≡_, sym, _∙_, Bool, true, false, not, _&&_, List, eqb, ltb, leb, length, eq-eqb, ne-eqb}
+use Rattle.laws.proofs.Prelude.{not-true, not-false}
 use Rattle.laws.specs.Below.{allBelow}
 use Rattle.laws.specs.Booleans.{split}
 use Rattle.laws.specs.Mask.{bit}

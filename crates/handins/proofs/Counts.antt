@@ -1,10 +1,6 @@
 -- Slip 9's counts beside a position and beside that whose block is emptied: a step of kind 1, 2 or 3, and a row of them.
 -- Assumes nothing.
-use Prim.Native.Nat.{ℕ}
-use mathlib.Core.Path.{_≡_, refl, sym, fun-ext, _∙_}
-use mathlib.Core.Bool.{true}
-use mathlib.Core.List.{List, [], _∷_}
-use lib.Dec.{eqb}
+use Rattle.laws.proofs.Prelude.{ℕ, _≡_, refl, sym, _∙_, fun-ext, true, List, [], _∷_, eqb}
 use Rattle.laws.specs.Booleans.{split, and-parts}
 use Rattle.laws.specs.Gather.{every}
 use Rattle.sheet.specs.Refusal.{accepted}

@@ -1,11 +1,7 @@
 -- What a step of kind 1, 2 or 3 does leaves the block alone: it does the same to the position whose block is emptied.
 -- Assumes nothing.
-use Prim.Native.Nat.{ℕ, zero, suc}
-use mathlib.Core.Path.{_≡_, refl, ap, _∙_}
-use mathlib.Core.Bool.{true}
-use mathlib.Core.List.{List, [], _∷_, map}
-use lib.Dec.{eqb}
-use lib.ListN.{set}
+use Rattle.laws.proofs.Prelude.{ℕ, zero, suc, _≡_, refl, ap, _∙_, true, List, [], _∷_, eqb, set}
+use mathlib.Core.List.{map}
 use Rattle.laws.specs.Booleans.{split, clash}
 use Rattle.slots.specs.declared.Slot.{Slot}
 use Rattle.slots.specs.declared.Step.{Step}

@@ -1,8 +1,6 @@
 -- What the rules read of a position whose block is emptied: everything but the block is as it was.
 -- Assumes nothing.
-use Prim.Native.Nat.{ℕ}
-use mathlib.Core.Path.{_≡_, refl, sym, ap, fun-ext, _∙_}
-use mathlib.Core.List.{List}
+use Rattle.laws.proofs.Prelude.{ℕ, _≡_, refl, sym, ap, _∙_, fun-ext, List}
 use lib.ListN.{List·getD-map}
 use Rattle.slots.specs.declared.Slot.{Slot}
 use Rattle.slots.specs.Slot.{emptySlot, standing, withBlock, sharedFor, sharedAny, markedFor, marksOf}

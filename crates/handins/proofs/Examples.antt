@@ -1,9 +1,6 @@
 -- Computed examples on a small sheet: the refusals and the list's bytes before and after a hand-in.
 -- Assumes nothing.
-use Prim.Native.Nat.{ℕ}
-use mathlib.Core.Path.{_≡_, refl}
-use mathlib.Core.List.{List, [], _∷_, _++_}
-use lib.ListN.{replicate}
+use Rattle.laws.proofs.Prelude.{ℕ, _≡_, refl, List, [], _∷_, _++_, replicate}
 use Rattle.sheet.specs.Refusal.{accepted, stepParent}
 use Rattle.slots.specs.Destination.{alice, bob}
 use Rattle.position.specs.Play.{FourBytes, step, run}

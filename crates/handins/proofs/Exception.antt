@@ -1,13 +1,8 @@
 -- The exception comes to this: there are two journals to positions that differ in the block alone, after which Bob has other open steps of
 -- kind 3, and one of these steps other numbers. So the claim would be false of careful conduct with stealth. And where its words are false.
 -- Assumes nothing.
-use Prim.Native.Nat.{ℕ}
-use native.Mathlib.Omega.{arith}
-use mathlib.Core.Path.{_≡_, refl, sym, ap, _∙_}
-use mathlib.Core.Bool.{true, false, false≢true}
-use mathlib.Core.Logic.{inl, inr}
-use mathlib.Core.List.{List, [], _∷_, _++_, flatMap}
-use lib.ListN.{length}
+use Rattle.laws.proofs.Prelude.{ℕ, _≡_, refl, sym, ap, _∙_, true, false, false≢true, List, [], _∷_, _++_, inl, inr, length, arith}
+use mathlib.Core.List.{flatMap}
 use Rattle.sheet.specs.Refusal.{accepted}
 use Rattle.sheet.specs.Saswap.{saswap}
 use Rattle.slots.specs.Destination.{bob}

@@ -1,10 +1,6 @@
 -- A step of kind 1, 2 or 3, and a row of them, leaves every block entry as it was.
 -- Assumes nothing.
-use Prim.Native.Nat.{ℕ}
-use mathlib.Core.Path.{_≡_, refl, ap, _∙_}
-use mathlib.Core.Bool.{true}
-use mathlib.Core.List.{List, [], _∷_}
-use lib.Dec.{eqb}
+use Rattle.laws.proofs.Prelude.{ℕ, _≡_, refl, ap, _∙_, true, List, [], _∷_, eqb}
 use Rattle.laws.specs.Booleans.{split, clash, and-parts}
 use Rattle.laws.specs.Gather.{every}
 use Rattle.slots.specs.declared.Step.{Step}

@@ -1,12 +1,6 @@
 -- What the list call writes, where it answers 0: the bytes of the open steps.
 -- Assumes nothing.
-use Prim.Native.Nat.{ℕ, _*_}
-use native.Mathlib.Omega.{arith}
-use mathlib.Core.Path.{_≡_}
-use mathlib.Core.List.{List}
-use lib.Dec.{eqb, leb}
-use lib.ListN.{length}
-use borrow.Author.Tests.{leb-true, eq-eqb}
+use Rattle.laws.proofs.Prelude.{ℕ, _*_, _≡_, List, eqb, leb, length, leb-true, eq-eqb, arith}
 use Rattle.laws.specs.Booleans.{split, clash}
 use Rattle.laws.specs.Gather.{length-flat}
 use Rattle.laws.specs.Over.{take-over}

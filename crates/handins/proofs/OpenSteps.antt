@@ -1,10 +1,7 @@
 -- The open steps of kinds 1, 2 and 3 of a position are those of that whose block is emptied: by party and kind, and in the list's bytes.
 -- Assumes nothing.
-use Prim.Native.Nat.{ℕ, zero, suc, _+_}
-use mathlib.Core.Path.{_≡_, refl, sym, ap, fun-ext, _∙_}
-use mathlib.Core.Bool.{Bool, true, false}
-use mathlib.Core.List.{List, [], _∷_, _++_, flatMap}
-use lib.Dec.{eqb}
+use Rattle.laws.proofs.Prelude.{ℕ, zero, suc, _+_, _≡_, refl, sym, ap, _∙_, fun-ext, Bool, true, false, List, [], _∷_, _++_, eqb}
+use mathlib.Core.List.{flatMap}
 use Rattle.laws.specs.Booleans.{pick, split}
 use Rattle.laws.specs.Gather.{gather, flat-append}
 use Rattle.sheet.specs.Refusal.{accepted}

@@ -1,13 +1,6 @@
 -- The refusals of kinds 1, 2 and 3 are those on the position whose block is emptied.
 -- Assumes nothing.
-use Prim.Native.Nat.{ℕ}
-use native.Mathlib.Omega.{arith}
-use mathlib.Core.Path.{_≡_, refl, ap, fun-ext}
-use mathlib.Core.Bool.{Bool, true, false, not, _&&_}
-use mathlib.Core.List.{List}
-use lib.Dec.{eqb}
-use lib.ListN.{getD}
-use borrow.Author.Tests.{ne-eqb}
+use Rattle.laws.proofs.Prelude.{ℕ, _≡_, refl, ap, fun-ext, Bool, true, false, not, _&&_, List, eqb, getD, ne-eqb, arith}
 use Rattle.laws.specs.Booleans.{either, clash}
 use Rattle.laws.specs.Below.{anyBelow}
 use Rattle.laws.specs.Failing.{firstFailing}

@@ -1,11 +1,6 @@
 -- A step of kind 1, 2 or 3, and a row of them, on a position and on that whose block is emptied.
 -- Assumes nothing.
-use Prim.Native.Nat.{ℕ}
-use mathlib.Core.Path.{_≡_, refl, sym, ap, _∙_}
-use mathlib.Core.Bool.{true}
-use mathlib.Core.List.{List, [], _∷_}
-use lib.Dec.{eqb}
-use borrow.Author.Tests.{eqb-true, eqb-false}
+use Rattle.laws.proofs.Prelude.{ℕ, _≡_, refl, sym, ap, _∙_, true, List, [], _∷_, eqb, eqb-true, eqb-false}
 use Rattle.laws.specs.Booleans.{split, and-parts}
 use Rattle.laws.specs.Gather.{every}
 use Rattle.sheet.specs.Refusal.{accepted}

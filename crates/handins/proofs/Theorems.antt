@@ -1,7 +1,6 @@
 -- What a hand-in gives away.
 -- Assumes nothing.
-use native.Mathlib.Omega.{arith}
-use mathlib.Core.Path.{_≡_, refl, ap, sym, _∙_}
+use Rattle.laws.proofs.Prelude.{_≡_, refl, sym, ap, _∙_, arith}
 use Rattle.sheet.specs.Saswap.{saswap}
 use Rattle.position.specs.Play.{run, acceptedOf}
 use Rattle.position.specs.Open.{openOf, listBytes}

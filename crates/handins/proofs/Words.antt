@@ -1,11 +1,7 @@
 -- Computed examples: what the words of the claim say, on both sides.
 -- Assumes nothing.
-use Prim.Native.Nat.{ℕ}
-use mathlib.Core.Path.{_≡_, refl, ap}
-use mathlib.Core.Bool.{true, false}
-use mathlib.Core.List.{List, [], _∷_, _++_, map}
-use lib.Dec.{eqb}
-use borrow.Author.Tests.{eqb-false}
+use Rattle.laws.proofs.Prelude.{ℕ, _≡_, refl, ap, true, false, List, [], _∷_, _++_, eqb, eqb-false}
+use mathlib.Core.List.{map}
 use Rattle.laws.specs.Gather.{every}
 use Rattle.sheet.specs.Saswap.{saswap}
 use Rattle.sheet.specs.LockHeight.{never}

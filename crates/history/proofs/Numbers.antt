@@ -1,11 +1,6 @@
 -- The number: the sheet's tests, then the setup's, then the room of the two buffers.
 -- Assumes nothing.
-use Prim.Native.Nat.{ℕ, _*_, _≤_, _<_}
-use mathlib.Core.Path.{_≡_, refl, sym, _∙_}
-use mathlib.Core.Bool.{Bool}
-use mathlib.Core.List.{List, [], _∷_, _++_}
-use lib.ListN.{length}
-use borrow.Author.Tests.{le-leb, lt-leb}
+use Rattle.laws.proofs.Prelude.{ℕ, _*_, _≤_, _<_, _≡_, refl, sym, _∙_, Bool, List, [], _∷_, _++_, length, le-leb, lt-leb}
 use Rattle.laws.specs.Failing.{firstFailing, passed-append, failed-append}
 use Rattle.sheet.specs.Refusal.{bufferShort}
 use Rattle.sheet.specs.Field.{count}

@@ -1,12 +1,7 @@
 -- A list of steps played group by group: what is left to do from each group on comes to the whole.
 -- Assumes nothing.
-use Prim.Native.Nat.{ℕ, _+_, _*_, _≤_, _<_}
+use Rattle.laws.proofs.Prelude.{ℕ, _+_, _*_, _≤_, _<_, _≡_, refl, sym, ap, _∙_, List, [], _∷_, _++_, eqb, length, length-append, arith}
 use native.Mathlib.Nat.{zero-add, add-zero}
-use native.Mathlib.Omega.{arith}
-use mathlib.Core.Path.{_≡_, refl, sym, ap, _∙_}
-use mathlib.Core.List.{List, [], _∷_, _++_}
-use lib.Dec.{eqb}
-use lib.ListN.{length, length-append}
 use Rattle.laws.specs.Booleans.{pick, split}
 use Rattle.position.specs.declared.Position.{Position}
 use Rattle.position.specs.declared.Stepped.{Stepped}

@@ -1,10 +1,6 @@
 -- The promise, for each return of the code.
 -- Assumes nothing.
-use Prim.Native.Nat.{ℕ, _*_, _≤_, _<_}
-use native.Mathlib.Omega.{arith}
-use mathlib.Core.Path.{_≡_, refl, sym, ap, _∙_}
-use mathlib.Core.List.{List}
-use lib.ListN.{length, take}
+use Rattle.laws.proofs.Prelude.{ℕ, _*_, _≤_, _<_, _≡_, refl, sym, ap, _∙_, List, length, take, arith}
 use Rattle.laws.specs.Over.{over, take-over}
 use Rattle.sheet.specs.Refusal.{bufferShort}
 use Rattle.sheet.specs.Field.{count}

@@ -1,10 +1,6 @@
 -- What the promise comes to.
 -- Assumes nothing.
-use Prim.Native.Nat.{ℕ}
-use mathlib.Core.Path.{_≡_, sym, _∙_}
-use mathlib.Core.List.{List}
-use lib.Dec.{eqb}
-use borrow.Author.Tests.{eqb-true, eqb-false}
+use Rattle.laws.proofs.Prelude.{ℕ, _≡_, sym, _∙_, List, eqb, eqb-true, eqb-false}
 use Rattle.laws.specs.Booleans.{split}
 use Rattle.history.specs.declared.Outcome.{Outcome}
 use Rattle.history.specs.Promise.{Demand3}

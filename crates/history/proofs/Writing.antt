@@ -1,10 +1,6 @@
 -- The bytes of the accepted steps, group by group.
 -- Assumes nothing.
-use Prim.Native.Nat.{ℕ, _+_, _-_, _*_, _≤_, _<_}
-use mathlib.Core.Path.{_≡_, ap, _∙_}
-use mathlib.Core.List.{List, [], _++_}
-use lib.Dec.{eqb}
-use lib.ListN.{length, take, drop}
+use Rattle.laws.proofs.Prelude.{ℕ, _+_, _-_, _*_, _≤_, _<_, _≡_, ap, _∙_, List, [], _++_, eqb, length, take, drop}
 use Rattle.laws.specs.Booleans.{split}
 use Rattle.sheet.specs.Field.{byte}
 use Rattle.output.specs.Forms.Emitted.{emitted}

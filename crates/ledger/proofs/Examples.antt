@@ -1,10 +1,6 @@
 -- What the plain ledger takes and refuses, computed: one table over a small sheet at 2 blocks per day.
 -- Assumes nothing.
-use Prim.Native.Nat.{ℕ}
-use mathlib.Core.Path.{_≡_, refl}
-use mathlib.Core.Bool.{Bool, true, not, _&&_}
-use mathlib.Core.List.{List, [], _∷_, _++_}
-use lib.Dec.{eqb}
+use Rattle.laws.proofs.Prelude.{ℕ, _≡_, refl, Bool, true, not, _&&_, List, [], _∷_, _++_, eqb}
 use Rattle.laws.specs.Climb.{climbIn, climb}
 use Rattle.laws.specs.Gather.{every}
 use Rattle.sheet.specs.Check.{sheetRefusal}

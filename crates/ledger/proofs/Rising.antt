@@ -1,14 +1,9 @@
 -- Entries in order: no entry has a lower block than an earlier one.
 -- Assumes nothing.
-use Prim.Native.Nat.{ℕ, zero, suc, _≤_, _<_}
-use native.Mathlib.Omega.{arith}
-use mathlib.Core.Path.{_≡_, refl}
-use mathlib.Core.Bool.{true, _&&_}
-use mathlib.Core.List.{List, [], _∷_}
+use Rattle.laws.proofs.Prelude.{ℕ, zero, suc, _≤_, _<_, _≡_, refl, true, _&&_, List, [], _∷_, eqb, ltb, eqb-true, ltb-true, ltb-false}
+use Rattle.laws.proofs.Prelude.{eq-eqb, lt-ltb, arith}
 use mathlib.Core.Option.{some}
-use lib.Dec.{eqb, ltb}
 use lib.ListN.{getElem?}
-use borrow.Author.Tests.{eqb-true, eq-eqb, ltb-true, ltb-false, lt-ltb}
 use Rattle.laws.specs.Booleans.{split, either, and-parts, or-parts}
 use Rattle.laws.specs.All.{All, empty, also, all-weaken, none-some, some-same, all-place}
 use Rattle.ledger.specs.Entry.{Entry, before, inOrder}

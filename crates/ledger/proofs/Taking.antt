@@ -1,12 +1,8 @@
 -- What the plain ledger takes, and what it keeps then.
 -- Assumes nothing.
-use Prim.Native.Nat.{ℕ, _<_}
-use mathlib.Core.Path.{_≡_, refl}
-use mathlib.Core.Bool.{true, false, not, _&&_}
-use mathlib.Core.List.{List, _∷_}
+use Rattle.laws.proofs.Prelude.{ℕ, _<_, _≡_, refl, true, false, not, _&&_, List, _∷_, eqb, ltb, eqb-true, ltb-true, eq-eqb, lt-ltb}
+use Rattle.laws.proofs.Prelude.{not-true}
 use mathlib.Core.Option.{Option, none, some}
-use lib.Dec.{eqb, ltb}
-use borrow.Author.Tests.{eq-eqb, lt-ltb, eqb-true, ltb-true, not-true}
 use Rattle.laws.specs.Booleans.{split, clash, and-parts}
 use Rattle.sheet.specs.Field.{parent, opening}
 use Rattle.ledger.specs.Entry.{Entry}

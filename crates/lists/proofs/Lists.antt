@@ -1,10 +1,6 @@
 -- What the list answers, from the actors' sets, and how large it can be.
 -- Assumes nothing.
-use Prim.Native.Nat.{ℕ, _*_, _≤_, _<_}
-use native.Mathlib.Omega.{arith}
-use mathlib.Core.Path.{_≡_, refl, sym, ap, _∙_}
-use mathlib.Core.List.{List, _++_, append-assoc}
-use lib.ListN.{length, length-append}
+use Rattle.laws.proofs.Prelude.{ℕ, _*_, _≤_, _<_, _≡_, refl, sym, ap, _∙_, List, _++_, append-assoc, length, length-append, arith}
 use Rattle.laws.specs.Over.{over}
 use Rattle.slots.specs.Destination.{alice, bob, carol, miner}
 use Rattle.output.specs.Forms.Emitted.{actorBytes}

@@ -1,9 +1,7 @@
 -- Document 02, Slip 10 on a small ring, computed: its list, a gift to either other party, a payout to Carol; its checks; party and destination 3 on a
 -- sheet of two.
 -- Assumes nothing.
-use Prim.Native.Nat.{ℕ}
-use mathlib.Core.Path.{_≡_, refl}
-use mathlib.Core.List.{List, [], _∷_, _++_}
+use Rattle.laws.proofs.Prelude.{ℕ, _≡_, refl, List, [], _∷_, _++_}
 use Rattle.sheet.specs.Check.{sheetRefusal}
 use Rattle.sheet.specs.Setup.{setupRefusal}
 use Rattle.slots.specs.Destination.{carol}

@@ -1,10 +1,6 @@
 -- Kinds 6 and 7: a mined block, and a bump.
 -- Assumes nothing.
-use Prim.Native.Nat.{ℕ, _+_, _≤_}
-use mathlib.Core.Path.{_≡_, refl, fun-ext}
-use mathlib.Core.Bool.{Bool, true, false, not, _&&_, _||_}
-use mathlib.Core.List.{List}
-use lib.ListN.{length}
+use Rattle.laws.proofs.Prelude.{ℕ, _+_, _≤_, _≡_, refl, fun-ext, Bool, true, false, not, _&&_, _||_, List, length}
 use Rattle.laws.specs.Booleans.{pick, split, and-parts}
 use Rattle.sheet.specs.Field.{count}
 use Rattle.slots.specs.declared.Slot.{Slot}

@@ -1,13 +1,7 @@
 -- Kinds 3, 4 and 5: one transaction more waits in the pool, or in the block being filled.
 -- Assumes nothing.
-use Prim.Native.Nat.{ℕ, _+_, _<_}
-use native.Mathlib.Omega.{arith}
-use mathlib.Core.Path.{_≡_, refl, ap, _∙_, fun-ext}
-use mathlib.Core.Bool.{Bool, true, false, _||_}
-use mathlib.Core.List.{List}
-use lib.Dec.{eqb}
-use lib.ListN.{length}
-use borrow.Author.Tests.{eqb-true, lt-ltb}
+use Rattle.laws.proofs.Prelude.{ℕ, _+_, _<_, _≡_, refl, ap, _∙_, fun-ext, Bool, true, false, _||_, List, eqb, length, eqb-true, lt-ltb}
+use Rattle.laws.proofs.Prelude.{arith}
 use Rattle.laws.specs.Booleans.{pick, split}
 use Rattle.slots.specs.declared.Slot.{Slot}
 use Rattle.slots.specs.Slot.{standing, entryFor, entryTo, withPool, withBlock, withShared}

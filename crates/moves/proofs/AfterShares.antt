@@ -1,13 +1,6 @@
 -- Kinds 1 and 2: a share and a give leave pool, block and confirmations alone.
 -- Assumes nothing.
-use Prim.Native.Nat.{ℕ, _≤_, _<_}
-use native.Mathlib.Omega.{arith}
-use mathlib.Core.Path.{_≡_, refl, _∙_}
-use mathlib.Core.Bool.{true, false}
-use mathlib.Core.List.{List, [], _∷_}
-use lib.Dec.{eqb, ltb}
-use lib.ListN.{length}
-use borrow.Author.Tests.{ltb-true, ne-eqb}
+use Rattle.laws.proofs.Prelude.{ℕ, _≤_, _<_, _≡_, refl, _∙_, true, false, List, [], _∷_, eqb, ltb, length, ltb-true, ne-eqb, arith}
 use Rattle.laws.specs.Booleans.{split, and-parts}
 use Rattle.laws.specs.Gather.{every}
 use Rattle.sheet.specs.Field.{count}

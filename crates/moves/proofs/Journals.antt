@@ -1,14 +1,8 @@
 -- Playing a list, refused steps passed over, and running its accepted steps as a journal come to the same position.
 -- Assumes nothing.
-use Prim.Native.Nat.{ℕ, _+_, _*_, _%_, _≤_}
-use native.Mathlib.Omega.{arith}
+use Rattle.laws.proofs.Prelude.{ℕ, _+_, _*_, _%_, _≤_, _≡_, refl, sym, ap, _∙_, true, false, List, [], _∷_, _++_, eqb, length, eq-eqb}
+use Rattle.laws.proofs.Prelude.{le-leb, arith}
 use native.Mathlib.Nat.{add-zero}
-use mathlib.Core.Path.{_≡_, refl, sym, ap, _∙_}
-use mathlib.Core.Bool.{true, false}
-use mathlib.Core.List.{List, [], _∷_, _++_}
-use lib.Dec.{eqb}
-use lib.ListN.{length}
-use borrow.Author.Tests.{eq-eqb, le-leb}
 use Rattle.laws.specs.Booleans.{split, clash}
 use Rattle.laws.specs.Failing.{firstFailing, passed-append}
 use Rattle.sheet.specs.Refusal.{accepted, journalLength}

@@ -2,16 +2,11 @@
 -- and an inclusion or a bump outside it, P of the other kinds; for each signature P²/4 gives, as a giver holds it and a receiver does not; one
 -- block; and P first shares under conduct. Of the number of parties it is used that there are two at least.
 -- Assumes nothing.
-use Prim.Native.Nat.{ℕ, zero, suc, _+_, _*_, _/_, _≤_, _<_}
-use native.Mathlib.Omega.{arith}
+use Rattle.laws.proofs.Prelude.{ℕ, zero, suc, _+_, _*_, _/_, _≤_, _<_, _≡_, refl, ap, _∙_, Bool, true, false, not, _&&_, List, eqb, ltb}
+use Rattle.laws.proofs.Prelude.{length, length-append, eqb-true, eqb-false, ltb-true, ne-eqb, lt-ltb, le-ltb, arith}
 use native.Mathlib.Numerals.{add-one}
 use native.Mathlib.Nat.{one-mul, mul-le-mul-left}
-use mathlib.Core.Path.{_≡_, refl, ap, _∙_}
-use mathlib.Core.Bool.{Bool, true, false, not, _&&_, and-true}
-use mathlib.Core.List.{List}
-use lib.Dec.{eqb, ltb}
-use lib.ListN.{length, length-append}
-use borrow.Author.Tests.{eqb-true, eqb-false, ne-eqb, lt-ltb, le-ltb, ltb-true}
+use mathlib.Core.Bool.{and-true}
 use Rattle.laws.specs.Booleans.{pick, split, either, clash, and-parts, or-parts}
 use Rattle.laws.specs.Failing.{passed}
 use Rattle.laws.specs.Gather.{gather}

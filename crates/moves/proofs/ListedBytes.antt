@@ -1,11 +1,7 @@
 -- The list's bytes, read as steps, are the bytes of the open steps.
 -- Assumes nothing.
-use Prim.Native.Nat.{ℕ}
-use native.Mathlib.Omega.{arith}
-use mathlib.Core.Path.{_≡_, refl, ap, _∙_}
-use mathlib.Core.List.{List, [], _∷_, _++_, map, flatMap, List·Memᴰ, Memᴰ·cast}
-use lib.Dec.{eqb}
-use borrow.Author.Tests.{eqb-true, eq-eqb}
+use Rattle.laws.proofs.Prelude.{ℕ, _≡_, refl, ap, _∙_, List, [], _∷_, _++_, eqb, eqb-true, eq-eqb, arith}
+use mathlib.Core.List.{map, flatMap, List·Memᴰ, Memᴰ·cast}
 use Rattle.laws.specs.Booleans.{split}
 use Rattle.laws.specs.Members.{Rising, map-member, member-map, rising-map}
 use Rattle.sheet.specs.Refusal.{accepted}

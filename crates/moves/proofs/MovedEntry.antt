@@ -1,10 +1,6 @@
 -- Where entries and shared signatures come from in a send, a hand-in, an inclusion and a bump.
 -- Assumes nothing.
-use Prim.Native.Nat.{ℕ, _<_}
-use mathlib.Core.Path.{_≡_, refl, sym, _∙_}
-use mathlib.Core.Logic.{_⊎_, inl, inr}
-use mathlib.Core.Bool.{true}
-use mathlib.Core.List.{List}
+use Rattle.laws.proofs.Prelude.{ℕ, _<_, _≡_, refl, sym, _∙_, true, List, _⊎_, inl, inr}
 use Rattle.laws.specs.Booleans.{either, clash}
 use Rattle.laws.specs.Cases.{picked}
 use Rattle.slots.specs.declared.Slot.{Slot}

@@ -1,13 +1,7 @@
 -- Where a key comes from in a gift.
 -- Assumes nothing.
-use Prim.Native.Nat.{ℕ, _^_, _<_}
-use mathlib.Core.Path.{_≡_, refl}
-use mathlib.Core.Logic.{_⊎_, inl, inr}
-use mathlib.Core.Bool.{true, _&&_, _||_}
-use mathlib.Core.List.{List}
+use Rattle.laws.proofs.Prelude.{ℕ, _^_, _<_, _≡_, refl, true, _&&_, _||_, List, _⊎_, inl, inr, ltb, ltb-true}
 use lib.Bits.{bitOr}
-use lib.Dec.{ltb}
-use borrow.Author.Tests.{ltb-true}
 use Rattle.laws.specs.Booleans.{either, and-parts}
 use Rattle.laws.specs.Bits.{bit-or, or-bit}
 use Rattle.laws.specs.Cases.{stored}

@@ -1,11 +1,6 @@
 -- Where entries and shared signatures come from in a mined block.
 -- Assumes nothing.
-use Prim.Native.Nat.{ℕ, _+_, _<_}
-use native.Mathlib.Omega.{arith}
-use mathlib.Core.Path.{_≡_, refl, sym, _∙_}
-use mathlib.Core.Logic.{_⊎_, inl, inr}
-use mathlib.Core.Bool.{Bool, true, false, false≢true}
-use mathlib.Core.List.{List}
+use Rattle.laws.proofs.Prelude.{ℕ, _+_, _<_, _≡_, refl, sym, _∙_, Bool, true, false, false≢true, List, _⊎_, inl, inr, arith}
 use Rattle.laws.specs.Booleans.{pick, either}
 use Rattle.laws.specs.Mask.{bit}
 use Rattle.slots.specs.declared.Slot.{Slot}

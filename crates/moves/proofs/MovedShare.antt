@@ -1,12 +1,7 @@
 -- Where entries and shared signatures come from in a share and in first shares.
 -- Assumes nothing.
-use Prim.Native.Nat.{ℕ, _<_}
-use mathlib.Core.Path.{_≡_, refl, sym, _∙_}
-use mathlib.Core.Logic.{_⊎_, inl, inr}
-use mathlib.Core.Bool.{Bool, true, false, not, _&&_, _||_}
-use mathlib.Core.List.{List, [], _∷_}
-use lib.Dec.{eqb, ltb}
-use borrow.Author.Tests.{eqb-true, eq-eqb}
+use Rattle.laws.proofs.Prelude.{ℕ, _<_, _≡_, refl, sym, _∙_, Bool, true, false, not, _&&_, _||_, List, [], _∷_, _⊎_, inl, inr, eqb, ltb}
+use Rattle.laws.proofs.Prelude.{eqb-true, eq-eqb}
 use Rattle.laws.specs.Booleans.{split, either, clash, and-parts, or-parts}
 use Rattle.laws.specs.Cases.{stored}
 use Rattle.laws.specs.Failing.{passed}

@@ -1,13 +1,8 @@
 -- Slip 3 on the SASwap sheet, three blocks per day, computed: sends that meet 16 and 17, one of them, a lower number or none, with the
 -- number that each got and the one that it gets.
 -- Assumes nothing.
-use Prim.Native.Nat.{ℕ}
-use native.Mathlib.Omega.{arith}
-use mathlib.Core.Path.{_≡_, refl, ap}
-use mathlib.Core.Bool.{Bool, true, false, _&&_, Bool·beq}
-use mathlib.Core.Logic.{_⊎_}
-use mathlib.Core.List.{List, [], _∷_, _++_}
-use lib.Dec.{eqb}
+use Rattle.laws.proofs.Prelude.{ℕ, _≡_, refl, ap, Bool, true, false, _&&_, List, [], _∷_, _++_, _⊎_, eqb, arith}
+use mathlib.Core.Bool.{Bool·beq}
 use Rattle.laws.specs.Booleans.{either}
 use Rattle.laws.specs.Gather.{every}
 use Rattle.sheet.specs.Refusal.{stepSignatures, stepLock}

@@ -1,10 +1,6 @@
 -- Slip 3: by the older order of a send's tests conduct says the same, and the answers differ exactly where 16 and 17 are both met.
 -- Assumes nothing.
-use Prim.Native.Nat.{ℕ}
-use mathlib.Core.Path.{_≡_, refl, ap, fun-ext}
-use mathlib.Core.Bool.{Bool, true, false, _&&_}
-use mathlib.Core.List.{List, [], _∷_}
-use lib.Dec.{eqb, ltb, leb}
+use Rattle.laws.proofs.Prelude.{ℕ, _≡_, refl, ap, fun-ext, Bool, true, false, _&&_, List, [], _∷_, eqb, ltb, leb}
 use Rattle.laws.specs.Booleans.{split, clash}
 use Rattle.laws.specs.Below.{anyBelow}
 use Rattle.laws.specs.Failing.{firstFailing}

@@ -1,11 +1,6 @@
 -- Slip 3 over a journal: by the older order as many steps were accepted, to the same position, and the refused one got the same number or 16 for 17.
 -- Assumes nothing.
-use Prim.Native.Nat.{ℕ, _+_}
-use mathlib.Core.Path.{_≡_, refl, ap}
-use mathlib.Core.Bool.{true, false}
-use mathlib.Core.Logic.{_⊎_, inl, inr}
-use mathlib.Core.List.{List, [], _∷_}
-use lib.Dec.{eqb}
+use Rattle.laws.proofs.Prelude.{ℕ, _+_, _≡_, refl, ap, true, false, List, [], _∷_, _⊎_, inl, inr, eqb}
 use Rattle.laws.specs.Booleans.{split, either}
 use Rattle.laws.specs.Failing.{firstFailing}
 use Rattle.sheet.specs.Refusal.{accepted, stepSignatures, stepLock}

@@ -1,11 +1,6 @@
 -- Where the entries, shared signatures and keys of a position come from: each was there before a step, or came with its passed tests.
 -- Assumes nothing.
-use Prim.Native.Nat.{ℕ, _^_, _<_}
-use mathlib.Core.Path.{_≡_, sym}
-use mathlib.Core.Logic.{_⊎_, inl}
-use mathlib.Core.Bool.{Bool, true, false, _||_}
-use mathlib.Core.List.{List}
-use lib.Dec.{eqb}
+use Rattle.laws.proofs.Prelude.{ℕ, _^_, _<_, _≡_, sym, Bool, true, false, _||_, List, _⊎_, inl, eqb}
 use Rattle.laws.specs.Booleans.{either}
 use Rattle.laws.specs.Cases.{stored, rewrote}
 use Rattle.laws.specs.Each.{rewriteFirst}

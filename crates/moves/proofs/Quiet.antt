@@ -1,14 +1,6 @@
 -- What no step but a mined block alters: the blocks mined, the confirmations, and that a pool entry stands.
 -- Assumes nothing.
-use Prim.Native.Nat.{ℕ, _≤_}
-use native.Mathlib.Omega.{arith}
-use mathlib.Core.Path.{_≡_, refl}
-use mathlib.Core.Logic.{_⊎_, inl, inr}
-use mathlib.Core.Bool.{true, false}
-use mathlib.Core.List.{List}
-use lib.Dec.{eqb}
-use lib.ListN.{length}
-use borrow.Author.Tests.{not-true}
+use Rattle.laws.proofs.Prelude.{ℕ, _≤_, _≡_, refl, true, false, List, _⊎_, inl, inr, eqb, length, not-true, arith}
 use Rattle.laws.specs.Booleans.{or-right}
 use Rattle.laws.specs.Failing.{passed}
 use Rattle.sheet.specs.Field.{count}

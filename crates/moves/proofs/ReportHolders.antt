@@ -1,8 +1,6 @@
 -- Holders read from a report are those read from the position.
 -- Assumes nothing.
-use Prim.Native.Nat.{ℕ}
-use mathlib.Core.Path.{_≡_}
-use mathlib.Core.List.{List}
+use Rattle.laws.proofs.Prelude.{ℕ, _≡_, List}
 use Rattle.position.specs.declared.Position.{Position}
 use Rattle.position.specs.Position.{isConfirmed}
 use Rattle.readings.specs.Reported.{reportedPayee, reportedConfirmed, reportedHolder}

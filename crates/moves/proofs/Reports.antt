@@ -1,14 +1,8 @@
 -- The report: what is read from its bytes is what the position says.
 -- Assumes nothing.
-use Prim.Native.Nat.{ℕ, _+_, _*_, _/_, _%_, _≤_, _<_}
-use native.Mathlib.Omega.{arith}
+use Rattle.laws.proofs.Prelude.{ℕ, _+_, _*_, _/_, _%_, _≤_, _<_, _≡_, sym, ap, _∙_, Bool, true, false, List, lit<, lit≤, getD, eq-eqb}
+use Rattle.laws.proofs.Prelude.{ne-eqb, arith}
 use native.Mathlib.Nat.{add-zero}
-use mathlib.Core.Path.{_≡_, sym, ap, _∙_}
-use mathlib.Core.Bool.{Bool, true, false}
-use mathlib.Core.List.{List}
-use lib.Dec.{lit<, lit≤}
-use lib.ListN.{getD}
-use borrow.Author.Tests.{eq-eqb, ne-eqb}
 use Rattle.laws.specs.Booleans.{pick}
 use Rattle.laws.specs.Gather.{gather, gather-at}
 use Rattle.laws.specs.Little.{bytesOf, numberAt, number-gather}

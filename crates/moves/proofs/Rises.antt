@@ -1,13 +1,7 @@
 -- The open steps rise by actor, kind, transaction and destination.
 -- Assumes nothing.
-use Prim.Native.Nat.{ℕ, _+_, _<_}
-use native.Mathlib.Omega.{arith}
-use mathlib.Core.Path.{_≡_, refl}
-use mathlib.Core.Bool.{Bool, true}
-use mathlib.Core.List.{List, [], _∷_, List·Memᴰ, List·Memᴰ·not-nil}
-use lib.Dec.{eqb, ltb}
-use lib.ListN.{getD}
-use borrow.Author.Tests.{lt-ltb}
+use Rattle.laws.proofs.Prelude.{ℕ, _+_, _<_, _≡_, refl, Bool, true, List, [], _∷_, eqb, ltb, getD, lt-ltb, arith}
+use mathlib.Core.List.{List·Memᴰ, List·Memᴰ·not-nil}
 use Rattle.laws.specs.Booleans.{split}
 use Rattle.laws.specs.Gather.{gather}
 use Rattle.laws.specs.Members.{member-gather, Rising, rising-append, rising-gather}

@@ -1,12 +1,6 @@
 -- What the passed tests of a send tell, to the pool or to the miner.
 -- Assumes nothing.
-use Prim.Native.Nat.{ℕ, _≤_, _<_}
-use native.Mathlib.Omega.{arith}
-use mathlib.Core.Path.{_≡_, refl}
-use mathlib.Core.Bool.{Bool, true, false, _&&_, _||_}
-use mathlib.Core.List.{List}
-use lib.Dec.{ltb}
-use borrow.Author.Tests.{ltb-true, ltb-false, leb-true}
+use Rattle.laws.proofs.Prelude.{ℕ, _≤_, _<_, _≡_, refl, Bool, true, false, _&&_, _||_, List, ltb, ltb-true, ltb-false, leb-true, arith}
 use Rattle.laws.specs.Booleans.{and-parts, or-neither}
 use Rattle.laws.specs.Bits.{subset-bit}
 use Rattle.laws.specs.Failing.{passed}

@@ -1,10 +1,7 @@
 -- What is proved of the open steps, of every position that steps lead to, and of the order of a send's tests.
 -- Assumes nothing.
-use Prim.Native.Nat.{ℕ, _≤_}
-use mathlib.Core.Path.{_≡_, refl}
-use mathlib.Core.List.{List, List·Memᴰ}
-use lib.Dec.{eqb}
-use lib.ListN.{length}
+use Rattle.laws.proofs.Prelude.{ℕ, _≤_, _≡_, refl, List, eqb, length}
+use mathlib.Core.List.{List·Memᴰ}
 use Rattle.laws.specs.Booleans.{pick}
 use Rattle.laws.specs.Members.{Rising}
 use Rattle.sheet.specs.Refusal.{accepted}

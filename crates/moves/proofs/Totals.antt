@@ -1,13 +1,8 @@
 -- Sums that count: bounded terms, one term, the parties of a sheet, and pairs of one that has something and one that has not.
 -- Assumes nothing.
-use Prim.Native.Nat.{ℕ, zero, suc, _+_, _*_, _/_, _≤_, _<_}
-use native.Mathlib.Omega.{arith}
+use Rattle.laws.proofs.Prelude.{ℕ, zero, suc, _+_, _*_, _/_, _≤_, _<_, _≡_, refl, Bool, not, _&&_, List, eqb, ltb, eqb-true, ltb-true}
+use Rattle.laws.proofs.Prelude.{eq-eqb, ne-eqb, arith}
 use native.Mathlib.Nat.{eq-or-lt-of-le, le-of-suc-le-suc, mul-le-mul-left}
-use mathlib.Core.Path.{_≡_, refl}
-use mathlib.Core.Bool.{Bool, not, _&&_}
-use mathlib.Core.List.{List}
-use lib.Dec.{eqb, ltb}
-use borrow.Author.Tests.{eqb-true, eq-eqb, ne-eqb, ltb-true}
 use Rattle.laws.specs.Booleans.{pick, split, either}
 use Rattle.laws.specs.Sum.{sumBelow, sum-bound, sum-both, sum-times, sum-swap}
 use Rattle.sheet.specs.Field.{parties, place, partyAt, isParty}

@@ -1,12 +1,7 @@
 -- 16 and 17 in turned places of a numbered list, behind tests of lower numbers and before tests of higher ones.
 -- Assumes nothing.
-use Prim.Native.Nat.{ℕ, _≤_}
-use native.Mathlib.Omega.{arith}
-use mathlib.Core.Path.{_≡_, refl}
-use mathlib.Core.Bool.{Bool, true, false, not, _&&_, _||_, false≢true}
-use mathlib.Core.List.{List, [], _∷_, _++_}
-use lib.Dec.{eqb, ltb}
-use borrow.Author.Tests.{ltb-true, ne-eqb}
+use Rattle.laws.proofs.Prelude.{ℕ, _≤_, _≡_, refl, Bool, true, false, not, _&&_, _||_, false≢true, List, [], _∷_, _++_, eqb, ltb, ltb-true}
+use Rattle.laws.proofs.Prelude.{ne-eqb, arith}
 use Rattle.laws.specs.Booleans.{split, clash, and-parts}
 use Rattle.laws.specs.Failing.{firstFailing, numbersBelow}
 use Rattle.laws.specs.Gather.{every}

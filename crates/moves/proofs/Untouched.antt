@@ -1,8 +1,6 @@
 -- The parts of a position that a step leaves as they are: pool, block being filled, confirmations.
 -- Assumes nothing.
-use Prim.Native.Nat.{ℕ}
-use mathlib.Core.Path.{_≡_, refl, ap, fun-ext}
-use mathlib.Core.List.{List}
+use Rattle.laws.proofs.Prelude.{ℕ, _≡_, refl, ap, fun-ext, List}
 use Rattle.slots.specs.declared.Slot.{Slot}
 use Rattle.slots.specs.Slot.{standing, entryTo}
 use Rattle.position.specs.declared.Position.{Position}

@@ -1,14 +1,8 @@
 -- Each change of a slot leads from a well-formed one to a well-formed one.
 -- Assumes nothing.
-use Prim.Native.Nat.{ℕ, _^_, _≤_, _<_}
-use native.Mathlib.Omega.{arith}
-use mathlib.Core.Path.{_≡_, refl, sym, _∙_}
-use mathlib.Core.Bool.{Bool, true}
-use mathlib.Core.List.{List}
-use lib.Dec.{eqb}
+use Rattle.laws.proofs.Prelude.{ℕ, _^_, _≤_, _<_, _≡_, refl, sym, _∙_, Bool, true, List, eqb, lt-ltb, arith}
 use lib.Bits.{bitOr, or-lt}
 use lib.Pow.{pow-pos, pow-lt}
-use borrow.Author.Tests.{lt-ltb}
 use Rattle.laws.specs.Booleans.{pick}
 use Rattle.laws.specs.Cases.{picked-has}
 use Rattle.sheet.specs.Field.{signatures}

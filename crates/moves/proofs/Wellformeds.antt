@@ -1,16 +1,9 @@
 -- The empty journal's position is well formed, and every step of any four bytes keeps it so.
 -- Assumes nothing.
-use Prim.Native.Nat.{ℕ, zero, suc, _+_, _-_, _^_, _≤_, _<_}
-use native.Mathlib.Omega.{arith}
+use Rattle.laws.proofs.Prelude.{ℕ, zero, suc, _+_, _-_, _^_, _≤_, _<_, _≡_, refl, _∙_, true, List, [], _∷_, eqb, getD, ltb-true, arith}
 use native.Mathlib.Nat.{le-refl}
-use mathlib.Core.Path.{_≡_, refl, _∙_}
-use mathlib.Core.Bool.{true}
-use mathlib.Core.List.{List, [], _∷_}
 use lib.Bits.{bitAnd, bitOr, and-le-l, or-lt}
-use lib.Dec.{eqb}
-use lib.ListN.{getD}
 use lib.Pow.{pow-pos, pow-lt}
-use borrow.Author.Tests.{ltb-true}
 use Rattle.laws.specs.Booleans.{split, either}
 use Rattle.laws.specs.Cases.{picked-has, stored, rewrote}
 use Rattle.laws.specs.Failing.{firstFailing, passed}

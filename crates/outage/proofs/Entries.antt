@@ -1,11 +1,6 @@
 -- The confirmed entries of a list have blocks that are mined, so entries of later blocks stand behind them in order.
 -- Assumes nothing.
-use Prim.Native.Nat.{ℕ, _≤_, _<_}
-use native.Mathlib.Omega.{arith}
-use mathlib.Core.Path.{_≡_, ap, _∙_}
-use mathlib.Core.Bool.{true}
-use mathlib.Core.List.{List, [], _∷_, _++_}
-use borrow.Author.Tests.{lt-ltb}
+use Rattle.laws.proofs.Prelude.{ℕ, _≤_, _<_, _≡_, ap, _∙_, true, List, [], _∷_, _++_, lt-ltb, arith}
 use Rattle.laws.specs.All.{All, empty, all-append, all-weaken}
 use Rattle.sheet.specs.Check.{sheetRefusal}
 use Rattle.sheet.specs.Setup.{setupRefusal}

@@ -1,15 +1,9 @@
 -- Soonest deadlines and verdicts on the SASwap sheet, computed.
 -- Assumes nothing.
-use Prim.Native.Nat.{ℕ, zero, suc, _≤_, _<_}
-use native.Mathlib.Omega.{arith}
-use mathlib.Core.Path.{_≡_, refl}
-use mathlib.Core.Logic.{inl, inr}
-use mathlib.Core.Bool.{Bool, true, false, not, _&&_, false≢true, true≢false}
-use mathlib.Core.List.{List, [], _∷_, _++_}
+use Rattle.laws.proofs.Prelude.{ℕ, zero, suc, _≤_, _<_, _≡_, refl, Bool, true, false, not, _&&_, false≢true, List, [], _∷_, _++_, inl, inr}
+use Rattle.laws.proofs.Prelude.{leb, replicate, le-leb, arith}
+use mathlib.Core.Bool.{true≢false}
 use mathlib.Core.Option.{some}
-use lib.Dec.{leb}
-use lib.ListN.{replicate}
-use borrow.Author.Tests.{le-leb}
 use Rattle.laws.specs.All.{All, empty, also}
 use Rattle.laws.specs.Below.{allBelow, all-at}
 use Rattle.laws.specs.Booleans.{clash}

@@ -1,14 +1,8 @@
 -- A lock height by its kind: fixed, or so many blocks since the parent's.
 -- Assumes nothing.
-use Prim.Native.Nat.{ℕ, _+_, _≤_, _<_}
-use native.Mathlib.Omega.{arith}
+use Rattle.laws.proofs.Prelude.{ℕ, _+_, _≤_, _<_, _≡_, refl, sym, _∙_, true, false, List, _⊎_, inl, inr, eq-eqb, ne-eqb, arith}
 use native.Mathlib.Nat.{mul-le-mul}
-use mathlib.Core.Path.{_≡_, refl, sym, _∙_}
 use Rattle.laws.specs.Booleans.{clash}
-use mathlib.Core.Logic.{_⊎_, inl, inr}
-use mathlib.Core.Bool.{true, false}
-use mathlib.Core.List.{List}
-use borrow.Author.Tests.{eq-eqb, ne-eqb}
 use Rattle.sheet.specs.Field.{count, parent, opening, lockType, days}
 use Rattle.sheet.specs.LockHeight.{never, lockBlocks, sinceParent, lockHeight}
 use Rattle.sheet.specs.Checked.{Checked, LockPair, none, absolute, since}

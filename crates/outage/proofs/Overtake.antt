@@ -1,13 +1,8 @@
 -- A rival that is locked later in the block after the soonest deadline: the plain ledger takes such a list.
 -- Assumes nothing.
-use Prim.Native.Nat.{ℕ, _+_, _-_, _≤_, _<_}
-use native.Mathlib.Omega.{arith}
-use mathlib.Core.Path.{_≡_, refl, sym, ap, _∙_}
-use mathlib.Core.Bool.{true, false}
-use mathlib.Core.List.{List, [], _∷_, _++_, append-nil}
+use Rattle.laws.proofs.Prelude.{ℕ, _+_, _-_, _≤_, _<_, _≡_, refl, sym, ap, _∙_, true, false, List, [], _∷_, _++_, append-nil, eqb, ltb}
+use Rattle.laws.proofs.Prelude.{ltb-true, ltb-false, arith}
 use mathlib.Core.Option.{some}
-use lib.Dec.{eqb, ltb}
-use borrow.Author.Tests.{ltb-true, ltb-false}
 use Rattle.laws.specs.Booleans.{split, clash}
 use Rattle.laws.specs.All.{All, empty, also, all-append, all-weaken}
 use Rattle.sheet.specs.Field.{count, parent, opening}

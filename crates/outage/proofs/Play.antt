@@ -1,10 +1,6 @@
 -- Every list of steps leads to a later chain.
 -- Assumes nothing.
-use Prim.Native.Nat.{ℕ}
-use native.Mathlib.Omega.{arith}
-use mathlib.Core.Path.{_≡_, refl, sym, _∙_}
-use mathlib.Core.Logic.{inl, inr}
-use mathlib.Core.List.{List, [], _∷_}
+use Rattle.laws.proofs.Prelude.{ℕ, _≡_, refl, sym, _∙_, List, [], _∷_, inl, inr, arith}
 use Rattle.laws.specs.Booleans.{split, either}
 use Rattle.sheet.specs.Check.{sheetRefusal}
 use Rattle.sheet.specs.Setup.{setupRefusal}

@@ -1,13 +1,7 @@
 -- Pool entries: before their deadline; and where the parent is confirmed or there is none, in the pool until they or a rival are confirmed.
 -- Assumes nothing.
-use Prim.Native.Nat.{ℕ, _+_, _≤_, _<_}
-use native.Mathlib.Omega.{arith}
-use mathlib.Core.Path.{_≡_, refl, sym, ap, _∙_}
-use mathlib.Core.Logic.{_⊎_, inl, inr}
-use mathlib.Core.Bool.{true, false, not, false≢true}
-use mathlib.Core.List.{List, [], _∷_}
-use lib.Dec.{eqb, ltb}
-use borrow.Author.Tests.{eqb-true, eqb-false, ltb-true, ltb-false, lt-ltb, not-true}
+use Rattle.laws.proofs.Prelude.{ℕ, _+_, _≤_, _<_, _≡_, refl, sym, ap, _∙_, true, false, not, false≢true, List, [], _∷_, _⊎_, inl, inr, eqb}
+use Rattle.laws.proofs.Prelude.{ltb, eqb-true, eqb-false, ltb-true, ltb-false, lt-ltb, not-true, arith}
 use Rattle.laws.specs.Booleans.{split, either, clash, and-parts, or-parts, or-neither}
 use Rattle.sheet.specs.Field.{count, parent, opening}
 use Rattle.sheet.specs.LockHeight.{lockHeight}

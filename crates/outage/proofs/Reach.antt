@@ -1,14 +1,9 @@
 -- Tightness: the plain ledger takes a list that brings a transaction which is not dead into its soonest block.
 -- Assumes nothing.
-use Prim.Native.Nat.{ℕ, zero, suc, _+_, _≤_, _<_}
-use native.Mathlib.Omega.{arith}
+use Rattle.laws.proofs.Prelude.{ℕ, zero, suc, _+_, _≤_, _<_, _≡_, refl, sym, ap, _∙_, true, false, not, _&&_, List, [], _∷_, _++_}
+use Rattle.laws.proofs.Prelude.{append-assoc, append-nil, eqb, ltb, eqb-true, ltb-true, ltb-false, eq-eqb, ne-eqb, lt-ltb, arith}
 use native.Mathlib.Nat.{not-suc-le-zero}
-use mathlib.Core.Path.{_≡_, refl, sym, ap, _∙_}
-use mathlib.Core.Bool.{true, false, not, _&&_}
-use mathlib.Core.List.{List, [], _∷_, _++_, append-assoc, append-nil}
 use mathlib.Core.Option.{none, some}
-use lib.Dec.{eqb, ltb}
-use borrow.Author.Tests.{eqb-true, eq-eqb, ne-eqb, ltb-true, ltb-false, lt-ltb}
 use Rattle.laws.specs.Booleans.{split, either, clash, and-parts}
 use Rattle.laws.specs.All.{All, empty, also, all-append, all-weaken}
 use Rattle.laws.specs.Below.{any-found}

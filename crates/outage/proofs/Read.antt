@@ -1,13 +1,7 @@
 -- The byte that a caller reads is the verdict on the position that the journal leads to.
 -- Assumes nothing.
-use Prim.Native.Nat.{ℕ, zero, suc, _+_, _*_, _≤_, _<_}
-use native.Mathlib.Omega.{arith}
+use Rattle.laws.proofs.Prelude.{ℕ, zero, suc, _+_, _*_, _≤_, _<_, _≡_, refl, sym, ap, _∙_, List, [], _∷_, eqb, length, getD, eq-eqb, arith}
 use native.Mathlib.Nat.{not-suc-le-zero, le-of-suc-le-suc, add-zero}
-use mathlib.Core.Path.{_≡_, refl, sym, ap, _∙_}
-use mathlib.Core.List.{List, [], _∷_}
-use lib.Dec.{eqb}
-use lib.ListN.{length, getD}
-use borrow.Author.Tests.{eq-eqb}
 use Rattle.laws.specs.Booleans.{split, clash}
 use Rattle.laws.specs.Failing.{firstFailing}
 use Rattle.laws.specs.Gather.{gather-at}

@@ -1,13 +1,7 @@
 -- What each byte of a verdict promises, from the claims about soonest deadlines and the pool.
 -- Assumes nothing.
-use Prim.Native.Nat.{ℕ, _+_, _<_}
-use native.Mathlib.Omega.{arith}
-use mathlib.Core.Path.{_≡_}
-use mathlib.Core.Logic.{inl, inr}
-use mathlib.Core.Bool.{true, false}
-use mathlib.Core.List.{List}
-use lib.Dec.{eqb, leb}
-use borrow.Author.Tests.{eqb-true, eqb-false, ltb-true, leb-true, leb-false, le-leb, le-ltb, lt-ltb}
+use Rattle.laws.proofs.Prelude.{ℕ, _+_, _<_, _≡_, true, false, List, inl, inr, eqb, leb, eqb-true, eqb-false, ltb-true, leb-true, leb-false}
+use Rattle.laws.proofs.Prelude.{lt-ltb, le-ltb, le-leb, arith}
 use Rattle.laws.specs.Booleans.{split, either, and-parts, or-parts}
 use Rattle.sheet.specs.Refusal.{accepted}
 use Rattle.sheet.specs.Field.{count, parent, opening}

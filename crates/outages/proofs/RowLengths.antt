@@ -1,9 +1,6 @@
 -- The lengths of the rows.
 -- Assumes nothing.
-use Prim.Native.Nat.{ℕ, _*_, _≤_}
-use mathlib.Core.Path.{_≡_}
-use mathlib.Core.List.{List}
-use lib.ListN.{length, length-append}
+use Rattle.laws.proofs.Prelude.{ℕ, _*_, _≤_, _≡_, List, length, length-append}
 use Rattle.laws.specs.Gather.{gather, length-gather}
 use Rattle.laws.specs.Little.{length-bytes}
 use Rattle.sheet.specs.Field.{count}

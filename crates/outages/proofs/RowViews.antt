@@ -1,13 +1,6 @@
 -- A row over what is read once is the row of the position.
 -- Assumes nothing.
-use Prim.Native.Nat.{ℕ, _≤_, _<_}
-use native.Mathlib.Omega.{arith}
-use mathlib.Core.Path.{_≡_, refl, sym, _∙_}
-use mathlib.Core.Bool.{Bool, true}
-use mathlib.Core.List.{List}
-use lib.Dec.{ltb}
-use lib.ListN.{length, getD}
-use borrow.Author.Tests.{ltb-true}
+use Rattle.laws.proofs.Prelude.{ℕ, _≤_, _<_, _≡_, refl, sym, _∙_, Bool, true, List, ltb, length, getD, ltb-true, arith}
 use Rattle.laws.specs.Booleans.{pick, split}
 use Rattle.laws.specs.Mask.{bit}
 use Rattle.laws.specs.Sets.{joined, setBelow, set-bit}

@@ -1,9 +1,8 @@
 -- A loop that joins masks: its start, a turn, its end.
 -- Assumes nothing.
-use Prim.Native.Nat.{ℕ, _+_, _≤_}
+use Rattle.laws.proofs.Prelude.{ℕ, _+_, _≤_, _≡_, refl}
 use native.Mathlib.Nat.{le-antisymm}
 use native.Mathlib.Numerals.{add-one}
-use mathlib.Core.Path.{_≡_, refl}
 use lib.Bits.{bitOr}
 use Rattle.laws.specs.Mask.{unionBelow}
 

@@ -1,8 +1,6 @@
 -- Some open steps and a row, written out.
 -- Assumes nothing.
-use mathlib.Core.Path.{_≡_, refl}
-use mathlib.Core.List.{List, [], _∷_}
-use Prim.Native.Nat.{ℕ}
+use Rattle.laws.proofs.Prelude.{ℕ, _≡_, refl, List, [], _∷_}
 use Rattle.laws.specs.Gather.{gather}
 use Rattle.laws.specs.Mask.{bit}
 use Rattle.laws.specs.Little.{bytesOf}

@@ -1,13 +1,8 @@
 -- The four destinations of a kind and a transaction byte.
 -- Assumes nothing.
-use Prim.Native.Nat.{ℕ, _+_, _*_, _/_, _^_, _<_}
+use Rattle.laws.proofs.Prelude.{ℕ, _+_, _*_, _/_, _^_, _<_, _≡_, refl, sym, ap, _∙_, fun-ext, Bool, false, List, [], _∷_, getD, arith}
 use native.Mathlib.Nat.{add-zero, one-mul, one-le-pow, div-lt-iff-lt-mul}
-use native.Mathlib.Omega.{arith}
-use mathlib.Core.Path.{_≡_, refl, sym, ap, _∙_, fun-ext}
-use mathlib.Core.Bool.{Bool, false}
-use mathlib.Core.List.{List, [], _∷_}
 use lib.Bits.{bitOr}
-use lib.ListN.{getD}
 use Rattle.laws.specs.Booleans.{or-neither}
 use Rattle.laws.specs.Bits.{bit-or, no-bit, bit-above}
 use Rattle.laws.specs.Gather.{gather, gather-empty}

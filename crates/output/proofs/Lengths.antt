@@ -1,12 +1,9 @@
 -- How long the bytes of open steps and of a row are.
 -- Assumes nothing.
-use Prim.Native.Nat.{ℕ, _+_, _*_, _≤_}
-use native.Mathlib.Omega.{arith}
+use Rattle.laws.proofs.Prelude.{ℕ, _+_, _*_, _≤_, _≡_, refl, sym, ap, _∙_, Bool, true, false, false≢true, List, length, getD, length-append}
+use Rattle.laws.proofs.Prelude.{arith}
 use native.Mathlib.Nat.{mul-add}
-use mathlib.Core.Path.{_≡_, refl, sym, ap, ap₂, _∙_}
-use mathlib.Core.Bool.{Bool, true, false, false≢true}
-use mathlib.Core.List.{List}
-use lib.ListN.{length, getD, length-append}
+use mathlib.Core.Path.{ap₂}
 use Rattle.laws.specs.Booleans.{pick}
 use Rattle.laws.specs.Gather.{gather}
 use Rattle.laws.specs.Mask.{bit}

@@ -1,12 +1,9 @@
 -- Buffers written from the front: a list copied byte by byte, and a loop whose turns write a whole, each what its state says.
 -- Assumes nothing.
-use Prim.Native.Nat.{ℕ, zero, suc, _+_, _-_, _≤_, _<_}
-use native.Mathlib.Omega.{arith}
+use Rattle.laws.proofs.Prelude.{ℕ, zero, suc, _+_, _-_, _≤_, _<_, _≡_, refl, sym, ap, _∙_, List, [], _∷_, _++_, append-assoc, append-nil}
+use Rattle.laws.proofs.Prelude.{length, getD, take, drop, set, length-append, length-set, arith}
 use native.Mathlib.Nat.{not-suc-le-zero, le-of-suc-le-suc}
 use native.Mathlib.Numerals.{add-one}
-use mathlib.Core.Path.{_≡_, refl, sym, ap, _∙_}
-use mathlib.Core.List.{List, [], _∷_, _++_, append-nil, append-assoc}
-use lib.ListN.{length, take, drop, getD, set, length-set, length-append}
 use lib.Seq.{take-length}
 use borrow.Rule.Slice.PartMut.{putMid}
 use Rattle.laws.specs.Over.{over, over-none}

@@ -1,12 +1,6 @@
 -- A line with any values that fit, read back.
 -- Assumes nothing.
-use Prim.Native.Nat.{ℕ, zero, suc, _^_, _≤_, _<_}
-use native.Mathlib.Omega.{arith}
-use mathlib.Core.Path.{_≡_, ap, _∙_}
-use mathlib.Core.Logic.{_⊎_}
-use mathlib.Core.List.{[], _∷_, _++_}
-use lib.Dec.{lit<}
-use lib.ListN.{length, getD}
+use Rattle.laws.proofs.Prelude.{ℕ, zero, suc, _^_, _≤_, _<_, _≡_, ap, _∙_, [], _∷_, _++_, _⊎_, lit<, length, getD, arith}
 use Rattle.laws.specs.Sum.{sumBelow}
 use Rattle.laws.specs.Little.{bytesOf}
 use Rattle.position.specs.Report.{unconfirmed}

@@ -1,10 +1,7 @@
 -- Columns: a text copied behind its blanks, byte by byte.
 -- Assumes nothing.
-use Prim.Native.Nat.{ℕ, _+_, _-_, _≤_, _<_}
-use native.Mathlib.Omega.{arith}
-use mathlib.Core.Path.{_≡_, ap, sym, _∙_}
-use mathlib.Core.List.{List, _++_}
-use lib.ListN.{length, getD, set, length-append, length-replicate, getD-replicate, List·getD-append}
+use Rattle.laws.proofs.Prelude.{ℕ, _+_, _-_, _≤_, _<_, _≡_, sym, ap, _∙_, List, _++_, length, getD, set, length-append, arith}
+use lib.ListN.{length-replicate, getD-replicate, List·getD-append}
 use lib.Seq.{getD-append-add}
 use Rattle.laws.specs.Over.{over}
 use Rattle.output.proofs.Writing.{Copied, copied-more, copied-all}

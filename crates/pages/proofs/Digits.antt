@@ -1,15 +1,11 @@
 -- Decimal digits: the last one and those before it, how many they are, and how they are made from the last one on.
 -- Assumes nothing.
-use Prim.Native.Nat.{ℕ, zero, suc, _+_, _-_, _/_, _%_, _^_, _≤_, _<_}
-use native.Mathlib.Omega.{arith}
+use Rattle.laws.proofs.Prelude.{ℕ, zero, suc, _+_, _-_, _/_, _%_, _^_, _≤_, _<_, _≡_, refl, sym, ap, _∙_, true, false, List, [], _∷_, _++_}
+use Rattle.laws.proofs.Prelude.{append-nil, ltb, length, take, drop, set, length-append, length-set, length-drop, ltb-true, ltb-false}
+use Rattle.laws.proofs.Prelude.{lt-ltb, le-ltb, arith}
 use native.Mathlib.Nat.{not-suc-le-zero, le-of-suc-le-suc, pow-succ'}
-use mathlib.Core.Path.{_≡_, refl, ap, sym, _∙_}
-use mathlib.Core.Bool.{true, false}
-use mathlib.Core.List.{List, [], _∷_, _++_, append-nil}
-use lib.Dec.{ltb}
-use lib.ListN.{length, drop, take, set, length-append, length-set, length-drop, drop-of-length-le}
+use lib.ListN.{drop-of-length-le}
 use lib.Seq.{append-snoc, take-all}
-use borrow.Author.Tests.{ltb-true, ltb-false, lt-ltb, le-ltb}
 use Rattle.laws.specs.Booleans.{split}
 use Rattle.pages.specs.Line.{digit, digitsIn, digits}
 

@@ -1,11 +1,6 @@
 -- What the words of the page and of its claims mean, by computed examples.
 -- Assumes nothing.
-use Prim.Native.Nat.{ℕ}
-use native.Mathlib.Omega.{arith}
-use mathlib.Core.Path.{_≡_, refl, ap}
-use mathlib.Core.List.{List, [], _∷_}
-use lib.Dec.{lit<}
-use lib.ListN.{length, getD, replicate}
+use Rattle.laws.proofs.Prelude.{ℕ, _≡_, refl, ap, List, [], _∷_, lit<, length, getD, replicate, arith}
 use Rattle.laws.specs.Below.{allBelow}
 use Rattle.laws.specs.Gather.{gather}
 use Rattle.laws.specs.Little.{bytesOf}

@@ -1,12 +1,8 @@
 -- The lines of a page have one length, whatever bytes the report has.
 -- Assumes nothing.
-use Prim.Native.Nat.{ℕ, zero, suc, _+_, _-_, _*_, _^_, _≤_, _<_}
-use native.Mathlib.Omega.{arith}
+use Rattle.laws.proofs.Prelude.{ℕ, zero, suc, _+_, _-_, _*_, _^_, _≤_, _<_, _≡_, refl, sym, ap, _∙_, List, [], _∷_, _++_, eqb, lit≤, length}
+use Rattle.laws.proofs.Prelude.{getD, length-append, arith}
 use native.Mathlib.Nat.{mul-suc, mul-zero}
-use mathlib.Core.Path.{_≡_, refl, ap, sym, _∙_}
-use mathlib.Core.List.{List, [], _∷_, _++_}
-use lib.Dec.{eqb, lit≤}
-use lib.ListN.{length, getD, length-append}
 use Rattle.laws.specs.Booleans.{split}
 use Rattle.laws.specs.Gather.{gather}
 use Rattle.laws.specs.Little.{numberAt, number-below}

@@ -1,11 +1,6 @@
 -- Which text stands for a payee, for a height, and for a column of the header or of a transaction.
 -- Assumes nothing.
-use Prim.Native.Nat.{ℕ, suc, _-_, _<_}
-use native.Mathlib.Omega.{arith}
-use mathlib.Core.Path.{_≡_, ap}
-use mathlib.Core.List.{List, []}
-use lib.ListN.{getD}
-use borrow.Author.Tests.{eq-eqb, ne-eqb}
+use Rattle.laws.proofs.Prelude.{ℕ, suc, _-_, _<_, _≡_, ap, List, [], getD, eq-eqb, ne-eqb, arith}
 use Rattle.sheet.specs.LockHeight.{never}
 use Rattle.slots.specs.Destination.{alice, bob, carol, contract}
 use Rattle.pages.specs.Line.{digits}

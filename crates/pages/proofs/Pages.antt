@@ -1,12 +1,6 @@
 -- The answers of a page, case by case.
 -- Assumes nothing.
-use Prim.Native.Nat.{ℕ, suc, _*_, _≤_, _<_}
-use native.Mathlib.Omega.{arith}
-use mathlib.Core.Path.{_≡_, refl, sym, _∙_}
-use mathlib.Core.List.{List}
-use lib.Dec.{eqb}
-use lib.ListN.{length, take}
-use borrow.Author.Tests.{eqb-true, eqb-false}
+use Rattle.laws.proofs.Prelude.{ℕ, suc, _*_, _≤_, _<_, _≡_, refl, sym, _∙_, List, eqb, length, take, eqb-true, eqb-false, arith}
 use Rattle.laws.specs.Booleans.{split}
 use Rattle.laws.specs.Over.{over}
 use Rattle.sheet.specs.Field.{count}

@@ -1,15 +1,9 @@
 -- Texts read back: blanks are trimmed, digits give their number, names their payee, never its height.
 -- Assumes nothing.
-use Prim.Native.Nat.{ℕ, zero, suc, _+_, _-_, _*_, _/_, _%_, _≤_, _<_}
-use native.Mathlib.Omega.{arith}
+use Rattle.laws.proofs.Prelude.{ℕ, zero, suc, _+_, _-_, _*_, _/_, _%_, _≤_, _<_, _≡_, refl, sym, _∙_, Bool, true, false, _&&_, List, []}
+use Rattle.laws.proofs.Prelude.{_∷_, _++_, _⊎_, eqb, ltb, length, eqb-true, ltb-true, ltb-false, ne-eqb, lt-ltb, arith}
 use native.Mathlib.Nat.{not-suc-le-zero}
-use mathlib.Core.Path.{_≡_, refl, sym, _∙_}
-use mathlib.Core.Bool.{Bool, true, false, _&&_, true≢false}
-use mathlib.Core.List.{List, [], _∷_, _++_}
-use mathlib.Core.Logic.{_⊎_}
-use lib.Dec.{eqb, ltb}
-use lib.ListN.{length}
-use borrow.Author.Tests.{ltb-true, ltb-false, lt-ltb, eqb-true, ne-eqb}
+use mathlib.Core.Bool.{true≢false}
 use Rattle.laws.specs.Booleans.{split, either, and-parts, fails-by}
 use Rattle.laws.specs.Below.{allBelow}
 use Rattle.laws.specs.Gather.{every}

@@ -1,12 +1,7 @@
 -- What stands on a line, for every position.
 -- Assumes nothing.
-use Prim.Native.Nat.{ℕ, zero, suc, _+_, _^_, _≤_, _<_}
-use native.Mathlib.Omega.{arith}
+use Rattle.laws.proofs.Prelude.{ℕ, zero, suc, _+_, _^_, _≤_, _<_, _≡_, refl, ap, _∙_, Bool, true, false, List, [], _∷_, getD, arith}
 use native.Mathlib.Nat.{mod-le}
-use mathlib.Core.Path.{_≡_, refl, ap, _∙_}
-use mathlib.Core.Bool.{Bool, true, false}
-use mathlib.Core.List.{List, [], _∷_}
-use lib.ListN.{getD}
 use Rattle.laws.specs.Booleans.{pick}
 use Rattle.laws.specs.Gather.{gather-same}
 use Rattle.laws.specs.Little.{bytesOf, numberAt, number-bytes, bytes-again}

@@ -1,16 +1,9 @@
 -- Every line has its length; read back, it gives the report's row.
 -- Assumes nothing.
-use Prim.Native.Nat.{ℕ, suc, _+_, _*_, _^_, _≤_, _<_}
-use native.Mathlib.Omega.{arith}
+use Rattle.laws.proofs.Prelude.{ℕ, suc, _+_, _*_, _^_, _≤_, _<_, _≡_, refl, sym, ap, _∙_, true, false, List, _++_, _⊎_, inl, inr, eqb, ltb}
+use Rattle.laws.proofs.Prelude.{length, take, drop, length-drop, eqb-true, eqb-false, ltb-true, ltb-false, lt-ltb, le-ltb, arith}
 use native.Mathlib.Nat.{zero-add, mul-le-mul-left}
-use mathlib.Core.Path.{_≡_, refl, ap, sym, _∙_}
-use mathlib.Core.Logic.{_⊎_, inl, inr}
-use mathlib.Core.Bool.{true, false}
-use mathlib.Core.List.{List, _++_}
-use lib.Dec.{eqb, ltb}
-use lib.ListN.{length, take, drop, length-drop}
 use lib.Seq.{sets-eq, drop-at, take-append-le, drop-append-le}
-use borrow.Author.Tests.{eqb-true, eqb-false, ltb-true, ltb-false, lt-ltb, le-ltb}
 use Rattle.laws.specs.Booleans.{split}
 use Rattle.laws.specs.Over.{over, take-over, length-over, stores-over}
 use Rattle.sheet.specs.Refusal.{accepted, bufferShort}

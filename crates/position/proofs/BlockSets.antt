@@ -1,14 +1,9 @@
 -- A mined block and a bump over sets are those of the rules.
 -- Assumes nothing.
-use Prim.Native.Nat.{ℕ, zero, suc, _+_, _≤_, _<_}
-use native.Mathlib.Omega.{arith}
-use mathlib.Core.Path.{_≡_, refl, sym, ap, _∙_}
-use mathlib.Core.Bool.{Bool, true, false, not, _&&_, _||_, and-assoc}
-use mathlib.Core.List.{List, [], _∷_}
+use Rattle.laws.proofs.Prelude.{ℕ, zero, suc, _+_, _≤_, _<_, _≡_, refl, sym, ap, _∙_, Bool, true, false, not, _&&_, _||_, List, [], _∷_}
+use Rattle.laws.proofs.Prelude.{eqb, ltb, getD, eqb-true, ltb-false, arith}
+use mathlib.Core.Bool.{and-assoc}
 use lib.Bits.{bitOr}
-use lib.Dec.{eqb, ltb}
-use lib.ListN.{getD}
-use borrow.Author.Tests.{eqb-true, ltb-false}
 use Rattle.laws.specs.Bits.{bit-or, no-bit}
 use Rattle.laws.specs.Booleans.{split, or-neither}
 use Rattle.laws.specs.Each.{rewriteFirst}

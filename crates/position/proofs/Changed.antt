@@ -1,14 +1,9 @@
 -- A position whose slots are changed: what each slot is afterwards.
 -- Assumes nothing.
-use Prim.Native.Nat.{ℕ, _≤_, _<_}
-use native.Mathlib.Omega.{arith}
-use mathlib.Core.Path.{_≡_, refl, sym, ap, _∙_}
-use mathlib.Core.Bool.{false}
-use mathlib.Core.List.{List}
-use lib.Dec.{eqb, ltb}
-use lib.ListN.{length, getD, length-set, List·getD-eq-default}
+use Rattle.laws.proofs.Prelude.{ℕ, _≤_, _<_, _≡_, refl, sym, ap, _∙_, false, List, eqb, ltb, length, getD, length-set, eqb-true, eqb-false}
+use Rattle.laws.proofs.Prelude.{ltb-true, ltb-false, arith}
+use lib.ListN.{List·getD-eq-default}
 use lib.Seq.{getD-set-same, getD-set-other, set-out}
-use borrow.Author.Tests.{eqb-true, eqb-false, ltb-true, ltb-false}
 use Rattle.laws.specs.Booleans.{pick, split}
 use Rattle.laws.specs.Each.{rewriteFirst, length-rewriteFirst, rewritten, not-rewritten}
 use Rattle.sheet.specs.Field.{count}

@@ -1,14 +1,7 @@
 -- What four bytes that decode to a step tell: they are the step's, and they are in range.
 -- Assumes nothing.
-use Prim.Native.Nat.{ℕ, _≤_, _<_}
-use native.Mathlib.Omega.{arith}
-use mathlib.Core.Path.{_≡_, refl, sym}
-use mathlib.Core.Bool.{Bool, true, _&&_}
-use mathlib.Core.Logic.{_⊎_, inl, inr}
-use mathlib.Core.List.{List, [], _∷_}
-use lib.Dec.{eqb, ltb, lit≤, lit<}
-use lib.ListN.{length, getD}
-use borrow.Author.Tests.{eqb-true, ltb-true}
+use Rattle.laws.proofs.Prelude.{ℕ, _≤_, _<_, _≡_, refl, sym, Bool, true, _&&_, List, [], _∷_, _⊎_, inl, inr, eqb, ltb, lit<, lit≤, length}
+use Rattle.laws.proofs.Prelude.{getD, eqb-true, ltb-true, arith}
 use Rattle.laws.specs.Booleans.{pick, split, either, and-parts, or-parts}
 use Rattle.sheet.specs.Field.{count, signatures}
 use Rattle.slots.specs.declared.Destination.{Destination}

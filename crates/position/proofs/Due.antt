@@ -1,14 +1,9 @@
 -- The bumps that are owed are those of the pool that wait outside the block and can have a deadline.
 -- Assumes nothing.
-use Prim.Native.Nat.{ℕ, _+_, _-_, _<_, _≤_}
-use native.Mathlib.Omega.{arith}
-use mathlib.Core.Path.{_≡_, refl, sym, _∙_}
-use mathlib.Core.Bool.{Bool, true, false, _&&_, and-true, and-false}
-use mathlib.Core.List.{List}
+use Rattle.laws.proofs.Prelude.{ℕ, _+_, _-_, _≤_, _<_, _≡_, refl, sym, _∙_, Bool, true, false, _&&_, and-false, List, eqb, length, eq-eqb}
+use Rattle.laws.proofs.Prelude.{ne-eqb, arith}
+use mathlib.Core.Bool.{and-true}
 use lib.Bits.{bitAnd}
-use lib.Dec.{eqb}
-use lib.ListN.{length}
-use borrow.Author.Tests.{eq-eqb, ne-eqb}
 use Rattle.laws.specs.Booleans.{split}
 use Rattle.laws.specs.Below.{anyBelow, any-same, any-all-false}
 use Rattle.laws.specs.Mask.{bit}

@@ -1,9 +1,6 @@
 -- A mined block with nothing in it alters nothing but the number of blocks.
 -- Assumes nothing.
-use Prim.Native.Nat.{ℕ, _+_, _≤_, _<_}
-use mathlib.Core.Path.{_≡_, sym, _∙_}
-use mathlib.Core.Bool.{false}
-use mathlib.Core.List.{List}
+use Rattle.laws.proofs.Prelude.{ℕ, _+_, _≤_, _<_, _≡_, sym, _∙_, false, List}
 use Rattle.laws.specs.Each.{rewrite-kept}
 use Rattle.laws.specs.Booleans.{clash, fails-by}
 use Rattle.laws.specs.Bits.{no-bit}

@@ -1,12 +1,6 @@
 -- What right fields tell of a step of each kind, for the methods.
 -- Assumes nothing.
-use Prim.Native.Nat.{ℕ, _<_, _≤_}
-use native.Mathlib.Omega.{arith}
-use mathlib.Core.Path.{_≡_}
-use mathlib.Core.Bool.{true, not, _&&_}
-use mathlib.Core.List.{List}
-use lib.Dec.{eqb, ltb}
-use borrow.Author.Tests.{eqb-true, ltb-true, not-true}
+use Rattle.laws.proofs.Prelude.{ℕ, _≤_, _<_, _≡_, true, not, _&&_, List, eqb, ltb, eqb-true, ltb-true, not-true, arith}
 use Rattle.laws.specs.Booleans.{either, and-parts, or-parts, or-right}
 use Rattle.sheet.specs.Field.{count}
 use Rattle.sheet.specs.Setup.{conduct}

@@ -1,13 +1,7 @@
 -- The first shares, gone through as the members of a set.
 -- Assumes nothing.
-use Prim.Native.Nat.{ℕ, zero, suc, _+_, _-_, _≤_, _<_}
-use native.Mathlib.Omega.{arith}
-use mathlib.Core.Path.{_≡_, refl, sym, _∙_}
-use mathlib.Core.Bool.{Bool, true, false, not, _||_}
-use mathlib.Core.List.{List, [], _∷_, _++_}
-use lib.Dec.{eqb, ltb}
-use lib.ListN.{set}
-use borrow.Author.Tests.{ltb-true}
+use Rattle.laws.proofs.Prelude.{ℕ, zero, suc, _+_, _-_, _≤_, _<_, _≡_, refl, sym, _∙_, Bool, true, false, not, _||_, List, [], _∷_, _++_}
+use Rattle.laws.proofs.Prelude.{eqb, ltb, set, ltb-true, arith}
 use Rattle.laws.specs.Below.{allBelow, all-at}
 use Rattle.laws.specs.Booleans.{pick, split}
 use Rattle.laws.specs.Gather.{every}

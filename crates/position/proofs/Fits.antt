@@ -1,11 +1,6 @@
 -- What a setup that passes for a sheet tells of the sheet.
 -- Assumes nothing.
-use Prim.Native.Nat.{ℕ}
-use native.Mathlib.Omega.{arith}
-use mathlib.Core.Path.{_≡_, ap, _∙_}
-use mathlib.Core.Bool.{false}
-use mathlib.Core.List.{List}
-use borrow.Author.Tests.{eqb-false}
+use Rattle.laws.proofs.Prelude.{ℕ, _≡_, ap, _∙_, false, List, eqb-false, arith}
 use Rattle.sheet.specs.Field.{count}
 use Rattle.sheet.specs.Setup.{perDay, conduct}
 use Rattle.sheet.specs.Checked.{SetupChecked}

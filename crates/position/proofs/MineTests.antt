@@ -1,9 +1,6 @@
 -- The tests of kinds 5, 6 and 7 over a view are those of the rules.
 -- Assumes nothing.
-use Prim.Native.Nat.{ℕ, _<_, _≤_}
-use mathlib.Core.Path.{_≡_, ap, _∙_}
-use mathlib.Core.Bool.{Bool}
-use mathlib.Core.List.{List}
+use Rattle.laws.proofs.Prelude.{ℕ, _≤_, _<_, _≡_, ap, _∙_, Bool, List}
 use Rattle.laws.specs.Failing.{firstFailing}
 use Rattle.laws.specs.Sets.{set-bit, set-some}
 use Rattle.sheet.specs.Field.{count, parent}

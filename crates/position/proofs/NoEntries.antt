@@ -1,14 +1,8 @@
 -- A transaction that is neither in the pool nor in the block: a mined block and a bump leave its slot as it is; so does a block that
 -- strikes nobody, of one that is not in it.
 -- Assumes nothing.
-use Prim.Native.Nat.{ℕ, _≤_, _<_}
-use native.Mathlib.Omega.{arith}
-use mathlib.Core.Path.{_≡_, sym, ap, _∙_}
-use mathlib.Core.Bool.{false, _||_}
-use mathlib.Core.List.{List}
+use Rattle.laws.proofs.Prelude.{ℕ, _≤_, _<_, _≡_, sym, ap, _∙_, false, _||_, List, eqb, eqb-true, ltb-false, arith}
 use lib.Bits.{bitOr}
-use lib.Dec.{eqb}
-use borrow.Author.Tests.{eqb-true, ltb-false}
 use Rattle.laws.specs.Booleans.{split, or-neither}
 use Rattle.laws.specs.Mask.{bit}
 use Rattle.laws.specs.Bits.{bit-or}

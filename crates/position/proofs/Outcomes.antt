@@ -1,13 +1,8 @@
 -- A method that stores a slot, or keys, whether or not it refuses: where it does, what stood there is stored again.
 -- Assumes nothing.
-use Prim.Native.Nat.{ℕ, zero, suc, _^_, _+_}
-use mathlib.Core.Path.{_≡_, refl, sym, ap, _∙_}
-use mathlib.Core.Bool.{Bool, true, _&&_, _||_}
-use mathlib.Core.List.{List, [], _∷_}
+use Rattle.laws.proofs.Prelude.{ℕ, zero, suc, _+_, _^_, _≡_, refl, sym, ap, _∙_, Bool, true, _&&_, _||_, List, [], _∷_, eqb, length, getD}
+use Rattle.laws.proofs.Prelude.{set, eqb-true, eqb-false, eq-eqb, ne-eqb}
 use lib.Bits.{bitOr}
-use lib.Dec.{eqb}
-use lib.ListN.{length, getD, set}
-use borrow.Author.Tests.{eqb-true, eqb-false, eq-eqb, ne-eqb}
 use Rattle.laws.specs.Booleans.{pick, split}
 use Rattle.laws.specs.Failing.{firstFailing}
 use Rattle.sheet.specs.Refusal.{accepted}

@@ -1,13 +1,8 @@
 -- Conduct over the outlook of a position is that of the rules.
 -- Assumes nothing.
-use Prim.Native.Nat.{ℕ, _≤_, _<_}
-use native.Mathlib.Omega.{arith}
-use mathlib.Core.Path.{_≡_, refl, sym, ap, _∙_}
-use mathlib.Core.Bool.{Bool, true, false, not, _&&_, _||_, and-true, and-false, Bool·not-not}
-use mathlib.Core.List.{List}
-use lib.Dec.{eqb, ltb}
-use lib.ListN.{length}
-use borrow.Author.Tests.{eqb-true, ne-eqb}
+use Rattle.laws.proofs.Prelude.{ℕ, _≤_, _<_, _≡_, refl, sym, ap, _∙_, Bool, true, false, not, _&&_, _||_, and-false, List, eqb, ltb, length}
+use Rattle.laws.proofs.Prelude.{eqb-true, ne-eqb, arith}
+use mathlib.Core.Bool.{and-true, Bool·not-not}
 use Rattle.laws.specs.Booleans.{split}
 use Rattle.laws.specs.Below.{anyBelow, any-same, any-found, any-done}
 use Rattle.laws.specs.Mask.{bit}

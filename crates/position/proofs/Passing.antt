@@ -1,12 +1,7 @@
 -- The answer of a call that writes if it fits, case by case: its number, its count and its buffer.
 -- Assumes nothing.
-use Prim.Native.Nat.{ℕ, _≤_, _<_}
-use native.Mathlib.Omega.{arith}
-use mathlib.Core.Path.{_≡_, _∙_}
-use mathlib.Core.List.{List}
-use lib.Dec.{eqb, leb, lit<}
-use lib.ListN.{length, take}
-use borrow.Author.Tests.{eq-eqb, ne-eqb, eqb-true, eqb-false, le-leb, lt-leb, leb-true, leb-false}
+use Rattle.laws.proofs.Prelude.{ℕ, _≤_, _<_, _≡_, _∙_, List, eqb, leb, lit<, length, take, eqb-true, eqb-false, leb-true, leb-false, eq-eqb}
+use Rattle.laws.proofs.Prelude.{ne-eqb, le-leb, lt-leb, arith}
 use Rattle.laws.specs.Booleans.{split}
 use Rattle.laws.specs.Over.{over, take-over}
 use Rattle.sheet.specs.Refusal.{accepted, bufferShort}

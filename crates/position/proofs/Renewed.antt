@@ -1,17 +1,13 @@
 -- The view carried over a step: outside a set the slots stay as they are, and no confirmation and no shared signature goes. It is made
 -- over all members of the set, or over its only one, or where it has none of what is kept.
 -- Assumes nothing.
-use Prim.Native.Nat.{ℕ, zero, suc, _+_, _^_, _≤_, _<_}
+use Rattle.laws.proofs.Prelude.{ℕ, zero, suc, _+_, _^_, _≤_, _<_, _≡_, refl, sym, ap, _∙_, Bool, true, false, not, _&&_, and-false, List}
+use Rattle.laws.proofs.Prelude.{eqb, ltb, eqb-true, eqb-false, ltb-true, ltb-false, eq-eqb, ne-eqb, lt-ltb, le-ltb, arith}
 use native.Mathlib.Nat.{eq-or-lt-of-le, le-of-suc-le-suc, le-antisymm}
 use native.Mathlib.Numerals.{add-one}
-use native.Mathlib.Omega.{arith}
-use mathlib.Core.Path.{_≡_, refl, sym, ap, _∙_}
-use mathlib.Core.Bool.{Bool, true, false, not, _&&_, and-true, and-false}
-use mathlib.Core.List.{List}
+use mathlib.Core.Bool.{and-true}
 use lib.Bits.{bitOr, or-self}
 use lib.Pow.{pow-lt, pow-mono}
-use lib.Dec.{eqb, ltb}
-use borrow.Author.Tests.{ltb-true, ltb-false, lt-ltb, le-ltb, eqb-true, eqb-false, eq-eqb, ne-eqb}
 use Rattle.laws.specs.Booleans.{pick, split, either, clash}
 use Rattle.laws.specs.Mask.{bit, unionBelow}
 use Rattle.laws.specs.Bits.{no-bit}

@@ -1,9 +1,6 @@
 -- A loop over the members of a set that rewrites their slots, where the others would stay: a mined block's and a bump's.
 -- Assumes nothing.
-use Prim.Native.Nat.{ℕ, _+_, _≤_}
-use mathlib.Core.Path.{_≡_, refl, _∙_}
-use mathlib.Core.List.{List}
-use lib.ListN.{length, set, length-set}
+use Rattle.laws.proofs.Prelude.{ℕ, _+_, _≤_, _≡_, refl, _∙_, List, length, set, length-set}
 use Rattle.laws.specs.Each.{rewriteFirst, rewrite-start, rewrite-again, rewrite-done}
 use Rattle.sheet.specs.Field.{count}
 use Rattle.slots.specs.declared.Slot.{Slot}

@@ -1,20 +1,15 @@
 -- An accepted step of each kind leaves the slots outside `changedSet` as they are, so that the view carried over it is that of the position
 -- after it.
 -- Assumes nothing.
-use Prim.Native.Nat.{ℕ, _+_, _/_, _^_, _<_, _≤_}
+use Rattle.laws.proofs.Prelude.{ℕ, _+_, _/_, _^_, _≤_, _<_, _≡_, refl, sym, ap, _∙_, Bool, true, false, List, [], _∷_, _⊎_, inl, inr, eqb}
+use Rattle.laws.proofs.Prelude.{ltb, length, getD, eqb-true, eqb-false, ltb-true, ltb-false, eq-eqb, ne-eqb, lt-ltb, le-ltb, arith}
 use native.Mathlib.Nat.{div-one}
-use native.Mathlib.Omega.{arith}
-use mathlib.Core.Path.{_≡_, refl, sym, ap, subst, _∙_}
-use mathlib.Core.Bool.{Bool, true, false}
-use mathlib.Core.Logic.{_⊎_, inl, inr}
-use mathlib.Core.List.{List, [], _∷_}
+use mathlib.Core.Path.{subst}
 use lib.Bits.{bitOr, or-lt, or-self}
 use lib.Count.{trailingZeros}
-use lib.Dec.{eqb, ltb}
-use lib.ListN.{length, getD, List·getD-eq-default}
+use lib.ListN.{List·getD-eq-default}
 use lib.Pow.{pow-pos, pow-lt, pow-mono}
 use lib.Seq.{set-out}
-use borrow.Author.Tests.{eq-eqb, eqb-true, eqb-false, lt-ltb, le-ltb, ltb-true, ltb-false, ne-eqb}
 use Rattle.laws.specs.Booleans.{pick, split, either, clash, and-parts, or-neither}
 use Rattle.laws.specs.Bits.{bit-or, bit-above}
 use Rattle.laws.specs.Each.{rewriteFirst, length-rewriteFirst}

@@ -1,13 +1,7 @@
 -- The tests of kinds 3 and 4 over a view are those of the rules.
 -- Assumes nothing.
-use Prim.Native.Nat.{ℕ, _≤_, _<_}
-use native.Mathlib.Omega.{arith}
-use mathlib.Core.Path.{_≡_, refl, sym, ap, _∙_}
-use mathlib.Core.Bool.{Bool, not}
-use mathlib.Core.List.{List, [], _∷_, _++_}
-use lib.Dec.{eqb, ltb}
-use lib.ListN.{length, List·getD-eq-default}
-use borrow.Author.Tests.{ltb-false}
+use Rattle.laws.proofs.Prelude.{ℕ, _≤_, _<_, _≡_, refl, sym, ap, _∙_, Bool, not, List, [], _∷_, _++_, eqb, ltb, length, ltb-false, arith}
+use lib.ListN.{List·getD-eq-default}
 use Rattle.laws.specs.Booleans.{split}
 use Rattle.laws.specs.Failing.{firstFailing}
 use Rattle.laws.specs.Mask.{bit}

@@ -1,12 +1,7 @@
 -- The tests of kinds 1 and 2, as the code finds them, are those of the rules.
 -- Assumes nothing.
-use Prim.Native.Nat.{ℕ, zero, suc}
-use native.Mathlib.Omega.{arith}
-use mathlib.Core.Path.{_≡_, sym, _∙_}
-use mathlib.Core.Bool.{Bool, true, false, not, _&&_, _||_, and-false}
-use mathlib.Core.List.{List}
-use lib.Dec.{eqb, ltb}
-use borrow.Author.Tests.{eqb-true, ltb-true, ne-eqb}
+use Rattle.laws.proofs.Prelude.{ℕ, zero, suc, _≡_, sym, _∙_, Bool, true, false, not, _&&_, _||_, and-false, List, eqb, ltb, eqb-true}
+use Rattle.laws.proofs.Prelude.{ltb-true, ne-eqb, arith}
 use Rattle.laws.specs.Booleans.{and-parts, or-right}
 use Rattle.laws.specs.Failing.{firstFailing}
 use Rattle.sheet.specs.Refusal.{accepted, stepConduct}

@@ -1,11 +1,8 @@
 -- A share of no signature changes nothing.
 -- Assumes nothing.
-use Prim.Native.Nat.{ℕ}
-use mathlib.Core.Path.{_≡_, refl}
-use mathlib.Core.Bool.{Bool, true, false}
+use Rattle.laws.proofs.Prelude.{ℕ, _≡_, refl, Bool, true, false, eqb}
 use lib.Bits.{or-zero-r}
 use Rattle.laws.specs.Booleans.{pick}
-use lib.Dec.{eqb}
 use Rattle.slots.specs.declared.Slot.{Slot}
 use Rattle.slots.specs.Slot.{withShared}
 

@@ -1,12 +1,7 @@
 -- The empty journal's position, slot by slot, and its view.
 -- Assumes nothing.
-use Prim.Native.Nat.{ℕ, zero, suc}
-use mathlib.Core.Path.{_≡_, refl, ap}
-use mathlib.Core.Bool.{false}
-use mathlib.Core.List.{List}
-use lib.Dec.{ltb}
-use lib.ListN.{length, length-replicate, getD-replicate, List·getD-eq-default, replicate}
-use borrow.Author.Tests.{ltb-true, ltb-false}
+use Rattle.laws.proofs.Prelude.{ℕ, zero, suc, _≡_, refl, ap, false, List, ltb, length, replicate, ltb-true, ltb-false}
+use lib.ListN.{length-replicate, getD-replicate, List·getD-eq-default}
 use Rattle.laws.specs.Booleans.{split}
 use Rattle.laws.specs.Mask.{unionBelow}
 use Rattle.laws.specs.Sets.{none-set}

@@ -1,12 +1,6 @@
 -- The two outcomes of a step of four bytes: taken, with its fields right and its tests passed, or refused.
 -- Assumes nothing.
-use Prim.Native.Nat.{ℕ}
-use mathlib.Core.Path.{_≡_, refl, sym, ap, _∙_}
-use mathlib.Core.Bool.{true, false}
-use mathlib.Core.Logic.{_⊎_, inl, inr}
-use mathlib.Core.List.{List}
-use lib.Dec.{eqb}
-use borrow.Author.Tests.{eqb-true, eq-eqb, ne-eqb}
+use Rattle.laws.proofs.Prelude.{ℕ, _≡_, refl, sym, ap, _∙_, true, false, List, _⊎_, inl, inr, eqb, eqb-true, eq-eqb, ne-eqb}
 use Rattle.laws.specs.Booleans.{split, either, clash}
 use Rattle.sheet.specs.Refusal.{accepted, stepField}
 use Rattle.slots.specs.declared.Step.{Step}

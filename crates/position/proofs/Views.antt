@@ -1,10 +1,8 @@
 -- A view made one transaction after the other.
 -- Assumes nothing.
-use Prim.Native.Nat.{ℕ, _+_, _≤_}
+use Rattle.laws.proofs.Prelude.{ℕ, _+_, _≤_, _≡_, List}
 use native.Mathlib.Nat.{le-antisymm}
 use native.Mathlib.Numerals.{add-one}
-use mathlib.Core.Path.{_≡_}
-use mathlib.Core.List.{List}
 use Rattle.laws.specs.Mask.{unionBelow}
 use Rattle.laws.specs.Sets.{setBelow}
 use Rattle.slots.specs.declared.Slot.{Slot}

@@ -1,13 +1,7 @@
 -- The lines that are printed, case by case.
 -- Assumes nothing.
-use Prim.Native.Nat.{ℕ, suc, _≤_}
-use native.Mathlib.Omega.{arith}
-use mathlib.Core.Path.{_≡_, refl, sym, ap, _∙_}
-use mathlib.Core.Bool.{true, false}
-use mathlib.Core.List.{List, [], _∷_}
-use lib.Dec.{eqb, lit≤}
-use lib.ListN.{length, getD}
-use borrow.Author.Tests.{eq-eqb, ne-eqb}
+use Rattle.laws.proofs.Prelude.{ℕ, suc, _≤_, _≡_, refl, sym, ap, _∙_, true, false, List, [], _∷_, eqb, lit≤, length, getD, eq-eqb, ne-eqb}
+use Rattle.laws.proofs.Prelude.{arith}
 use Rattle.laws.specs.Gather.{length-gather}
 use Rattle.sheet.specs.Refusal.{accepted}
 use Rattle.sheet.specs.Field.{count}

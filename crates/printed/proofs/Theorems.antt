@@ -1,12 +1,6 @@
 -- What swapreport prints after its first line: what `transaction_line` reads from a report is the rules' line.
 -- Assumes nothing.
-use Prim.Native.Nat.{ℕ, suc, _*_, _<_}
-use native.Mathlib.Omega.{arith}
-use mathlib.Core.Path.{_≡_, refl, ap, _∙_}
-use mathlib.Core.List.{List, [], _∷_}
-use lib.Dec.{lit<}
-use lib.ListN.{getD, take}
-use borrow.Author.Tests.{eq-eqb}
+use Rattle.laws.proofs.Prelude.{ℕ, suc, _*_, _<_, _≡_, refl, ap, _∙_, List, [], _∷_, lit<, getD, take, eq-eqb, arith}
 use Rattle.laws.specs.Gather.{gather, gather-at}
 use Rattle.sheet.specs.Refusal.{accepted}
 use Rattle.sheet.specs.Field.{count}

@@ -1,14 +1,11 @@
 -- The bytes of an actor's open steps, written from their sets, are those of the list.
 -- Assumes nothing.
-use Prim.Native.Nat.{ℕ, zero, suc, _+_, _*_, _/_, _%_, _≤_, _<_}
-use native.Mathlib.Omega.{arith}
+use Rattle.laws.proofs.Prelude.{ℕ, zero, suc, _+_, _*_, _/_, _%_, _≤_, _<_, _≡_, refl, sym, ap, _∙_, Bool, true, false, List, [], _∷_, _++_}
+use Rattle.laws.proofs.Prelude.{append-assoc, append-nil, eqb, length, getD, replicate, lt-ltb, le-ltb, arith}
 use native.Mathlib.Numerals.{add-one}
 use native.Mathlib.Nat.{eq-or-lt-of-le, le-of-suc-le-suc}
-use mathlib.Core.Path.{_≡_, refl, sym, ap, ap₂, _∙_}
-use mathlib.Core.Bool.{Bool, true, false}
-use mathlib.Core.List.{List, [], _∷_, _++_, flatMap, append-assoc, append-nil}
-use lib.Dec.{eqb}
-use lib.ListN.{length, getD, replicate}
+use mathlib.Core.Path.{ap₂}
+use mathlib.Core.List.{flatMap}
 use Rattle.laws.specs.Booleans.{split, either, clash, and-parts}
 use Rattle.laws.specs.Each.{rewritten}
 use Rattle.laws.specs.Gather.{gather, gather-empty, gather-same, length-flat, flat-append}
@@ -19,7 +16,6 @@ use Rattle.slots.specs.declared.Step.the-variants.{Share, Give, SendToPool, Han
 use Rattle.slots.specs.Destination.{alice, bob, carol, miner, destinations}
 use Rattle.sheet.specs.Field.{parties, partyAt, isParty}
 use Rattle.sheet.proofs.Parties.{parties-few, party-none, at-not-miner}
-use borrow.Author.Tests.{lt-ltb, le-ltb}
 use Rattle.steps.specs.declared.Decoded.{Decoded}
 use Rattle.steps.specs.declared.Decoded.the-variants.{Read, Refused}
 use Rattle.steps.specs.Decode.{noTransaction, fieldsRight, decode, stepBytes}

@@ -1,14 +1,9 @@
 -- An actor that no transaction and no signature is tested for: its sets below 255 are empty.
 -- Assumes nothing.
-use Prim.Native.Nat.{ℕ, _+_, _/_, _%_, _<_}
-use native.Mathlib.Omega.{arith}
-use mathlib.Core.Path.{_≡_, refl, sym, _∙_}
-use mathlib.Core.Bool.{Bool, true, false, not, _||_, and-false}
-use mathlib.Core.List.{List}
+use Rattle.laws.proofs.Prelude.{ℕ, _+_, _/_, _%_, _<_, _≡_, refl, sym, _∙_, Bool, true, false, not, _||_, and-false, List, eqb, replicate}
+use Rattle.laws.proofs.Prelude.{eqb-true, eqb-false, ne-eqb, not-true, arith}
 use lib.Bits.{and-zero-r}
-use lib.Dec.{eqb}
-use lib.ListN.{replicate, getD-replicate}
-use borrow.Author.Tests.{eqb-true, eqb-false, ne-eqb, not-true}
+use lib.ListN.{getD-replicate}
 use Rattle.laws.specs.Booleans.{split, either, and-parts, or-parts}
 use Rattle.laws.specs.Each.{rewrite-kept}
 use Rattle.laws.specs.Failing.{firstFailing}

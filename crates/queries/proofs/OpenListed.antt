@@ -1,12 +1,8 @@
 -- An open step by its numbers: what its fields ask for and the tests of its kind.
 -- Assumes nothing.
-use Prim.Native.Nat.{ℕ, _<_}
-use native.Mathlib.Omega.{arith}
-use mathlib.Core.Path.{_≡_, refl, sym, _∙_}
-use mathlib.Core.Bool.{true, false, _&&_, _||_, or-false, and-false}
-use mathlib.Core.List.{List}
-use lib.Dec.{eqb, leb}
-use borrow.Author.Tests.{eqb-true, eqb-false, ne-eqb, lt-ltb}
+use Rattle.laws.proofs.Prelude.{ℕ, _<_, _≡_, refl, sym, _∙_, true, false, _&&_, _||_, and-false, List, eqb, leb, eqb-true, eqb-false}
+use Rattle.laws.proofs.Prelude.{ne-eqb, lt-ltb, arith}
+use mathlib.Core.Bool.{or-false}
 use Rattle.laws.specs.Booleans.{split, clash, and-parts}
 use Rattle.laws.specs.Bits.{no-bit}
 use Rattle.sheet.specs.Field.{count, signatures, place, parent, payees}

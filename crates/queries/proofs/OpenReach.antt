@@ -1,14 +1,10 @@
 -- Which transaction bytes an actor's steps of a kind and a destination can have, and the sets of the open ones.
 -- Assumes nothing.
-use Prim.Native.Nat.{ℕ, zero, suc, _+_, _*_, _/_, _%_, _≤_, _<_}
+use Rattle.laws.proofs.Prelude.{ℕ, zero, suc, _+_, _*_, _/_, _%_, _≤_, _<_, _≡_, refl, sym, ap, _∙_, Bool, true, false, not, _&&_, _||_}
+use Rattle.laws.proofs.Prelude.{and-false, List, [], _∷_, eqb, ltb, getD, eqb-true, ltb-true, ne-eqb, lt-ltb, le-ltb, not-true, not-false}
+use Rattle.laws.proofs.Prelude.{arith}
 use native.Mathlib.Nat.{eq-or-lt-of-le, le-of-suc-le-suc}
-use native.Mathlib.Omega.{arith}
-use mathlib.Core.Path.{_≡_, refl, sym, ap, _∙_}
-use mathlib.Core.Bool.{Bool, true, false, not, _&&_, _||_, and-true, and-false}
-use mathlib.Core.List.{List, [], _∷_}
-use lib.Dec.{eqb, ltb}
-use lib.ListN.{getD}
-use borrow.Author.Tests.{eqb-true, ne-eqb, ltb-true, lt-ltb, le-ltb, not-true, not-false}
+use mathlib.Core.Bool.{and-true}
 use Rattle.laws.specs.Booleans.{split, either, clash, and-parts, or-parts, or-right}
 use Rattle.laws.specs.Sets.{joined, setBelow, set-same}
 use Rattle.sheet.specs.Field.{count, signatures, parent}

@@ -1,13 +1,7 @@
 -- The refusal of a step over what is the same for all steps of its actor is that of the rules.
 -- Assumes nothing.
-use Prim.Native.Nat.{ℕ, _<_}
-use native.Mathlib.Omega.{arith}
-use mathlib.Core.Path.{_≡_, refl, sym, ap, _∙_}
-use mathlib.Core.Bool.{Bool, true, false, not, _&&_, and-false}
-use mathlib.Core.List.{List, [], _∷_}
-use lib.Dec.{eqb}
-use lib.ListN.{getD}
-use borrow.Author.Tests.{eqb-true, eqb-false, not-true, not-false}
+use Rattle.laws.proofs.Prelude.{ℕ, _<_, _≡_, refl, sym, ap, _∙_, Bool, true, false, not, _&&_, and-false, List, [], _∷_, eqb, getD}
+use Rattle.laws.proofs.Prelude.{eqb-true, eqb-false, not-true, not-false, arith}
 use Rattle.laws.specs.Booleans.{split, and-parts}
 use Rattle.laws.specs.Below.{any-all-false}
 use Rattle.laws.specs.Failing.{firstFailing}

@@ -1,13 +1,8 @@
 -- A set of open steps from the transactions that are tested: the others cannot be open.
 -- Assumes nothing.
-use Prim.Native.Nat.{ℕ, _+_, _<_}
-use native.Mathlib.Omega.{arith}
-use mathlib.Core.Path.{_≡_, refl, sym, _∙_}
-use mathlib.Core.Bool.{Bool, true, false, _&&_, _||_, Bool·beq, and-false}
-use mathlib.Core.List.{List}
-use lib.Dec.{eqb, leb}
-use lib.ListN.{length}
-use borrow.Author.Tests.{eqb-true, eqb-false, ne-eqb}
+use Rattle.laws.proofs.Prelude.{ℕ, _+_, _<_, _≡_, refl, sym, _∙_, Bool, true, false, _&&_, _||_, and-false, List, eqb, leb, length}
+use Rattle.laws.proofs.Prelude.{eqb-true, eqb-false, ne-eqb, arith}
+use mathlib.Core.Bool.{Bool·beq}
 use Rattle.laws.specs.Below.{allBelow, all-at}
 use Rattle.laws.specs.Bits.{bit-and, no-bit}
 use Rattle.laws.specs.Booleans.{pick, split, clash, and-parts, beq-same}

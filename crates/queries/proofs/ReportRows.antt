@@ -1,12 +1,7 @@
 -- The rows of a report over a view and single slots are those of the position.
 -- Assumes nothing.
-use Prim.Native.Nat.{ℕ, zero, suc, _≤_, _<_}
-use native.Mathlib.Omega.{arith}
+use Rattle.laws.proofs.Prelude.{ℕ, zero, suc, _≤_, _<_, _≡_, refl, sym, _∙_, true, List, [], _∷_, length, getD, arith}
 use native.Mathlib.Nat.{not-suc-le-zero, le-of-suc-le-suc}
-use mathlib.Core.Path.{_≡_, refl, sym, _∙_}
-use mathlib.Core.Bool.{true}
-use mathlib.Core.List.{List, [], _∷_}
-use lib.ListN.{length, getD}
 use Rattle.laws.specs.Little.{bytesOf}
 use Rattle.laws.specs.Mask.{bit}
 use Rattle.laws.specs.Sets.{setBelow, set-bit}

@@ -1,9 +1,6 @@
 -- Payouts, computed, on both sides.
 -- Assumes nothing.
-use Prim.Native.Nat.{ℕ}
-use mathlib.Core.Path.{_≡_, refl}
-use mathlib.Core.Bool.{Bool, true, not, _&&_}
-use mathlib.Core.List.{List, [], _∷_}
+use Rattle.laws.proofs.Prelude.{ℕ, _≡_, refl, Bool, true, not, _&&_, List, [], _∷_}
 use Rattle.sheet.proofs.Opened.{opened}
 use Rattle.ledger.specs.Coin.{nobody}
 use Rattle.slots.specs.Destination.{alice, bob, contract}

@@ -1,14 +1,8 @@
 -- Holders of coins: only the sheet's transactions count, and one of them ends the coin or none does.
 -- Assumes nothing.
-use Prim.Native.Nat.{ℕ, zero, suc, _+_, _≤_, _<_}
+use Rattle.laws.proofs.Prelude.{ℕ, zero, suc, _+_, _≤_, _<_, _≡_, refl, sym, ap, _∙_, Bool, _&&_, List, _⊎_, inl, inr, eqb, ltb, arith}
 use native.Mathlib.Nat.{le-antisymm}
 use native.Mathlib.Numerals.{add-one}
-use native.Mathlib.Omega.{arith}
-use mathlib.Core.Path.{_≡_, refl, sym, ap, _∙_}
-use mathlib.Core.Logic.{_⊎_, inl, inr}
-use mathlib.Core.Bool.{Bool, _&&_}
-use mathlib.Core.List.{List}
-use lib.Dec.{eqb, ltb}
 use Rattle.laws.specs.Booleans.{pick, split, either}
 use Rattle.laws.specs.Below.{any-same}
 use Rattle.laws.specs.Mask.{bit}

@@ -1,9 +1,6 @@
 -- A call on a position with its counts, by its number.
 -- Assumes nothing.
-use Prim.Native.Nat.{ℕ}
-use mathlib.Core.Path.{_≡_, sym, _∙_}
-use mathlib.Core.List.{List}
-use borrow.Author.Tests.{ne-eqb}
+use Rattle.laws.proofs.Prelude.{ℕ, _≡_, sym, _∙_, List, ne-eqb}
 use Rattle.laws.specs.Failing.{firstFailing}
 use Rattle.position.specs.Play.{journalSteps, callTests}
 use Rattle.dated.specs.declared.Dated.{Dated}

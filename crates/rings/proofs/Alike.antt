@@ -1,10 +1,6 @@
 -- Two sheets with the same transactions and the same parties but Carol.
 -- Assumes nothing.
-use Prim.Native.Nat.{ℕ}
-use mathlib.Core.Path.{_≡_}
-use mathlib.Core.Bool.{false}
-use mathlib.Core.List.{List}
-use lib.Dec.{eqb}
+use Rattle.laws.proofs.Prelude.{ℕ, _≡_, false, List, eqb}
 use Rattle.sheet.specs.Field.{isParty, entry}
 use Rattle.slots.specs.Destination.{carol}
 use Rattle.rings.specs.Renaming.{SameTransactions}

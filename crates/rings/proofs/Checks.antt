@@ -1,14 +1,8 @@
 -- A sheet of two that passes the check passes it with Carol put in.
 -- Assumes nothing.
-use Prim.Native.Nat.{ℕ, _+_, _*_, _-_, _^_, _<_}
-use native.Mathlib.Omega.{arith}
-use mathlib.Core.Path.{_≡_, refl, fun-ext}
-use mathlib.Core.Bool.{Bool, true, _&&_}
-use mathlib.Core.List.{List}
-use lib.Dec.{ltb, leb}
+use Rattle.laws.proofs.Prelude.{ℕ, _+_, _-_, _*_, _^_, _<_, _≡_, refl, fun-ext, Bool, true, _&&_, List, ltb, leb, length, length-drop}
+use Rattle.laws.proofs.Prelude.{eqb-true, ltb-true, eq-eqb, lt-ltb, le-leb, arith}
 use lib.Pow.{pow-pos}
-use lib.ListN.{length, length-drop}
-use borrow.Author.Tests.{lt-ltb, ltb-true, le-leb, eqb-true, eq-eqb}
 use Rattle.laws.specs.Booleans.{and-parts}
 use Rattle.laws.specs.Below.{allBelow, all-at, all-from}
 use Rattle.laws.specs.Failing.{firstFailing, testOf, passed}

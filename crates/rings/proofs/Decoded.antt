@@ -1,10 +1,6 @@
 -- Bytes that do not name Carol are the same step, or refused, on both sheets.
 -- Assumes nothing.
-use Prim.Native.Nat.{ℕ}
-use mathlib.Core.Path.{_≡_, refl, fun-ext}
-use mathlib.Core.Bool.{false}
-use mathlib.Core.List.{List}
-use lib.Dec.{eqb}
+use Rattle.laws.proofs.Prelude.{ℕ, _≡_, refl, fun-ext, false, List, eqb}
 use Rattle.laws.specs.Cases.{picked-has}
 use Rattle.slots.specs.declared.Destination.{Destination}
 use Rattle.slots.specs.declared.Destination.the-variants.{Alice, Bob, Contract}

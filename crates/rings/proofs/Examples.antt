@@ -1,10 +1,6 @@
 -- A renaming, a ring of three with its parties renamed, and a journal of it, computed.
 -- Assumes nothing.
-use Prim.Native.Nat.{ℕ, zero, suc}
-use native.Mathlib.Omega.{arith}
-use mathlib.Core.Path.{_≡_, refl}
-use mathlib.Core.List.{List, [], _∷_}
-use lib.Dec.{ltb}
+use Rattle.laws.proofs.Prelude.{ℕ, zero, suc, _≡_, refl, List, [], _∷_, ltb, arith}
 use Rattle.sheet.specs.Refusal.{accepted}
 use Rattle.laws.specs.Sets.{joined, setBelow}
 use Rattle.sheet.specs.Field.{place, partyAt}

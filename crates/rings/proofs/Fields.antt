@@ -1,13 +1,6 @@
 -- The fields of a sheet of two, and of that with Carol put in.
 -- Assumes nothing.
-use Prim.Native.Nat.{ℕ, zero, suc, _+_, _*_, _<_}
-use native.Mathlib.Omega.{arith}
-use mathlib.Core.Path.{_≡_, refl, fun-ext}
-use mathlib.Core.Bool.{false}
-use mathlib.Core.List.{List, [], _∷_}
-use lib.Dec.{eqb}
-use lib.ListN.{getD, drop}
-use borrow.Author.Tests.{le-ltb}
+use Rattle.laws.proofs.Prelude.{ℕ, zero, suc, _+_, _*_, _<_, _≡_, refl, fun-ext, false, List, [], _∷_, eqb, getD, drop, le-ltb, arith}
 use Rattle.sheet.specs.Field.{byte, parties, arrays, place, isParty, count, entry, lockPair}
 use Rattle.sheet.proofs.Parties.{parties-two, parties-three}
 use Rattle.slots.specs.Destination.{carol}

@@ -1,9 +1,6 @@
 -- What is worked out from a sheet's transactions is the same on two sheets with the same transactions.
 -- Assumes nothing.
-use Prim.Native.Nat.{ℕ}
-use mathlib.Core.Path.{_≡_, ap, fun-ext}
-use mathlib.Core.Bool.{false, _||_}
-use mathlib.Core.List.{List}
+use Rattle.laws.proofs.Prelude.{ℕ, _≡_, ap, fun-ext, false, _||_, List}
 use Rattle.laws.specs.Climb.{climb}
 use Rattle.sheet.specs.Field.{opening}
 use Rattle.sheet.specs.LockHeight.{lockBlocks, lockHeight}

@@ -1,11 +1,8 @@
 -- Steps and runs on a sheet of two, and on that with Carol put in.
 -- Assumes nothing.
-use Prim.Native.Nat.{ℕ, _+_, _<_}
-use mathlib.Core.Path.{_≡_, refl, sym, ap, ap₂, fun-ext, _∙_}
-use mathlib.Core.Bool.{true, false, not}
-use mathlib.Core.List.{List, [], _∷_, _++_}
-use lib.Dec.{eqb}
-use borrow.Author.Tests.{eqb-true, eqb-false, not-true}
+use Rattle.laws.proofs.Prelude.{ℕ, _+_, _<_, _≡_, refl, sym, ap, _∙_, fun-ext, true, false, not, List, [], _∷_, _++_, eqb, eqb-true}
+use Rattle.laws.proofs.Prelude.{eqb-false, not-true}
+use mathlib.Core.Path.{ap₂}
 use Rattle.laws.specs.Booleans.{split, and-parts, or-neither}
 use Rattle.laws.specs.Failing.{firstFailing, passed-append}
 use Rattle.laws.specs.Gather.{every}

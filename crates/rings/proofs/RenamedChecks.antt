@@ -1,13 +1,7 @@
 -- A sheet of three that passes the check passes it with its parties renamed.
 -- Assumes nothing.
-use Prim.Native.Nat.{ℕ, _+_, _*_, _^_, _<_}
-use native.Mathlib.Omega.{arith}
-use mathlib.Core.Path.{_≡_, refl, ap, _∙_, fun-ext}
-use mathlib.Core.Bool.{Bool, true, false, _&&_}
-use mathlib.Core.List.{List}
-use lib.Dec.{eqb, ltb, leb}
-use lib.ListN.{length}
-use borrow.Author.Tests.{eq-eqb, lt-ltb, le-leb}
+use Rattle.laws.proofs.Prelude.{ℕ, _+_, _*_, _^_, _<_, _≡_, refl, ap, _∙_, fun-ext, Bool, true, false, _&&_, List, eqb, ltb, leb, length}
+use Rattle.laws.proofs.Prelude.{eq-eqb, lt-ltb, le-leb, arith}
 use Rattle.laws.specs.Booleans.{and-parts}
 use Rattle.laws.specs.Below.{allBelow, anyBelow, all-at, all-from}
 use Rattle.laws.specs.Each.{length-rewriteFirst}

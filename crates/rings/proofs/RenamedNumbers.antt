@@ -1,11 +1,7 @@
 -- Renamed numbers: which are equal, the miner's, known ones, and those that entries name.
 -- Assumes nothing.
-use Prim.Native.Nat.{ℕ, zero, suc, _+_, _-_, _<_}
-use native.Mathlib.Omega.{arith}
-use mathlib.Core.Path.{_≡_, refl, sym, ap, _∙_}
-use mathlib.Core.Bool.{true, false≢true}
-use lib.Dec.{eqb, ltb}
-use borrow.Author.Tests.{eqb-true, eqb-false, eq-eqb, ne-eqb, ltb-true, lt-ltb}
+use Rattle.laws.proofs.Prelude.{ℕ, zero, suc, _+_, _-_, _<_, _≡_, refl, sym, ap, _∙_, true, false≢true, eqb, ltb, eqb-true, eqb-false}
+use Rattle.laws.proofs.Prelude.{ltb-true, eq-eqb, ne-eqb, lt-ltb, arith}
 use Rattle.laws.specs.Booleans.{split}
 use Rattle.sheet.specs.Field.{miner}
 use Rattle.slots.specs.Destination.{destinations}

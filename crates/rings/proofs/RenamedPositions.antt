@@ -1,14 +1,10 @@
 -- Positions with the parties renamed, after each change of a position.
 -- Assumes nothing.
-use Prim.Native.Nat.{ℕ, _^_, _<_, _≤_}
-use native.Mathlib.Omega.{arith}
-use mathlib.Core.Path.{_≡_, refl, sym, ap, _∙_, fun-ext}
-use mathlib.Core.List.{List}
-use lib.Dec.{eqb, ltb}
+use Rattle.laws.proofs.Prelude.{ℕ, _^_, _≤_, _<_, _≡_, refl, sym, ap, _∙_, fun-ext, List, eqb, ltb, length, getD, length-set, eqb-true}
+use Rattle.laws.proofs.Prelude.{eqb-false, ltb-true, ltb-false, arith}
 use lib.Bits.{bitOr}
-use lib.ListN.{length, getD, length-set, List·getD-eq-default}
+use lib.ListN.{List·getD-eq-default}
 use lib.Seq.{getD-set-same, getD-set-other, set-out}
-use borrow.Author.Tests.{eqb-true, eqb-false, ltb-true, ltb-false}
 use Rattle.laws.specs.Booleans.{pick, split}
 use Rattle.laws.specs.Each.{rewriteFirst, length-rewriteFirst}
 use Rattle.sheet.specs.Field.{count}

@@ -1,12 +1,7 @@
 -- Every journal of a sheet of three, under every setup, with the parties renamed.
 -- Assumes nothing.
-use Prim.Native.Nat.{ℕ}
-use native.Mathlib.Omega.{arith}
-use mathlib.Core.Path.{_≡_, refl, _∙_}
-use mathlib.Core.Bool.{Bool, true, false, _||_}
-use mathlib.Core.List.{List, [], _∷_, _++_}
-use lib.Dec.{eqb, leb}
-use borrow.Author.Tests.{eqb-true, eqb-false, lt-leb}
+use Rattle.laws.proofs.Prelude.{ℕ, _≡_, refl, _∙_, Bool, true, false, _||_, List, [], _∷_, _++_, eqb, leb, eqb-true, eqb-false, lt-leb}
+use Rattle.laws.proofs.Prelude.{arith}
 use Rattle.laws.specs.Booleans.{pick, split, or-neither}
 use Rattle.laws.specs.Failing.{firstFailing, passed-append}
 use Rattle.sheet.specs.Refusal.{accepted, setupBlocks, setupParties, setupConduct, journalLength}

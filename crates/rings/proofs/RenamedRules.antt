@@ -1,10 +1,6 @@
 -- The tests and effects of a step and of the step with the parties renamed, on one sheet, under open conduct.
 -- Assumes nothing.
-use Prim.Native.Nat.{ℕ, _+_, _<_}
-use mathlib.Core.Path.{_≡_, refl, ap, fun-ext}
-use mathlib.Core.Bool.{Bool, true, false}
-use mathlib.Core.List.{List}
-use lib.Dec.{eqb}
+use Rattle.laws.proofs.Prelude.{ℕ, _+_, _<_, _≡_, refl, ap, fun-ext, Bool, true, false, List, eqb}
 use Rattle.slots.specs.Destination.{destinations}
 use Rattle.slots.specs.Slot.{sharedAny, entryFor}
 use Rattle.slots.specs.Signatures.{sharedSecrets, shareMask, exposedMask}

@@ -1,12 +1,8 @@
 -- Journals and reports with the parties renamed.
 -- Assumes nothing.
-use Prim.Native.Nat.{ℕ, zero, suc, _+_, _<_}
-use native.Mathlib.Omega.{arith}
-use mathlib.Core.Path.{_≡_, refl, sym, ap, _∙_}
-use mathlib.Core.Bool.{Bool, true, false, not, and-false}
-use mathlib.Core.List.{List, [], _∷_, _++_, map}
-use lib.Dec.{eqb}
-use lib.ListN.{length}
+use Rattle.laws.proofs.Prelude.{ℕ, zero, suc, _+_, _<_, _≡_, refl, sym, ap, _∙_, Bool, true, false, not, and-false, List, [], _∷_, _++_}
+use Rattle.laws.proofs.Prelude.{eqb, length, arith}
+use mathlib.Core.List.{map}
 use Rattle.laws.specs.Booleans.{pick, split}
 use Rattle.laws.specs.Failing.{firstFailing, passed-append}
 use Rattle.sheet.specs.Refusal.{accepted, journalLength}

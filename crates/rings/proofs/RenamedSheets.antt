@@ -1,13 +1,9 @@
 -- A sheet of three with its parties renamed: what it says.
 -- Assumes nothing.
-use Prim.Native.Nat.{ℕ, zero, suc, _+_, _*_, _-_, _%_, _<_, _≤_}
-use native.Mathlib.Omega.{arith}
-use mathlib.Core.Path.{_≡_, refl, sym, ap, _∙_, fun-ext}
-use mathlib.Core.Bool.{Bool, true, false, not, _&&_, Bool·beq, and-false}
-use mathlib.Core.List.{List}
-use lib.Dec.{eqb, ltb, leb, lit≤}
-use lib.ListN.{length}
-use borrow.Author.Tests.{ne-eqb, eq-eqb, lt-ltb, le-ltb, le-leb, ltb-true, ltb-false}
+use Rattle.laws.proofs.Prelude.{ℕ, zero, suc, _+_, _-_, _*_, _%_, _≤_, _<_, _≡_, refl, sym, ap, _∙_, fun-ext, Bool, true, false, not, _&&_}
+use Rattle.laws.proofs.Prelude.{and-false, List, eqb, ltb, leb, lit≤, length, ltb-true, ltb-false, eq-eqb, ne-eqb, lt-ltb, le-ltb, le-leb}
+use Rattle.laws.proofs.Prelude.{arith}
+use mathlib.Core.Bool.{Bool·beq}
 use Rattle.laws.specs.Booleans.{split, beq-same}
 use Rattle.laws.specs.Below.{allBelow, anyBelow, all-at, any-found, any-some, any-none, any-all-false}
 use Rattle.laws.specs.Each.{rewritten, not-rewritten}

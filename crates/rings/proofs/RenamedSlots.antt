@@ -1,12 +1,9 @@
 -- Slots with the parties renamed, after each change of a slot.
 -- Assumes nothing.
-use Prim.Native.Nat.{ℕ, zero, suc, _<_}
-use native.Mathlib.Omega.{arith}
+use Rattle.laws.proofs.Prelude.{ℕ, zero, suc, _<_, _≡_, refl, sym, ap, _∙_, Bool, true, false, not, _&&_, _||_, false≢true, List, eqb}
+use Rattle.laws.proofs.Prelude.{arith}
 use native.Mathlib.Nat.{not-suc-le-zero, le-of-suc-le-suc, eq-or-lt-of-le}
-use mathlib.Core.Path.{_≡_, refl, sym, ap, _∙_}
-use mathlib.Core.Bool.{Bool, true, false, not, _&&_, _||_, or-false, false≢true}
-use mathlib.Core.List.{List}
-use lib.Dec.{eqb}
+use mathlib.Core.Bool.{or-false}
 use lib.Bits.{bitOr, or-comm, or-zero-r}
 use Rattle.laws.specs.Booleans.{pick, either}
 use Rattle.laws.specs.Mask.{bit, unionBelow}

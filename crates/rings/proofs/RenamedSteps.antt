@@ -1,12 +1,7 @@
 -- A step of four bytes and the same with the parties renamed.
 -- Assumes nothing.
-use Prim.Native.Nat.{ℕ, zero, suc, _%_, _<_, _≤_}
-use native.Mathlib.Omega.{arith}
-use mathlib.Core.Path.{_≡_, refl, sym, ap, _∙_}
-use mathlib.Core.Bool.{Bool, true, false, _&&_, and-false}
-use mathlib.Core.List.{List}
-use lib.Dec.{eqb, ltb}
-use borrow.Author.Tests.{eqb-true, eqb-false, ne-eqb, ltb-true, ltb-false}
+use Rattle.laws.proofs.Prelude.{ℕ, zero, suc, _%_, _≤_, _<_, _≡_, refl, sym, ap, _∙_, Bool, true, false, _&&_, and-false, List, eqb, ltb}
+use Rattle.laws.proofs.Prelude.{eqb-true, eqb-false, ltb-true, ltb-false, ne-eqb, arith}
 use Rattle.laws.specs.Booleans.{pick, split, either, clash, and-parts, or-parts}
 use Rattle.sheet.specs.Refusal.{accepted}
 use Rattle.sheet.specs.Field.{byte, count}

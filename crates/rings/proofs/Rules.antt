@@ -1,9 +1,6 @@
 -- The rules of a step are the same on two sheets with the same transactions, under open conduct.
 -- Assumes nothing.
-use Prim.Native.Nat.{ℕ}
-use mathlib.Core.Path.{_≡_, refl, fun-ext}
-use mathlib.Core.Bool.{true}
-use mathlib.Core.List.{List, [], _∷_}
+use Rattle.laws.proofs.Prelude.{ℕ, _≡_, refl, fun-ext, true, List, [], _∷_}
 use Rattle.sheet.specs.Setup.{conduct}
 use Rattle.slots.specs.declared.Step.{Step}
 use Rattle.slots.specs.declared.Step.the-variants.{Share, Give, SendToPool, HandToMiner, Include, Mine, Bump}

@@ -1,9 +1,6 @@
 -- P10's sheet with a Carol put in who has nothing: what the words of the claim mean, computed.
 -- Assumes nothing.
-use Prim.Native.Nat.{ℕ}
-use mathlib.Core.Path.{_≡_, refl}
-use mathlib.Core.Bool.{true, false}
-use mathlib.Core.List.{List, [], _∷_}
+use Rattle.laws.proofs.Prelude.{ℕ, _≡_, refl, true, false, List, [], _∷_}
 use Rattle.sheet.specs.Refusal.{accepted, stepField}
 use Rattle.sheet.specs.Check.{sheetRefusal}
 use Rattle.position.specs.Play.{FourBytes, run}

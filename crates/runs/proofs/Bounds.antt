@@ -1,12 +1,6 @@
 -- How large a run's answers can be.
 -- Assumes nothing.
-use Prim.Native.Nat.{ℕ, _+_, _*_, _≤_, _<_}
-use native.Mathlib.Omega.{arith}
-use mathlib.Core.Path.{_≡_, refl}
-use mathlib.Core.List.{List, [], _∷_}
-use lib.Dec.{eqb, lit<, lit≤}
-use lib.ListN.{length}
-use borrow.Author.Tests.{eqb-true, eqb-false}
+use Rattle.laws.proofs.Prelude.{ℕ, _+_, _*_, _≤_, _<_, _≡_, refl, List, [], _∷_, eqb, lit<, lit≤, length, eqb-true, eqb-false, arith}
 use Rattle.laws.specs.Booleans.{split}
 use Rattle.laws.specs.Failing.{firstFailing, answer-below}
 use Rattle.sheet.specs.Refusal.{accepted}

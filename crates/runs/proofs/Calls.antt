@@ -1,12 +1,7 @@
 -- The checks before any step, one after another, and what they give where none fails.
 -- Assumes nothing.
-use Prim.Native.Nat.{ℕ, _%_, _≤_}
-use mathlib.Core.Path.{_≡_, refl, sym, _∙_}
-use mathlib.Core.Bool.{Bool, true, false, not}
-use mathlib.Core.List.{List, [], _∷_, _++_}
-use lib.Dec.{eqb, leb}
-use lib.ListN.{length}
-use borrow.Author.Tests.{eqb-true, leb-true}
+use Rattle.laws.proofs.Prelude.{ℕ, _%_, _≤_, _≡_, refl, sym, _∙_, Bool, true, false, not, List, [], _∷_, _++_, eqb, leb, length, eqb-true}
+use Rattle.laws.proofs.Prelude.{leb-true}
 use Rattle.laws.specs.Booleans.{and-parts}
 use Rattle.laws.specs.Failing.{firstFailing, passed, passed-append, failed-append, fails, passes, none-left, front-passes}
 use Rattle.sheet.specs.Refusal.{journalLength}

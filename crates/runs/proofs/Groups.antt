@@ -1,10 +1,7 @@
 -- The steps of any bytes, group by group of four: the next one, and none where fewer than four bytes are left.
 -- Assumes nothing.
-use Prim.Native.Nat.{ℕ, suc, _+_, _-_, _*_, _≤_, _<_}
-use native.Mathlib.Omega.{arith}
-use mathlib.Core.Path.{_≡_, refl, ap, _∙_}
-use mathlib.Core.List.{List, [], _∷_, _++_}
-use lib.ListN.{length, take, drop, length-drop}
+use Rattle.laws.proofs.Prelude.{ℕ, suc, _+_, _-_, _*_, _≤_, _<_, _≡_, refl, ap, _∙_, List, [], _∷_, _++_, length, take, drop, length-drop}
+use Rattle.laws.proofs.Prelude.{arith}
 use lib.Seq.{drop-cons}
 use Rattle.sheet.specs.Field.{byte}
 use Rattle.position.specs.Play.{FourBytes, journalSteps, journalBytes}

@@ -1,12 +1,7 @@
 -- A row of steps with its counts and its view: what is left of it, what it is without them, and with the counts.
 -- Assumes nothing.
-use Prim.Native.Nat.{ℕ, _+_, _*_, _≤_, _<_}
-use mathlib.Core.Path.{_≡_, refl, sym, _∙_}
-use mathlib.Core.Bool.{Bool, true, false}
-use mathlib.Core.List.{List, [], _∷_}
-use lib.Dec.{eqb}
-use lib.ListN.{length}
-use borrow.Author.Tests.{eq-eqb, ne-eqb, eqb-true}
+use Rattle.laws.proofs.Prelude.{ℕ, _+_, _*_, _≤_, _<_, _≡_, refl, sym, _∙_, Bool, true, false, List, [], _∷_, eqb, length, eqb-true, eq-eqb}
+use Rattle.laws.proofs.Prelude.{ne-eqb}
 use Rattle.laws.specs.Booleans.{pick, split}
 use Rattle.laws.specs.Sets.{removed}
 use Rattle.sheet.specs.Refusal.{accepted, stepField}

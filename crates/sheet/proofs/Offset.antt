@@ -1,10 +1,6 @@
 -- The offset's three cases are document 01's difference, and small.
 -- Assumes nothing.
-use Prim.Native.Nat.{ℕ, _≤_}
-use native.Mathlib.Omega.{arith}
-use mathlib.Core.Path.{_≡_}
-use lib.Dec.{eqb, lit≤}
-use borrow.Author.Tests.{eqb-true, eqb-false}
+use Rattle.laws.proofs.Prelude.{ℕ, _≤_, _≡_, eqb, lit≤, eqb-true, eqb-false, arith}
 use Rattle.laws.specs.Booleans.{split}
 use Rattle.sheet.specs.Saswap.{offset, offsetByDifference}
 

@@ -1,13 +1,9 @@
 -- The parents of a set: those of its members below a number, and one member more; those of all transactions.
 -- Assumes nothing.
-use Prim.Native.Nat.{ℕ, _+_, _≤_, _<_}
+use Rattle.laws.proofs.Prelude.{ℕ, _+_, _≤_, _<_, _≡_, refl, sym, ap, _∙_, Bool, true, false, _&&_, _||_, and-false, List, eqb, eqb-true}
+use Rattle.laws.proofs.Prelude.{eqb-false, eq-eqb, ne-eqb, arith}
 use native.Mathlib.Nat.{le-antisymm}
-use native.Mathlib.Omega.{arith}
-use mathlib.Core.Path.{_≡_, refl, sym, ap, _∙_}
-use mathlib.Core.Bool.{Bool, true, false, _&&_, _||_, or-false, and-false}
-use mathlib.Core.List.{List}
-use lib.Dec.{eqb}
-use borrow.Author.Tests.{eqb-true, eqb-false, eq-eqb, ne-eqb}
+use mathlib.Core.Bool.{or-false}
 use Rattle.laws.specs.Booleans.{split}
 use Rattle.laws.specs.Below.{allBelow, all-at, anyBelow, any-next, any-same}
 use Rattle.laws.specs.Bits.{no-bit}

@@ -1,13 +1,7 @@
 -- Laws of parties: their number, their places and their numbers.
 -- Assumes nothing.
-use Prim.Native.Nat.{ℕ, _+_, _-_, _≤_, _<_}
-use native.Mathlib.Omega.{arith}
-use mathlib.Core.Path.{_≡_, refl}
-use mathlib.Core.Bool.{true, false, not}
-use mathlib.Core.List.{List, [], _∷_}
-use lib.Dec.{eqb, ltb, lit≤}
-use lib.ListN.{length}
-use borrow.Author.Tests.{eqb-false, ne-eqb, ltb-true, ltb-false, lt-ltb, le-ltb, not-true}
+use Rattle.laws.proofs.Prelude.{ℕ, _+_, _-_, _≤_, _<_, _≡_, refl, true, false, not, List, [], _∷_, eqb, ltb, lit≤, length, eqb-false}
+use Rattle.laws.proofs.Prelude.{ltb-true, ltb-false, ne-eqb, lt-ltb, le-ltb, not-true, arith}
 use Rattle.laws.specs.Booleans.{split, and-parts}
 use Rattle.sheet.specs.Field.{byte, parties, arrays, miner, place, partyAt, isParty, startKeys}
 

@@ -1,13 +1,6 @@
 -- What each passed check of a sheet tells.
 -- Assumes nothing.
-use Prim.Native.Nat.{ℕ, _+_, _*_, _≤_, _<_}
-use native.Mathlib.Omega.{arith}
-use mathlib.Core.Path.{_≡_}
-use mathlib.Core.Bool.{true, false, _&&_}
-use mathlib.Core.List.{List}
-use lib.Dec.{leb, eqb}
-use lib.ListN.{length}
-use borrow.Author.Tests.{leb-true, lt-leb, eqb-true}
+use Rattle.laws.proofs.Prelude.{ℕ, _+_, _*_, _≤_, _<_, _≡_, true, false, _&&_, List, eqb, leb, length, eqb-true, leb-true, lt-leb, arith}
 use Rattle.laws.specs.Booleans.{and-parts}
 use Rattle.sheet.specs.Field.{count, arrays, signatures, Sized}
 use Rattle.sheet.proofs.Parties.{arrays-head}

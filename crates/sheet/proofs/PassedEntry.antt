@@ -1,13 +1,7 @@
 -- What the passed checks 5 to 8 tell of one transaction.
 -- Assumes nothing.
-use Prim.Native.Nat.{ℕ, _≤_, _<_, _^_}
-use native.Mathlib.Omega.{arith}
-use mathlib.Core.Path.{_≡_, sym, _∙_}
-use mathlib.Core.Bool.{Bool, true, false, not, _&&_}
-use mathlib.Core.Logic.{_⊎_, inl, inr}
-use mathlib.Core.List.{List}
-use lib.Dec.{leb, ltb, eqb}
-use borrow.Author.Tests.{leb-true, ltb-true, eqb-true, eqb-false, eq-eqb, ne-eqb, not-true}
+use Rattle.laws.proofs.Prelude.{ℕ, _^_, _≤_, _<_, _≡_, sym, _∙_, Bool, true, false, not, _&&_, List, _⊎_, inl, inr, eqb, ltb, leb, eqb-true}
+use Rattle.laws.proofs.Prelude.{eqb-false, ltb-true, leb-true, eq-eqb, ne-eqb, not-true, arith}
 use Rattle.laws.specs.Booleans.{split, either, and-parts, or-parts, beq-same}
 use Rattle.laws.specs.Below.{any-some, any-none}
 use Rattle.sheet.specs.Field.{parties, count, signatures, parent, payees, required, veil, lockType, days, opening}

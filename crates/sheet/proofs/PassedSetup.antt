@@ -1,12 +1,6 @@
 -- A setup whose check gives 0 has everything that the crates above want.
 -- Assumes nothing.
-use Prim.Native.Nat.{ℕ, _≤_}
-use native.Mathlib.Omega.{arith}
-use mathlib.Core.Path.{_≡_, refl}
-use mathlib.Core.Bool.{true, _&&_, _||_}
-use mathlib.Core.List.{List}
-use lib.Dec.{leb, eqb}
-use borrow.Author.Tests.{leb-true, ne-eqb}
+use Rattle.laws.proofs.Prelude.{ℕ, _≤_, _≡_, refl, true, _&&_, _||_, List, eqb, leb, leb-true, ne-eqb, arith}
 use Rattle.laws.specs.Booleans.{and-parts}
 use Rattle.laws.specs.Failing.{testOf, passed}
 use Rattle.laws.specs.Same.{same-equal}

@@ -1,9 +1,6 @@
 -- A sheet whose check gives 0 has everything that the crates above want.
 -- Assumes nothing.
-use Prim.Native.Nat.{ℕ, _<_, _^_}
-use mathlib.Core.Path.{_≡_, refl}
-use mathlib.Core.Bool.{true}
-use mathlib.Core.List.{List}
+use Rattle.laws.proofs.Prelude.{ℕ, _^_, _<_, _≡_, refl, true, List}
 use Rattle.laws.specs.Booleans.{and-parts}
 use Rattle.laws.specs.Below.{allBelow, all-at}
 use Rattle.laws.specs.Failing.{testOf, passed}

@@ -1,13 +1,7 @@
 -- The SASwap sheet passes the check, and a setup for it passes under every conduct.
 -- Assumes nothing.
-use Prim.Native.Nat.{ℕ, _≤_}
-use native.Mathlib.Omega.{arith}
-use mathlib.Core.Path.{_≡_, refl}
-use mathlib.Core.Bool.{true, or-true}
-use mathlib.Core.List.{List}
-use lib.Dec.{eqb}
-use lib.ListN.{length}
-use borrow.Author.Tests.{eqb-true, eq-eqb, le-leb}
+use Rattle.laws.proofs.Prelude.{ℕ, _≤_, _≡_, refl, true, List, eqb, length, eqb-true, eq-eqb, le-leb, arith}
+use mathlib.Core.Bool.{or-true}
 use Rattle.laws.specs.Below.{allBelow, all-at}
 use Rattle.laws.specs.Failing.{firstFailing}
 use Rattle.laws.specs.Same.{equal-same}

@@ -1,8 +1,6 @@
 -- The length of the SASwap sheets.
 -- Assumes nothing.
-use Prim.Native.Nat.{ℕ}
-use mathlib.Core.Path.{_≡_, refl}
-use lib.ListN.{length}
+use Rattle.laws.proofs.Prelude.{ℕ, _≡_, refl, length}
 use Rattle.sheet.specs.Saswap.{saswapAt, saswap}
 
 -- P9: "the SASwap sheet is 95 bytes"

@@ -1,10 +1,6 @@
 -- What is proved of sheets and setups, for all sizes together.
 -- Assumes nothing.
-use Prim.Native.Nat.{ℕ, _+_, _*_, _≤_, _<_}
-use mathlib.Core.Path.{_≡_, refl}
-use mathlib.Core.List.{List}
-use lib.Dec.{lit<}
-use lib.ListN.{length}
+use Rattle.laws.proofs.Prelude.{ℕ, _+_, _*_, _≤_, _<_, _≡_, refl, List, lit<, length}
 use Rattle.laws.specs.Failing.{answer-below}
 use Rattle.sheet.specs.Field.{parties, count, signatures}
 use Rattle.sheet.specs.Check.{arrayTests, sheetTests, sheetRefusal}

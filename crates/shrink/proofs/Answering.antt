@@ -1,13 +1,8 @@
 -- The answer, case by case.
 -- Assumes nothing.
-use Prim.Native.Nat.{ℕ, _+_, _*_, _/_, _%_, _≤_, _<_}
-use native.Mathlib.Omega.{arith}
-use mathlib.Core.Path.{_≡_, refl, sym, ap, _∙_}
-use mathlib.Core.Bool.{Bool, true, false, not}
-use mathlib.Core.List.{List, [], _∷_}
-use lib.Dec.{eqb, leb, lit<, lit≤}
-use lib.ListN.{length, take, length-take}
-use borrow.Author.Tests.{eq-eqb, ne-eqb, eqb-true, eqb-false, leb-true}
+use Rattle.laws.proofs.Prelude.{ℕ, _+_, _*_, _/_, _%_, _≤_, _<_, _≡_, refl, sym, ap, _∙_, Bool, true, false, not, List, [], _∷_, eqb, leb}
+use Rattle.laws.proofs.Prelude.{lit<, lit≤, length, take, eqb-true, eqb-false, leb-true, eq-eqb, ne-eqb, arith}
+use lib.ListN.{length-take}
 use Rattle.laws.specs.Booleans.{split}
 use Rattle.laws.specs.Failing.{firstFailing, numbered, passed, passed-append, failed-append, answer-below}
 use Rattle.laws.specs.Over.{over, take-over}

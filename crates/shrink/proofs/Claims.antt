@@ -1,16 +1,12 @@
 -- The claims: order and ending, the same refusal, and nothing that could still go.
 -- Assumes nothing.
-use Prim.Native.Nat.{ℕ, suc, _+_, _%_, _≤_, _<_}
-use native.Mathlib.Omega.{arith}
+use Rattle.laws.proofs.Prelude.{ℕ, suc, _+_, _%_, _≤_, _<_, _≡_, refl, _∙_, true, false, List, [], _∷_, _++_, append-assoc, append-nil, _⊎_}
+use Rattle.laws.proofs.Prelude.{inl, inr, eqb, length, getD, take, drop, length-append, length-drop, eqb-true, eqb-false, eq-eqb, le-leb}
+use Rattle.laws.proofs.Prelude.{arith}
 use native.Mathlib.Numerals.{add-one}
-use mathlib.Core.Path.{_≡_, refl, _∙_}
-use mathlib.Core.Bool.{true, false}
-use mathlib.Core.Logic.{_⊎_, inl, inr}
-use mathlib.Core.List.{List, [], _∷_, _++_, append-nil, append-assoc, Sublistᴰ, Sublistᴰ·refl, Sublistᴰ·cons, Sublistᴰ·trans, Sublistᴰ·append}
-use lib.Dec.{eqb}
-use lib.ListN.{length, take, drop, getD, length-append, length-take, length-drop}
+use mathlib.Core.List.{Sublistᴰ, Sublistᴰ·refl, Sublistᴰ·cons, Sublistᴰ·trans, Sublistᴰ·append}
+use lib.ListN.{length-take}
 use lib.Seq.{take-suc, drop-cons}
-use borrow.Author.Tests.{eq-eqb, eqb-true, eqb-false, le-leb}
 use Rattle.laws.specs.Booleans.{split, clash}
 use Rattle.laws.specs.Failing.{firstFailing, passed-append}
 use Rattle.laws.specs.Over.{over, take-over}

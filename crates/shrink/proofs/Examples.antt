@@ -1,12 +1,6 @@
 -- Computed examples: the answer with each number of its own, on both sides; rounds; and the words of the claims.
 -- Assumes nothing.
-use Prim.Native.Nat.{ℕ}
-use native.Mathlib.Omega.{arith}
-use mathlib.Core.Path.{_≡_, refl}
-use mathlib.Core.Bool.{true, false}
-use mathlib.Core.List.{List, [], _∷_, _++_}
-use lib.Dec.{lit<}
-use lib.ListN.{length, take, replicate}
+use Rattle.laws.proofs.Prelude.{ℕ, _≡_, refl, true, false, List, [], _∷_, _++_, lit<, length, take, replicate, arith}
 use Rattle.laws.specs.Failing.{firstFailing}
 use Rattle.sheet.specs.Refusal.{accepted, setupBlocks, stepField, stepConflict, journalLength, bufferShort}
 use Rattle.position.specs.Position.{start}

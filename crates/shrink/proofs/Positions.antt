@@ -1,11 +1,7 @@
 -- A round is the same where each step is tried from the position before it.
 -- Assumes nothing.
-use Prim.Native.Nat.{ℕ, _+_}
-use native.Mathlib.Omega.{arith}
-use mathlib.Core.Path.{_≡_, refl, sym, ap, _∙_}
-use mathlib.Core.Bool.{Bool, true, false}
-use mathlib.Core.List.{List, [], _∷_, _++_, append-nil, append-assoc}
-use lib.ListN.{length}
+use Rattle.laws.proofs.Prelude.{ℕ, _+_, _≡_, refl, sym, ap, _∙_, Bool, true, false, List, [], _∷_, _++_, append-assoc, append-nil, length}
+use Rattle.laws.proofs.Prelude.{arith}
 use Rattle.laws.specs.Booleans.{split, either}
 use Rattle.position.specs.declared.Position.{Position}
 use Rattle.position.specs.Position.{start}

@@ -1,11 +1,7 @@
 -- Rounds on a part that is kept in bytes: each is written aside and copied back.
 -- Assumes nothing.
-use Prim.Native.Nat.{ℕ, _*_, _≤_, _<_}
-use native.Mathlib.Omega.{arith}
-use mathlib.Core.Path.{_≡_, sym, ap, _∙_}
-use mathlib.Core.Bool.{true}
-use mathlib.Core.List.{List}
-use lib.ListN.{length, take, length-take}
+use Rattle.laws.proofs.Prelude.{ℕ, _*_, _≤_, _<_, _≡_, sym, ap, _∙_, true, List, length, take, arith}
+use lib.ListN.{length-take}
 use Rattle.laws.specs.Over.{over, take-over, length-over}
 use Rattle.position.specs.Position.{start}
 use Rattle.position.specs.Play.{FourBytes, journalSteps, journalBytes}

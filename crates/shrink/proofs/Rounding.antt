@@ -1,13 +1,7 @@
 -- Rounds: what one keeps, that they end, and that nothing is left which can go.
 -- Assumes nothing.
-use Prim.Native.Nat.{ℕ, zero, suc, _+_, _≤_, _<_}
-use native.Mathlib.Omega.{arith}
-use mathlib.Core.Path.{_≡_, refl, sym, _∙_}
-use mathlib.Core.Bool.{Bool, true, false}
-use mathlib.Core.List.{List, [], _∷_, _++_, append-nil, append-assoc}
-use lib.Dec.{eqb, ltb}
-use lib.ListN.{length, take, drop, length-append}
-use borrow.Author.Tests.{eq-eqb, ne-eqb, eqb-true, eqb-false, lt-ltb}
+use Rattle.laws.proofs.Prelude.{ℕ, zero, suc, _+_, _≤_, _<_, _≡_, refl, sym, _∙_, Bool, true, false, List, [], _∷_, _++_, append-assoc}
+use Rattle.laws.proofs.Prelude.{append-nil, eqb, ltb, length, take, drop, length-append, eqb-true, eqb-false, eq-eqb, ne-eqb, lt-ltb, arith}
 use Rattle.laws.specs.Booleans.{split, and-parts}
 use Rattle.position.specs.Position.{start}
 use Rattle.position.specs.Play.{FourBytes}

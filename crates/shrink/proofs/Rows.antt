@@ -1,14 +1,7 @@
 -- Rows of steps: their number and bytes, and a row behind an accepted one.
 -- Assumes nothing.
-use Prim.Native.Nat.{ℕ, _+_, _/_, _%_}
-use native.Mathlib.Omega.{arith}
-use mathlib.Core.Path.{_≡_, refl, ap, _∙_}
-use mathlib.Core.Bool.{true}
-use mathlib.Core.Logic.{_⊎_, inl, inr}
-use mathlib.Core.List.{List, [], _∷_, _++_}
-use lib.Dec.{eqb}
-use lib.ListN.{length, length-append}
-use borrow.Author.Tests.{eq-eqb, ne-eqb, eqb-true, eqb-false}
+use Rattle.laws.proofs.Prelude.{ℕ, _+_, _/_, _%_, _≡_, refl, ap, _∙_, true, List, [], _∷_, _++_, _⊎_, inl, inr, eqb, length, length-append}
+use Rattle.laws.proofs.Prelude.{eqb-true, eqb-false, eq-eqb, ne-eqb, arith}
 use Rattle.laws.specs.Booleans.{split, and-parts}
 use Rattle.sheet.specs.Refusal.{accepted}
 use Rattle.position.specs.declared.Position.{Position}

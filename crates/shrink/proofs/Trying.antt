@@ -1,13 +1,7 @@
 -- A try as the code makes it, and the bytes of a step that is kept.
 -- Assumes nothing.
-use Prim.Native.Nat.{ℕ, _+_, _/_, _<_}
-use native.Mathlib.Omega.{arith}
-use mathlib.Core.Path.{_≡_, sym}
-use mathlib.Core.Bool.{Bool, false, not, and-false}
-use mathlib.Core.List.{List}
-use lib.Dec.{eqb, ltb}
-use lib.ListN.{length}
-use borrow.Author.Tests.{eq-eqb, ne-eqb, lt-ltb, le-ltb}
+use Rattle.laws.proofs.Prelude.{ℕ, _+_, _/_, _<_, _≡_, sym, Bool, false, not, and-false, List, eqb, ltb, length, eq-eqb, ne-eqb, lt-ltb}
+use Rattle.laws.proofs.Prelude.{le-ltb, arith}
 use Rattle.laws.specs.Booleans.{split}
 use Rattle.sheet.specs.Field.{byte}
 use Rattle.output.specs.Forms.Emitted.{emitted}

@@ -1,13 +1,7 @@
 -- A step that could not go, and the same step right after it: that one cannot go either, so it need not be tried.
 -- Assumes nothing.
-use Prim.Native.Nat.{ℕ, _+_, _-_, _*_, _≤_}
-use native.Mathlib.Omega.{arith}
-use mathlib.Core.Path.{_≡_, refl, sym, _∙_}
-use mathlib.Core.Bool.{Bool, true, false, not, _&&_, and-false}
-use mathlib.Core.List.{List, [], _∷_}
-use lib.Dec.{eqb, ltb}
-use lib.ListN.{length, take, drop}
-use borrow.Author.Tests.{eqb-true, eq-eqb, lt-ltb}
+use Rattle.laws.proofs.Prelude.{ℕ, _+_, _-_, _*_, _≤_, _≡_, refl, sym, _∙_, Bool, true, false, not, _&&_, and-false, List, [], _∷_, eqb}
+use Rattle.laws.proofs.Prelude.{ltb, length, take, drop, eqb-true, eq-eqb, lt-ltb, arith}
 use Rattle.laws.specs.Booleans.{split, either, clash, and-parts}
 use Rattle.sheet.specs.Refusal.{accepted}
 use Rattle.position.specs.declared.Position.{Position}

@@ -1,11 +1,6 @@
 -- The bytes that a round keeps, group by group.
 -- Assumes nothing.
-use Prim.Native.Nat.{ℕ, _+_, _-_, _*_, _/_, _≤_, _<_}
-use native.Mathlib.Omega.{arith}
-use mathlib.Core.Path.{_≡_, refl}
-use mathlib.Core.Bool.{Bool, true}
-use mathlib.Core.List.{List, [], _++_}
-use lib.ListN.{length, take, drop}
+use Rattle.laws.proofs.Prelude.{ℕ, _+_, _-_, _*_, _/_, _≤_, _<_, _≡_, refl, Bool, true, List, [], _++_, length, take, drop, arith}
 use Rattle.laws.specs.Over.{over}
 use Rattle.laws.specs.Wrote.{Wrote, to-end}
 use Rattle.position.specs.declared.Position.{Position}

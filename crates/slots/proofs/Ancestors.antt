@@ -1,12 +1,7 @@
 -- Ancestry as a derivation, to recurse on, and what meets a conflict along it.
 -- Assumes nothing.
-use Prim.Native.Nat.{ℕ, zero, suc, _≤_, _<_}
-use native.Mathlib.Omega.{arith}
-use mathlib.Core.Path.{_≡_, refl, sym, _∙_}
-use mathlib.Core.Bool.{Bool, true, false, not, _&&_, _||_, false≢true}
-use mathlib.Core.List.{List}
-use lib.Dec.{eqb, ltb}
-use borrow.Author.Tests.{eqb-true, eq-eqb, ne-eqb, ltb-true, lt-ltb, not-true}
+use Rattle.laws.proofs.Prelude.{ℕ, zero, suc, _≤_, _<_, _≡_, refl, sym, _∙_, Bool, true, false, not, _&&_, _||_, false≢true, List, eqb, ltb}
+use Rattle.laws.proofs.Prelude.{eqb-true, ltb-true, eq-eqb, ne-eqb, lt-ltb, not-true, arith}
 use Rattle.laws.specs.Booleans.{pick, split, either, and-parts, or-right, or-neither}
 use Rattle.laws.specs.Below.{any-found}
 use Rattle.laws.specs.Climb.{climbIn, climb}

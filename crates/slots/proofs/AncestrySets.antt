@@ -1,12 +1,6 @@
 -- A line, a step at a time, and against a set: only its members up to t matter.
 -- Assumes nothing.
-use Prim.Native.Nat.{ℕ, zero, suc, _≤_, _<_}
-use native.Mathlib.Omega.{arith}
-use mathlib.Core.Path.{_≡_, ap}
-use mathlib.Core.Bool.{Bool, false, _||_}
-use mathlib.Core.List.{List}
-use lib.Dec.{ltb}
-use borrow.Author.Tests.{ltb-true}
+use Rattle.laws.proofs.Prelude.{ℕ, zero, suc, _≤_, _<_, _≡_, ap, Bool, false, _||_, List, ltb, ltb-true, arith}
 use Rattle.laws.specs.Booleans.{pick, split}
 use Rattle.laws.specs.Mask.{bit}
 use Rattle.laws.specs.Bits.{no-bit}

@@ -1,8 +1,6 @@
 -- A test that some member of a set passes, looked for from one member to the next.
 -- Assumes nothing.
-use Prim.Native.Nat.{ℕ, _+_, _<_}
-use mathlib.Core.Path.{_≡_, sym}
-use mathlib.Core.Bool.{Bool, true, false, _&&_, and-false}
+use Rattle.laws.proofs.Prelude.{ℕ, _+_, _<_, _≡_, sym, Bool, true, false, _&&_, and-false}
 use Rattle.laws.specs.Below.{anyBelow, any-start, any-more, any-found, any-upto}
 use Rattle.laws.specs.Mask.{bit}
 use Rattle.slots.specs.Forms.Next.{Next}

@@ -1,12 +1,7 @@
 -- The rivals by their parents, of one transaction and of a whole set, are those of the rule.
 -- Assumes nothing.
-use Prim.Native.Nat.{ℕ, _<_}
-use native.Mathlib.Omega.{arith}
-use mathlib.Core.Path.{_≡_, sym, _∙_}
-use mathlib.Core.Bool.{Bool, true, false, _&&_, and-comm}
-use mathlib.Core.List.{List}
-use lib.Dec.{eqb}
-use borrow.Author.Tests.{eqb-true, eq-eqb, ne-eqb}
+use Rattle.laws.proofs.Prelude.{ℕ, _<_, _≡_, sym, _∙_, Bool, true, false, _&&_, List, eqb, eqb-true, eq-eqb, ne-eqb, arith}
+use mathlib.Core.Bool.{and-comm}
 use Rattle.laws.specs.Booleans.{split, clash, fails-by, and-parts}
 use Rattle.laws.specs.Below.{any-found, any-all-false, any-same}
 use Rattle.laws.specs.Mask.{bit}

@@ -1,11 +1,6 @@
 -- A child of a transaction in a set, looked for from one member to the next, above the transaction itself.
 -- Assumes nothing.
-use Prim.Native.Nat.{ℕ, _+_, _<_}
-use native.Mathlib.Omega.{arith}
-use mathlib.Core.Path.{_≡_, refl, sym, _∙_}
-use mathlib.Core.Bool.{true, false, and-false}
-use mathlib.Core.List.{List}
-use borrow.Author.Tests.{eq-eqb, ne-eqb}
+use Rattle.laws.proofs.Prelude.{ℕ, _+_, _<_, _≡_, refl, sym, _∙_, true, false, and-false, List, eq-eqb, ne-eqb, arith}
 use Rattle.laws.specs.Below.{any-more, any-found, any-upto, any-all-false}
 use Rattle.laws.specs.Mask.{bit}
 use Rattle.sheet.specs.Field.{count, parent}

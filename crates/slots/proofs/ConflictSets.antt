@@ -1,12 +1,7 @@
 -- Conflicts against a set: only the members below the count matter.
 -- Assumes nothing.
-use Prim.Native.Nat.{ℕ, _≤_, _<_}
-use native.Mathlib.Omega.{arith}
-use mathlib.Core.Path.{_≡_, refl, sym, ap, _∙_}
-use mathlib.Core.Bool.{Bool, true, false, not, _&&_, and-comm, and-false}
-use mathlib.Core.List.{List}
-use lib.Dec.{eqb}
-use borrow.Author.Tests.{eqb-true}
+use Rattle.laws.proofs.Prelude.{ℕ, _≤_, _<_, _≡_, refl, sym, ap, _∙_, Bool, true, false, not, _&&_, and-false, List, eqb, eqb-true, arith}
+use mathlib.Core.Bool.{and-comm}
 use Rattle.laws.specs.Booleans.{split}
 use Rattle.laws.specs.Below.{any-same, any-all-false}
 use Rattle.laws.specs.Mask.{bit}

@@ -1,12 +1,7 @@
 -- Conflicts: a symmetric relation, by parents, and what the tests over a set say.
 -- Assumes nothing.
-use Prim.Native.Nat.{ℕ, _<_}
-use mathlib.Core.Path.{_≡_, refl, sym, ap, _∙_}
-use mathlib.Core.Bool.{Bool, true, false, not, _&&_}
-use mathlib.Core.Logic.{_⊎_, inl, inr}
-use mathlib.Core.List.{List}
-use lib.Dec.{eqb}
-use borrow.Author.Tests.{eqb-true, eq-eqb, ne-eqb, not-true}
+use Rattle.laws.proofs.Prelude.{ℕ, _<_, _≡_, refl, sym, ap, _∙_, Bool, true, false, not, _&&_, List, _⊎_, inl, inr, eqb, eqb-true, eq-eqb}
+use Rattle.laws.proofs.Prelude.{ne-eqb, not-true}
 use Rattle.laws.specs.Booleans.{split, either, clash, and-parts, or-parts, or-right, fails-by}
 use Rattle.laws.specs.Below.{any-some, any-none}
 use Rattle.sheet.specs.Field.{count, parent, opening}

@@ -1,13 +1,8 @@
 -- A deadline by the parent: the rivals are its children, and an opening has none but itself. Without a lock of a rival there is none.
 -- Assumes nothing.
-use Prim.Native.Nat.{ℕ, zero, suc, _≤_, _<_}
+use Rattle.laws.proofs.Prelude.{ℕ, zero, suc, _≤_, _<_, _≡_, refl, sym, _∙_, Bool, true, false, _&&_, List, eqb, ltb, ltb-true, not-false}
+use Rattle.laws.proofs.Prelude.{arith}
 use native.Mathlib.Nat.{le-refl, min-eq-left}
-use native.Mathlib.Omega.{arith}
-use mathlib.Core.Path.{_≡_, refl, sym, _∙_}
-use mathlib.Core.Bool.{Bool, true, false, _&&_}
-use mathlib.Core.List.{List}
-use lib.Dec.{eqb, ltb}
-use borrow.Author.Tests.{ltb-true, not-false}
 use Rattle.laws.specs.Booleans.{pick, split, and-parts, fails-by}
 use Rattle.laws.specs.Least.{leastBelow}
 use Rattle.laws.specs.Mask.{bit}

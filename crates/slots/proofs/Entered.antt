@@ -1,9 +1,6 @@
 -- An entry for a destination in a slot, wherever it stands, and where it comes from when the slot changes.
 -- Assumes nothing.
-use Prim.Native.Nat.{ℕ, _<_}
-use mathlib.Core.Path.{_≡_}
-use mathlib.Core.Logic.{_⊎_, inl, inr}
-use mathlib.Core.Bool.{true}
+use Rattle.laws.proofs.Prelude.{ℕ, _<_, _≡_, true, _⊎_, inl, inr}
 use Rattle.slots.specs.declared.Slot.{Slot}
 use Rattle.slots.specs.Slot.{standing, entryTo, withPool, withBlock, withConfirmed, withShared, withMark}
 

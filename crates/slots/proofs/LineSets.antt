@@ -1,12 +1,7 @@
 -- The members of a line's set are those of the line.
 -- Assumes nothing.
-use Prim.Native.Nat.{ℕ, zero, suc, _<_}
-use native.Mathlib.Omega.{arith}
-use mathlib.Core.Path.{_≡_, sym, _∙_}
-use mathlib.Core.Bool.{true, or-comm, or-false}
-use mathlib.Core.List.{List}
-use lib.Dec.{eqb, ltb}
-use borrow.Author.Tests.{ltb-true}
+use Rattle.laws.proofs.Prelude.{ℕ, zero, suc, _<_, _≡_, sym, _∙_, true, List, eqb, ltb, ltb-true, arith}
+use mathlib.Core.Bool.{or-comm, or-false}
 use Rattle.laws.specs.Booleans.{pick, split}
 use Rattle.laws.specs.Climb.{climb-step}
 use Rattle.laws.specs.Mask.{bit}

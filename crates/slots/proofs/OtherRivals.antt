@@ -1,12 +1,7 @@
 -- Rivals but oneself: they come after the parent; and where no member of a set has one, nobody has another rival in the set.
 -- Assumes nothing.
-use Prim.Native.Nat.{ℕ, _+_, _≤_, _<_}
-use native.Mathlib.Omega.{arith}
-use mathlib.Core.Path.{_≡_, sym, _∙_}
-use mathlib.Core.Bool.{Bool, true, false, not, _&&_, and-false}
-use mathlib.Core.List.{List}
-use lib.Dec.{eqb}
-use borrow.Author.Tests.{eq-eqb, ne-eqb, eqb-false, not-true}
+use Rattle.laws.proofs.Prelude.{ℕ, _+_, _≤_, _<_, _≡_, sym, _∙_, Bool, true, false, not, _&&_, and-false, List, eqb, eqb-false, eq-eqb}
+use Rattle.laws.proofs.Prelude.{ne-eqb, not-true, arith}
 use Rattle.laws.specs.Booleans.{split, clash, fails-by, and-parts}
 use Rattle.laws.specs.Below.{anyBelow, any-found, any-none, any-all-false}
 use Rattle.laws.specs.Sets.{setBelow, none-set}

@@ -1,13 +1,7 @@
 -- The shared signatures of a slot: where one comes from, and that each stays.
 -- Assumes nothing.
-use Prim.Native.Nat.{ℕ, zero, suc, _<_}
-use native.Mathlib.Omega.{arith}
-use mathlib.Core.Path.{_≡_, refl, sym}
-use mathlib.Core.Logic.{_⊎_, inl, inr}
-use mathlib.Core.Bool.{Bool, true, false}
-use lib.Dec.{eqb}
+use Rattle.laws.proofs.Prelude.{ℕ, zero, suc, _<_, _≡_, refl, sym, Bool, true, false, _⊎_, inl, inr, eqb, eqb-true, arith}
 use lib.Bits.{bitOr}
-use borrow.Author.Tests.{eqb-true}
 use Rattle.laws.specs.Booleans.{pick, either}
 use Rattle.laws.specs.Mask.{bit}
 use Rattle.laws.specs.Bits.{bit-or, or-bit, union-bit}

@@ -1,10 +1,6 @@
 -- The lock height and the deadline of a transaction go by one block, its parent's.
 -- Assumes nothing.
-use Prim.Native.Nat.{ℕ, zero, suc}
-use mathlib.Core.Path.{_≡_, refl, ap, _∙_}
-use mathlib.Core.Bool.{Bool, _&&_}
-use mathlib.Core.List.{List}
-use lib.Dec.{ltb}
+use Rattle.laws.proofs.Prelude.{ℕ, zero, suc, _≡_, refl, ap, _∙_, Bool, _&&_, List, ltb}
 use Rattle.laws.specs.Booleans.{pick, split}
 use Rattle.laws.specs.Least.{leastBelow}
 use Rattle.sheet.specs.Field.{count, parent}

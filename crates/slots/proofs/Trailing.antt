@@ -1,14 +1,9 @@
 -- The zeros at the low end of a mask, and the next member of a set.
 -- Assumes nothing.
-use Prim.Native.Nat.{ℕ, zero, suc, _+_, _-_, _/_, _%_, _^_, _≤_, _<_}
+use Rattle.laws.proofs.Prelude.{ℕ, zero, suc, _+_, _-_, _/_, _%_, _^_, _≤_, _<_, _≡_, refl, sym, ap, _∙_, true, false, eqb, eq-eqb, arith}
 use native.Mathlib.Nat.{not-suc-le-zero, le-of-suc-le-suc}
-use native.Mathlib.Omega.{arith}
-use mathlib.Core.Path.{_≡_, refl, sym, ap, _∙_}
-use mathlib.Core.Bool.{true, false}
 use lib.Count.{under, trailingZeros}
-use lib.Dec.{eqb}
 use lib.Pow.{shr-shr}
-use borrow.Author.Tests.{eq-eqb}
 use Rattle.laws.specs.Mask.{bit}
 use Rattle.slots.specs.Forms.Next.{Next}
 use Rattle.laws.specs.Bits.{bit-half}

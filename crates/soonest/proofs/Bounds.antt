@@ -1,9 +1,6 @@
 -- The greater of two.
 -- Assumes nothing.
-use Prim.Native.Nat.{ℕ, _≤_}
-use native.Mathlib.Omega.{arith}
-use lib.Dec.{ltb}
-use borrow.Author.Tests.{ltb-true, ltb-false}
+use Rattle.laws.proofs.Prelude.{ℕ, _≤_, ltb, ltb-true, ltb-false, arith}
 use Rattle.laws.specs.Booleans.{split}
 use Rattle.soonest.specs.Soonest.{greater}
 

@@ -1,8 +1,6 @@
 -- The recursion of the soonest block without its bound.
 -- Assumes nothing.
-use Prim.Native.Nat.{ℕ}
-use mathlib.Core.Path.{_≡_}
-use mathlib.Core.List.{List}
+use Rattle.laws.proofs.Prelude.{ℕ, _≡_, List}
 use Rattle.laws.specs.Climb.{climb-step}
 use Rattle.sheet.specs.Field.{parent}
 use Rattle.soonest.specs.Soonest.{soonestOver, soonestBlock, soonestParent}

@@ -1,14 +1,9 @@
 -- Tables over the sheet, and what is read from them.
 -- Assumes nothing.
-use Prim.Native.Nat.{ℕ, _+_, _≤_, _<_}
+use Rattle.laws.proofs.Prelude.{ℕ, _+_, _≤_, _<_, _≡_, refl, sym, _∙_, List, eqb, ltb, length, set, length-set, eqb-true, eqb-false}
+use Rattle.laws.proofs.Prelude.{ltb-true, arith}
 use native.Mathlib.Nat.{not-suc-le-zero}
-use native.Mathlib.Omega.{arith}
-use mathlib.Core.Path.{_≡_, refl, sym, _∙_}
-use mathlib.Core.List.{List}
-use lib.Dec.{eqb, ltb}
-use lib.ListN.{length, set, length-set}
 use lib.Seq.{getD-set-same, getD-set-other}
-use borrow.Author.Tests.{eqb-true, eqb-false, ltb-true}
 use Rattle.laws.specs.Booleans.{split}
 use Rattle.sheet.specs.Field.{parent}
 use Rattle.soonest.specs.Soonest.{mayRise, countsAt, soonestOver, soonestBlock, soonestParent, soonestDeadline}

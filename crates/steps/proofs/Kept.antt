@@ -1,9 +1,6 @@
 -- Slots that a change leaves as they are.
 -- Assumes nothing.
-use Prim.Native.Nat.{ℕ}
-use native.Mathlib.Omega.{arith}
-use mathlib.Core.Path.{_≡_, _∙_}
-use mathlib.Core.List.{List}
+use Rattle.laws.proofs.Prelude.{ℕ, _≡_, _∙_, List, arith}
 use Rattle.laws.specs.Each.{rewriteFirst, rewrite-upto}
 use Rattle.sheet.specs.Field.{count}
 use Rattle.slots.specs.declared.Slot.{Slot}

@@ -1,12 +1,7 @@
 -- A transaction whose parent is not there cannot be sent, by neither kind if it is nowhere.
 -- Assumes nothing.
-use Prim.Native.Nat.{ℕ}
-use mathlib.Core.Path.{_≡_, refl, sym, _∙_}
-use mathlib.Core.Bool.{Bool, true, false}
-use mathlib.Core.List.{List}
+use Rattle.laws.proofs.Prelude.{ℕ, _≡_, refl, sym, _∙_, Bool, true, false, List, eqb, eqb-true}
 use lib.Bits.{bitOr}
-use lib.Dec.{eqb}
-use borrow.Author.Tests.{eqb-true}
 use Rattle.laws.specs.Booleans.{either, or-parts, or-right, clash, fails-by}
 use Rattle.laws.specs.Failing.{firstFailing, passed}
 use Rattle.laws.specs.Mask.{bit}

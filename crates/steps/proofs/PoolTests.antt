@@ -1,10 +1,6 @@
 -- Kind 3: the tests that it shares with kind 4, and the deadline behind them.
 -- Assumes nothing.
-use Prim.Native.Nat.{ℕ}
-use mathlib.Core.Path.{_≡_, refl, sym, _∙_}
-use mathlib.Core.Bool.{Bool}
-use mathlib.Core.List.{List, [], _∷_}
-use lib.Dec.{ltb}
+use Rattle.laws.proofs.Prelude.{ℕ, _≡_, refl, sym, _∙_, Bool, List, [], _∷_, ltb}
 use Rattle.laws.specs.Failing.{firstFailing, failed-append, passed-append}
 use Rattle.sheet.specs.Refusal.{stepDeadline}
 use Rattle.sheet.specs.Setup.{perDay}

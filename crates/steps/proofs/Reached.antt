@@ -1,10 +1,6 @@
 -- A height below the next block is reached.
 -- Assumes nothing.
-use Prim.Native.Nat.{ℕ, _+_}
-use native.Mathlib.Omega.{arith}
-use mathlib.Core.Path.{_≡_}
-use lib.Dec.{ltb, leb}
-use borrow.Author.Tests.{lt-ltb, le-ltb, leb-true, leb-false}
+use Rattle.laws.proofs.Prelude.{ℕ, _+_, _≡_, ltb, leb, leb-true, leb-false, lt-ltb, le-ltb, arith}
 use Rattle.laws.specs.Booleans.{split}
 
 pub below-next : (h m : ℕ) → ltb h (m + 1) ≡ leb h m

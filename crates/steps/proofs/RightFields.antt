@@ -1,12 +1,6 @@
 -- What right fields tell of a step of each kind, for the functions over steps.
 -- Assumes nothing.
-use Prim.Native.Nat.{ℕ, _<_, _≤_}
-use native.Mathlib.Omega.{arith}
-use mathlib.Core.Path.{_≡_}
-use mathlib.Core.Bool.{true, _&&_}
-use mathlib.Core.List.{List}
-use lib.Dec.{eqb, ltb}
-use borrow.Author.Tests.{eqb-true, ltb-true}
+use Rattle.laws.proofs.Prelude.{ℕ, _≤_, _<_, _≡_, true, _&&_, List, eqb, ltb, eqb-true, ltb-true, arith}
 use Rattle.laws.specs.Booleans.{either, and-parts, or-parts}
 use Rattle.sheet.specs.Field.{count, signatures}
 use Rattle.slots.specs.declared.Destination.{Destination}

@@ -1,12 +1,9 @@
 -- Bitcoin's rule for the three pairs of numbers that a transaction of version 2 gets.
 -- Assumes nothing.
-use Prim.Native.Nat.{ℕ, _+_, _%_, _^_, _≤_, _<_}
+use Rattle.laws.proofs.Prelude.{ℕ, _+_, _%_, _^_, _≤_, _<_, _≡_, refl, Bool, true, false, _&&_, _||_, eqb, ltb, leb, lit≤, lt-ltb, le-ltb}
+use Rattle.laws.proofs.Prelude.{arith}
 use native.Mathlib.Nat.{mod-eq-of-lt}
-use native.Mathlib.Omega.{arith}
-use mathlib.Core.Path.{_≡_, refl}
-use mathlib.Core.Bool.{Bool, true, false, _&&_, _||_, or-true}
-use lib.Dec.{eqb, ltb, leb, lit≤}
-use borrow.Author.Tests.{lt-ltb, le-ltb}
+use mathlib.Core.Bool.{or-true}
 use Rattle.laws.specs.Booleans.{pick}
 use Rattle.laws.specs.Mask.{bit}
 use Rattle.laws.specs.Bits.{bit-above}

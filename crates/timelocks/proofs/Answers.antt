@@ -1,12 +1,7 @@
 -- The answers of the call, case by case, and what it gives that no test of the two numbers fails.
 -- Assumes nothing.
-use Prim.Native.Nat.{ℕ, _*_, _≤_, _<_}
-use mathlib.Core.Path.{_≡_, refl, sym, _∙_}
-use mathlib.Core.Bool.{Bool, true, false}
-use mathlib.Core.List.{List, [], _∷_, _++_}
-use lib.Dec.{eqb, leb, lit<}
-use lib.ListN.{length}
-use borrow.Author.Tests.{ne-eqb, eqb-true, eqb-false, le-leb, lt-leb, leb-true, leb-false}
+use Rattle.laws.proofs.Prelude.{ℕ, _*_, _≤_, _<_, _≡_, refl, sym, _∙_, Bool, true, false, List, [], _∷_, _++_, eqb, leb, lit<, length}
+use Rattle.laws.proofs.Prelude.{eqb-true, eqb-false, leb-true, leb-false, ne-eqb, le-leb, lt-leb}
 use Rattle.laws.specs.Below.{allBelow}
 use Rattle.laws.specs.Booleans.{split}
 use Rattle.laws.specs.Failing.{firstFailing, numbered, passed, passed-append, failed-append, answer-below}

@@ -1,10 +1,6 @@
 -- Computed examples: Bitcoin's words on both sides, the SASwap sheet's numbers, the edges of 26 and 27, and the order of the refusals.
 -- Assumes nothing.
-use Prim.Native.Nat.{ℕ, _-_, _^_}
-use mathlib.Core.Path.{_≡_, refl}
-use mathlib.Core.Bool.{true, false}
-use mathlib.Core.List.{List, [], _∷_}
-use lib.Dec.{leb}
+use Rattle.laws.proofs.Prelude.{ℕ, _-_, _^_, _≡_, refl, true, false, List, [], _∷_, leb}
 use Rattle.sheet.specs.Saswap.{saswap}
 use Rattle.sheet.specs.LockHeight.{lockHeight}
 use Rattle.timelocks.specs.Bitcoin.{Block, final, isFinal, relative, value, reached, admitted}

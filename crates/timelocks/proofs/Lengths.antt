@@ -1,9 +1,6 @@
 -- The lengths of the two numbers' bytes, and of all of them.
 -- Assumes nothing.
-use Prim.Native.Nat.{ℕ, _*_, _≤_}
-use mathlib.Core.Path.{_≡_}
-use mathlib.Core.List.{List}
-use lib.ListN.{length}
+use Rattle.laws.proofs.Prelude.{ℕ, _*_, _≤_, _≡_, List, length}
 use Rattle.laws.specs.Gather.{gather, length-gather}
 use Rattle.laws.specs.Little.{length-pair}
 use Rattle.sheet.specs.Field.{count}

@@ -1,9 +1,6 @@
 -- The two numbers as they stand in the buffer.
 -- Assumes nothing.
-use Prim.Native.Nat.{ℕ, _+_, _*_, _≤_, _<_}
-use mathlib.Core.Path.{_≡_}
-use mathlib.Core.List.{List}
-use lib.ListN.{length}
+use Rattle.laws.proofs.Prelude.{ℕ, _+_, _*_, _≤_, _<_, _≡_, List, length}
 use Rattle.laws.specs.Little.{numberAt, first-read, second-read}
 use Rattle.laws.specs.Over.{over}
 use Rattle.sheet.specs.Field.{count}

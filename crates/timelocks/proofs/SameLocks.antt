@@ -1,12 +1,8 @@
 -- For each type of lock, Bitcoin's rule and the sheet's lock height say the same.
 -- Assumes nothing.
-use Prim.Native.Nat.{ℕ, _+_, _-_, _≤_, _<_}
-use native.Mathlib.Omega.{arith}
-use mathlib.Core.Path.{_≡_, sym, _∙_}
-use mathlib.Core.Bool.{true, false, _||_, or-true}
-use mathlib.Core.List.{List}
-use lib.Dec.{eqb, ltb, leb}
-use borrow.Author.Tests.{ne-eqb, lt-ltb, le-ltb, le-leb, lt-leb, leb-true, leb-false}
+use Rattle.laws.proofs.Prelude.{ℕ, _+_, _-_, _≤_, _<_, _≡_, sym, _∙_, true, false, _||_, List, eqb, ltb, leb, leb-true, leb-false, ne-eqb}
+use Rattle.laws.proofs.Prelude.{lt-ltb, le-ltb, le-leb, lt-leb, arith}
+use mathlib.Core.Bool.{or-true}
 use Rattle.laws.specs.Booleans.{split, clash}
 use Rattle.sheet.specs.Field.{lockType, parent, opening}
 use Rattle.sheet.specs.LockHeight.{lockBlocks, sinceParent, lockHeight, never}

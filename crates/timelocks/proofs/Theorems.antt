@@ -1,10 +1,6 @@
 -- Locks in Bitcoin's own fields.
 -- Assumes nothing.
-use Prim.Native.Nat.{_-_}
-use mathlib.Core.Path.{_≡_, refl}
-use mathlib.Core.Bool.{true, false}
-use mathlib.Core.List.{[], _∷_}
-use lib.Dec.{leb}
+use Rattle.laws.proofs.Prelude.{_-_, _≡_, refl, true, false, [], _∷_, leb}
 use Rattle.laws.specs.Booleans.{either}
 use Rattle.laws.specs.Below.{all-at}
 use Rattle.sheet.specs.Field.{count}

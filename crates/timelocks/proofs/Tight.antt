@@ -1,14 +1,9 @@
 -- Where a limit is broken, the claim is false of a transaction that breaks it.
 -- Assumes nothing.
-use Prim.Native.Nat.{ℕ, _+_, _-_, _%_, _≤_, _<_}
+use Rattle.laws.proofs.Prelude.{ℕ, _+_, _-_, _%_, _≤_, _<_, _≡_, refl, sym, _∙_, true, false, List, _⊎_, inl, inr, eqb, leb, lit<, eqb-true}
+use Rattle.laws.proofs.Prelude.{eqb-false, ltb-false, leb-false, le-leb, lt-leb, arith}
 use native.Mathlib.Nat.{mul-le-mul}
-use native.Mathlib.Omega.{arith}
-use mathlib.Core.Path.{_≡_, refl, sym, _∙_}
-use mathlib.Core.Bool.{true, false, true≢false}
-use mathlib.Core.List.{List}
-use mathlib.Core.Logic.{_⊎_, inl, inr}
-use lib.Dec.{eqb, leb, lit<}
-use borrow.Author.Tests.{eqb-true, eqb-false, lt-leb, le-leb, leb-false, ltb-false}
+use mathlib.Core.Bool.{true≢false}
 use Rattle.laws.specs.Below.{allBelow, all-fails}
 use Rattle.laws.specs.Booleans.{split, either}
 use Rattle.laws.specs.Failing.{firstFailing}

@@ -1,10 +1,6 @@
 -- What the tests 26 and 27 tell of one transaction.
 -- Assumes nothing.
-use Prim.Native.Nat.{ℕ, _+_, _≤_, _<_}
-use mathlib.Core.Path.{_≡_}
-use mathlib.Core.Bool.{true}
-use mathlib.Core.List.{List}
-use borrow.Author.Tests.{ltb-true, leb-true}
+use Rattle.laws.proofs.Prelude.{ℕ, _+_, _≤_, _<_, _≡_, true, List, ltb-true, leb-true}
 use Rattle.sheet.specs.Field.{lockType}
 use Rattle.sheet.specs.LockHeight.{lockBlocks}
 use Rattle.timelocks.specs.Fields.{nLockTime, nSequence}

@@ -1,8 +1,7 @@
 -- The sheet, then the setup, then the list.
-use mathlib.Core.Path.{sym, _∙_}
+use Rattle.laws.proofs.Prelude.{sym, _∙_, needs}
 use Rattle.sheet.proofs.Theorems.{fit}
 use Rattle.blocks.proofs.Tested.{by-sheet, by-setup, by-list}
-use borrow.Author.Needs.{needs}
 use Rattle.blocks.proofs.blocks.Statement.{statement}
 use Rattle.blocks.proofs.blocks.Tie as tie
 

@@ -5,11 +5,7 @@ use Rattle.sheet.specs.LockHeight.{never}
 use Rattle.position.specs.Position.{slot}
 use Rattle.position.specs.Forms.View.{sinceIn}
 use Rattle.laws.specs.Each.{rewriteFirst, rewrite-start, rewrite-again, rewrite-past, rewrite-done, length-of-map}
-use lib.ListN.{length, getD}
-use mathlib.Core.Path.{_≡_, refl, _∙_}
-use Prim.Native.Nat.{_≤_, _-_}
-use native.Mathlib.Omega.{arith}
-use borrow.Author.Needs.{needs}
+use Rattle.laws.proofs.Prelude.{_-_, _≤_, _≡_, refl, _∙_, length, getD, needs, arith}
 use Rattle.dated.proofs.noted.Statement.{statement}
 use Rattle.dated.proofs.noted.Tie as tie
 

@@ -1,9 +1,7 @@
 -- Refused before any swap, too short a buffer, or the answers.
-use mathlib.Core.Path.{sym, _∙_}
-use native.Mathlib.Omega.{arith}
+use Rattle.laws.proofs.Prelude.{sym, _∙_, needs, arith}
 use Rattle.desk.proofs.Bundles.{arrays, arrays-some}
 use Rattle.desk.proofs.Desks.{sheet-passes, bundle-passes, gives-refused, gives-short, gives-whole}
-use borrow.Author.Needs.{needs}
 use Rattle.desk.proofs.desk.Statement.{statement}
 use Rattle.desk.proofs.desk.Tie as tie
 

@@ -1,8 +1,7 @@
 -- The sheet, then the setup, then the ending.
-use mathlib.Core.Path.{sym, _∙_}
+use Rattle.laws.proofs.Prelude.{sym, _∙_, needs}
 use Rattle.sheet.proofs.Theorems.{fit}
 use Rattle.earliest.proofs.Answers.{by-sheet, by-setup, by-ending}
-use borrow.Author.Needs.{needs}
 use Rattle.earliest.proofs.earliest_refusal.Statement.{statement}
 use Rattle.earliest.proofs.earliest_refusal.Tie as tie
 

@@ -1,11 +1,9 @@
 -- The refusals, and the promise of what was played.
-use native.Mathlib.Omega.{arith}
+use Rattle.laws.proofs.Prelude.{sym, _∙_, needs, arith}
 use denote.Ref.{now}
-use mathlib.Core.Path.{sym, _∙_}
 use Rattle.sheet.proofs.Theorems.{fit}
 use Rattle.history.proofs.Playing.{accepted-fits}
 use Rattle.history.proofs.Promised.{sheet-refused, setup-refused, bytes-room, accepted-short, report-short, part-length, played-promise}
-use borrow.Author.Needs.{needs}
 use Rattle.history.proofs.history.Statement.{statement}
 use Rattle.history.proofs.history.Tie as tie
 

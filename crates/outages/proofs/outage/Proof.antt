@@ -1,9 +1,7 @@
 -- Refused with the run, too short a buffer, or the rows.
 use Rattle.runs.proofs.Runs.{ran-fit}
 use Rattle.outages.proofs.OutageAnswers.{outage-refused, outage-short, outage-whole}
-use mathlib.Core.Path.{refl}
-use native.Mathlib.Omega.{arith}
-use borrow.Author.Needs.{needs}
+use Rattle.laws.proofs.Prelude.{refl, needs, arith}
 use Rattle.outages.proofs.outage.Statement.{statement}
 use Rattle.outages.proofs.outage.Tie as tie
 

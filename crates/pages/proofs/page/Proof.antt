@@ -1,8 +1,6 @@
 -- Refused with the report, too short a buffer, or the lines.
-use native.Mathlib.Omega.{arith}
-use mathlib.Core.Path.{refl, sym}
+use Rattle.laws.proofs.Prelude.{refl, sym, needs, arith}
 use Rattle.pages.proofs.Pages.{Reported, page-refused, page-fit, rows-long, few, page-short, page-whole}
-use borrow.Author.Needs.{needs}
 use Rattle.pages.proofs.page.Statement.{statement}
 use Rattle.pages.proofs.page.Tie as tie
 

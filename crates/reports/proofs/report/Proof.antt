@@ -5,9 +5,7 @@ use Rattle.dated.specs.Dated.{datedRun}
 use Rattle.runs.proofs.Calls.{by-sheet, call-fit, journal-whole}
 use Rattle.runs.proofs.Rows.{datedOf, row-dated, view-found}
 use denote.Ref.{now}
-use mathlib.Core.Path.{_≡_, refl, sym, ap, _∙_}
-use native.Mathlib.Omega.{arith}
-use borrow.Author.Needs.{needs}
+use Rattle.laws.proofs.Prelude.{_≡_, refl, sym, ap, _∙_, needs, arith}
 use Rattle.reports.proofs.report.Statement.{statement}
 use Rattle.reports.proofs.report.Tie as tie
 

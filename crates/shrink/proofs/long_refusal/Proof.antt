@@ -1,7 +1,6 @@
 -- Sheet, setup, journal; then its steps.
-use mathlib.Core.Path.{sym, _∙_}
+use Rattle.laws.proofs.Prelude.{sym, _∙_, needs}
 use Rattle.shrink.proofs.Testing.{long-sheet, long-call, long-over, long-none}
-use borrow.Author.Needs.{needs}
 use Rattle.shrink.proofs.long_refusal.Statement.{statement}
 use Rattle.shrink.proofs.long_refusal.Tie as tie
 

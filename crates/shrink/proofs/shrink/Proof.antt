@@ -1,9 +1,7 @@
 -- Refused before any step, no step refused, or shrunk.
-use native.Mathlib.Omega.{arith}
-use mathlib.Core.Path.{sym, _∙_}
+use Rattle.laws.proofs.Prelude.{sym, _∙_, needs, arith}
 use Rattle.runs.proofs.Calls.{call-fit}
 use Rattle.shrink.proofs.Answering.{calls-pass, calls-short, answer-long, answer-none, ran-whole, row-fits, row-length, row-still, answer-row}
-use borrow.Author.Needs.{needs}
 use Rattle.shrink.proofs.shrink.Statement.{statement}
 use Rattle.shrink.proofs.shrink.Tie as tie
 

@@ -1,9 +1,8 @@
 -- The refusal is small, so the product fits.
 use denote.Ref.{now}
-use native.Mathlib.Omega.{arith}
+use Rattle.laws.proofs.Prelude.{needs, arith}
 use Rattle.sheet.proofs.Theorems.{sheet-refusal-below}
 use Rattle.position.specs.Answers.{packed}
-use borrow.Author.Needs.{needs}
 use Rattle.swap.proofs.swap_check.Statement.{statement}
 use Rattle.swap.proofs.swap_check.Tie as tie
 

@@ -1,13 +1,8 @@
 -- The answer fits the number that C gets, and its count is where the rest starts.
-use Prim.Native.Nat.{ℕ, _+_, _*_, _%_, _≤_}
-use native.Mathlib.Omega.{arith}
-use mathlib.Core.Path.{_≡_}
-use mathlib.Core.List.{List}
-use lib.ListN.{drop}
+use Rattle.laws.proofs.Prelude.{ℕ, _+_, _*_, _%_, _≤_, _≡_, List, drop, needs, arith}
 use Rattle.position.specs.Play.{run}
 use Rattle.position.specs.Answers.{packed, runPart}
 use Rattle.runs.proofs.Bounds.{run-bounds}
-use borrow.Author.Needs.{needs}
 use Rattle.swap.proofs.swap_run.Statement.{statement}
 use Rattle.swap.proofs.swap_run.Tie as tie
 

@@ -1,8 +1,7 @@
 -- The sheet, then the setup, then the two limits.
 use Rattle.sheet.proofs.Theorems.{fit}
 use Rattle.timelocks.proofs.Answers.{by-sheet, by-setup, by-limits}
-use mathlib.Core.Path.{sym, _∙_}
-use borrow.Author.Needs.{needs}
+use Rattle.laws.proofs.Prelude.{sym, _∙_, needs}
 use Rattle.timelocks.proofs.field_refusal.Statement.{statement}
 use Rattle.timelocks.proofs.field_refusal.Tie as tie
 

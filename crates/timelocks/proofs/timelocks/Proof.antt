@@ -1,8 +1,6 @@
 -- Refused before the buffer, too short a buffer, or the numbers.
 use Rattle.timelocks.proofs.Answers.{field-fit, all-absolute, answer-refused, answer-short, answer-whole}
-use mathlib.Core.Path.{refl, sym, _∙_}
-use native.Mathlib.Omega.{arith}
-use borrow.Author.Needs.{needs}
+use Rattle.laws.proofs.Prelude.{refl, sym, _∙_, needs, arith}
 use Rattle.timelocks.proofs.timelocks.Statement.{statement}
 use Rattle.timelocks.proofs.timelocks.Tie as tie
 

@@ -1,7 +1,6 @@
 -- Run's own, or refused by the length.
-use mathlib.Core.Path.{_∙_}
+use Rattle.laws.proofs.Prelude.{_∙_, needs}
 use Rattle.asks.proofs.Opens.{open-right, open-wrong}
-use borrow.Author.Needs.{needs}
 use Rattle.asks.proofs.ask.open_run.Statement.{statement}
 use Rattle.asks.proofs.ask.open_run.Tie as tie
 

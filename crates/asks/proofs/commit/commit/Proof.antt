@@ -1,10 +1,7 @@
 -- Refused, or four bytes over the part after the journal.
-use native.Mathlib.Omega.{arith}
-use mathlib.Core.Path.{refl, sym, _∙_}
-use lib.ListN.{length-drop}
+use Rattle.laws.proofs.Prelude.{refl, sym, _∙_, length-drop, needs, arith}
 use Rattle.laws.specs.Wrote.{to-end}
 use Rattle.asks.proofs.Commits.{part-written, answer-no, answer-yes, pass}
-use borrow.Author.Needs.{needs}
 use Rattle.asks.proofs.commit.commit.Statement.{statement}
 use Rattle.asks.proofs.commit.commit.Tie as tie
 

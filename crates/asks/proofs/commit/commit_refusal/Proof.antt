@@ -1,9 +1,8 @@
 -- The tests one after another.
-use native.Mathlib.Omega.{arith}
+use Rattle.laws.proofs.Prelude.{needs, arith}
 use Rattle.asks.specs.Commit.{commitRun}
 use Rattle.asks.proofs.Opens.{opened-fit}
 use Rattle.asks.proofs.Commits.{by-journal, by-count, by-step, by-room, by-none, run-stands}
-use borrow.Author.Needs.{needs}
 use Rattle.asks.proofs.commit.commit_refusal.Statement.{statement}
 use Rattle.asks.proofs.commit.commit_refusal.Tie as tie
 

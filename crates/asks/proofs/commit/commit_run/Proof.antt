@@ -1,8 +1,7 @@
 -- Beyond the buffer, or its first n bytes.
 use lib.Seq.{length-take-le}
-use mathlib.Core.Path.{sym}
+use Rattle.laws.proofs.Prelude.{sym, needs}
 use Rattle.asks.proofs.Commits.{run-beyond, run-within}
-use borrow.Author.Needs.{needs}
 use Rattle.asks.proofs.commit.commit_run.Statement.{statement}
 use Rattle.asks.proofs.commit.commit_run.Tie as tie
 

@@ -1,8 +1,6 @@
 -- Four stores.
 use Rattle.asks.proofs.Commits.{four-stores}
-use lib.ListN.{length-set}
-use native.Mathlib.Omega.{arith}
-use borrow.Author.Needs.{needs}
+use Rattle.laws.proofs.Prelude.{length-set, needs, arith}
 use Rattle.asks.proofs.commit.write_step.Statement.{statement}
 use Rattle.asks.proofs.commit.write_step.Tie as tie
 

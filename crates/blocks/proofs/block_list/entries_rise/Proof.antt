@@ -1,12 +1,9 @@
 -- What is left to pass from each entry on is the whole.
-use Prim.Native.Nat.{_≤_, _-_}
-use native.Mathlib.Omega.{arith}
-use mathlib.Core.Path.{_≡_, refl, _∙_}
+use Rattle.laws.proofs.Prelude.{_-_, _≤_, _≡_, refl, _∙_, needs, arith}
 use Rattle.blocks.specs.BlockList.{listEntries, entriesRise}
 use Rattle.blocks.specs.Forms.Listed.{entryOf}
 use Rattle.blocks.proofs.Walk.{left, left-all, left-on, left-stopped, left-ended}
 use Rattle.blocks.proofs.Rise.{behind, latest, rise-first}
-use borrow.Author.Needs.{needs}
 use Rattle.blocks.proofs.block_list.entries_rise.Statement.{statement}
 use Rattle.blocks.proofs.block_list.entries_rise.Tie as tie
 

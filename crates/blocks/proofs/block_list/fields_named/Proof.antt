@@ -1,11 +1,8 @@
 -- Whole entries; what is left to pass from each entry on is the whole.
-use Prim.Native.Nat.{_≤_, _-_}
-use native.Mathlib.Omega.{arith}
-use mathlib.Core.Path.{_≡_, refl}
+use Rattle.laws.proofs.Prelude.{_-_, _≤_, _≡_, refl, needs, arith}
 use Rattle.blocks.specs.BlockList.{fieldsNamed}
 use Rattle.blocks.proofs.Walk.{left, left-on, left-stopped, left-ended}
 use Rattle.blocks.proofs.Named.{named, unchanged, named-whole, named-broken}
-use borrow.Author.Needs.{needs}
 use Rattle.blocks.proofs.block_list.fields_named.Statement.{statement}
 use Rattle.blocks.proofs.block_list.fields_named.Tie as tie
 

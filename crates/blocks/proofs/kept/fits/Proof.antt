@@ -1,8 +1,6 @@
 -- Block 0 is none.
-use native.Mathlib.Omega.{arith}
-use borrow.Author.Tests.{eq-eqb, ne-eqb}
+use Rattle.laws.proofs.Prelude.{eq-eqb, ne-eqb, needs, arith}
 use Rattle.blocks.specs.Forms.Listed.{lastOf}
-use borrow.Author.Needs.{needs}
 use Rattle.blocks.proofs.kept.fits.Statement.{statement}
 use Rattle.blocks.proofs.kept.fits.Tie as tie
 

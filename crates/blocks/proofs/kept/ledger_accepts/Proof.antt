@@ -1,15 +1,11 @@
 -- What is left to pass from each entry on, over what the array keeps, is the whole.
-use Prim.Native.Nat.{_≤_, _-_}
-use native.Mathlib.Omega.{arith}
-use mathlib.Core.Path.{_≡_}
-use lib.ListN.{length, length-set}
+use Rattle.laws.proofs.Prelude.{_-_, _≤_, _≡_, length, length-set, needs, arith}
 use Rattle.ledger.specs.Ledger.{ledger}
 use Rattle.blocks.specs.BlockList.{listEntries}
 use Rattle.blocks.specs.Forms.Listed.{keptIn}
 use Rattle.blocks.proofs.Walk.{left, left-on, left-stopped, left-ended}
 use Rattle.blocks.proofs.Named.{NamedFrom, named-all, named-next, named-low}
 use Rattle.blocks.proofs.Keeping.{right, next, keeps-start, turn-low, turn-coin, turn-right, turn-keeps}
-use borrow.Author.Needs.{needs}
 use Rattle.blocks.proofs.kept.ledger_accepts.Statement.{statement}
 use Rattle.blocks.proofs.kept.ledger_accepts.Tie as tie
 

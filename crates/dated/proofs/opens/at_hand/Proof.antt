@@ -1,8 +1,6 @@
 -- A contract transaction, or a payee of a paying one.
 use Rattle.dated.specs.Forms.Opens.{atHandIn}
-use borrow.Author.Tests.{not-true, not-false}
-use mathlib.Core.Path.{sym, _∙_}
-use borrow.Author.Needs.{needs}
+use Rattle.laws.proofs.Prelude.{sym, _∙_, not-true, not-false, needs}
 use Rattle.dated.proofs.opens.at_hand.Statement.{statement}
 use Rattle.dated.proofs.opens.at_hand.Tie as tie
 

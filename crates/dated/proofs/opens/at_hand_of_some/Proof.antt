@@ -2,13 +2,9 @@
 use Rattle.dated.specs.Forms.Opens.{atHandIn}
 use Rattle.sheet.specs.Field.{parties, partyAt}
 use Rattle.laws.specs.Below.{anyBelow, any-start, any-more, any-found, any-done}
-use mathlib.Core.Bool.{Bool, false}
+use Rattle.laws.proofs.Prelude.{ℕ, _-_, _≤_, _≡_, sym, _∙_, Bool, false, List, needs}
 use Rattle.slots.specs.declared.Slot.{Slot}
 use Rattle.steps.specs.declared.View.{View}
-use mathlib.Core.List.{List}
-use mathlib.Core.Path.{_≡_, sym, _∙_}
-use Prim.Native.Nat.{ℕ, _≤_, _-_}
-use borrow.Author.Needs.{needs}
 use Rattle.dated.proofs.opens.at_hand_of_some.Statement.{statement}
 use Rattle.dated.proofs.opens.at_hand_of_some.Tie as tie
 

@@ -1,8 +1,6 @@
 -- None, or the blocks mined.
 use Rattle.dated.specs.Forms.Opens.{firstOpenIn}
-use borrow.Author.Tests.{not-true, not-false}
-use mathlib.Core.Path.{sym, _∙_}
-use borrow.Author.Needs.{needs}
+use Rattle.laws.proofs.Prelude.{sym, _∙_, not-true, not-false, needs}
 use Rattle.dated.proofs.opens.first_open.Statement.{statement}
 use Rattle.dated.proofs.opens.first_open.Tie as tie
 

@@ -1,8 +1,6 @@
 -- The lock, the signatures, then the rivals.
 use Rattle.dated.proofs.OpenViews.{under-lock, unsigned, by-rival}
-use borrow.Author.Tests.{not-true, not-false}
-use mathlib.Core.Path.{sym, _∙_}
-use borrow.Author.Needs.{needs}
+use Rattle.laws.proofs.Prelude.{sym, _∙_, not-true, not-false, needs}
 use Rattle.dated.proofs.opens.opens.Statement.{statement}
 use Rattle.dated.proofs.opens.opens.Tie as tie
 

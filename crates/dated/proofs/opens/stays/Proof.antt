@@ -1,8 +1,7 @@
 -- A count, or no parent.
 use Rattle.dated.specs.Forms.Opens.{stays}
 use Rattle.sheet.specs.LockHeight.{never}
-use borrow.Author.Tests.{eq-eqb, ne-eqb}
-use borrow.Author.Needs.{needs}
+use Rattle.laws.proofs.Prelude.{eq-eqb, ne-eqb, needs}
 use Rattle.dated.proofs.opens.stays.Statement.{statement}
 use Rattle.dated.proofs.opens.stays.Tie as tie
 

@@ -1,13 +1,10 @@
 -- The answers of the swaps before i; the journal of swap i starts at `start`.
-use Prim.Native.Nat.{_-_}
-use native.Mathlib.Omega.{arith}
-use mathlib.Core.Path.{_≡_}
+use Rattle.laws.proofs.Prelude.{_-_, _≡_, needs, arith}
 use Rattle.laws.specs.Wrote.{Turns, turns-start}
 use Rattle.desk.specs.Bundle.{startOf}
 use Rattle.desk.specs.Desk.{swapBytes}
 use Rattle.desk.proofs.Bundles.{arrays, arrays-some, stands, start-first, start-next}
 use Rattle.desk.proofs.Swaps.{all-room, eight-room, eight-end, eight-more, answers-done}
-use borrow.Author.Needs.{needs}
 use Rattle.desk.proofs.answers.write_answers.Statement.{statement}
 use Rattle.desk.proofs.answers.write_answers.Tie as tie
 

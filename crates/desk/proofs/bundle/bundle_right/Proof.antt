@@ -1,7 +1,6 @@
 -- The four ways out.
 use Rattle.desk.proofs.Bundles.{right-empty, right-short, right-many, right-arrays, right-sum}
-use native.Mathlib.Omega.{arith}
-use borrow.Author.Needs.{needs}
+use Rattle.laws.proofs.Prelude.{needs, arith}
 use Rattle.desk.proofs.bundle.bundle_right.Statement.{statement}
 use Rattle.desk.proofs.bundle.bundle_right.Tie as tie
 

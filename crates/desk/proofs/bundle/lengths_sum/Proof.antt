@@ -1,11 +1,8 @@
 -- The sum of the lengths before i.
-use Prim.Native.Nat.{_≤_, _-_, _*_}
-use native.Mathlib.Omega.{arith}
-use mathlib.Core.Path.{_≡_}
+use Rattle.laws.proofs.Prelude.{_-_, _*_, _≤_, _≡_, needs, arith}
 use Rattle.laws.specs.Sum.{sumBelow, sum-start, sum-more, sum-done}
 use Rattle.desk.specs.Bundle.{lengthOf}
 use Rattle.desk.proofs.Bundles.{arrays-some}
-use borrow.Author.Needs.{needs}
 use Rattle.desk.proofs.bundle.lengths_sum.Statement.{statement}
 use Rattle.desk.proofs.bundle.lengths_sum.Tie as tie
 

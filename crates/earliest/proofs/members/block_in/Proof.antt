@@ -1,7 +1,6 @@
 -- In the set, or not.
-use mathlib.Core.Path.{sym, _∙_}
+use Rattle.laws.proofs.Prelude.{sym, _∙_, needs}
 use Rattle.earliest.specs.Forms.Table.{blockIn}
-use borrow.Author.Needs.{needs}
 use Rattle.earliest.proofs.members.block_in.Statement.{statement}
 use Rattle.earliest.proofs.members.block_in.Tie as tie
 

@@ -1,11 +1,8 @@
 -- The planned ones before t.
-use Prim.Native.Nat.{_≤_, _-_}
-use native.Mathlib.Omega.{arith}
-use mathlib.Core.Path.{_≡_}
+use Rattle.laws.proofs.Prelude.{_-_, _≤_, _≡_, needs, arith}
 use Rattle.laws.specs.Sets.{setBelow, set-start, set-more, set-done}
 use Rattle.endings.specs.Plan.{planned}
 use Rattle.earliest.specs.Forms.Table.{members}
-use borrow.Author.Needs.{needs}
 use Rattle.earliest.proofs.members.members.Statement.{statement}
 use Rattle.earliest.proofs.members.members.Tie as tie
 

@@ -1,11 +1,7 @@
 -- The blocks of the transactions before t.
-use Prim.Native.Nat.{_≤_, _-_}
-use native.Mathlib.Omega.{arith}
-use mathlib.Core.Path.{_≡_}
-use lib.ListN.{replicate}
+use Rattle.laws.proofs.Prelude.{_-_, _≤_, _≡_, replicate, needs, arith}
 use Rattle.laws.specs.Each.{rewriteFirst, rewrite-start, rewrite-again, rewrite-done}
 use Rattle.earliest.specs.Forms.Table.{blockIn, table}
-use borrow.Author.Needs.{needs}
 use Rattle.earliest.proofs.members.table.Statement.{statement}
 use Rattle.earliest.proofs.members.table.Tie as tie
 

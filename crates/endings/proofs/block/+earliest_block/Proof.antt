@@ -1,8 +1,6 @@
 -- Over the parent's block, or over block 1.
-use native.Mathlib.Omega.{arith}
+use Rattle.laws.proofs.Prelude.{ℕ, _<_, needs, arith}
 use Rattle.endings.proofs.Locks.{block-below, block-first}
-use borrow.Author.Needs.{needs}
-use Prim.Native.Nat.{ℕ, _<_}
 use borrow.Fn.Kinds.{In}
 use borrow.Fn.PlainCycle.{Measures, is, falls, and}
 use Rattle.endings.proofs.block.earliest_block.Reads as earliest-block

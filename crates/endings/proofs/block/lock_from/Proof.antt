@@ -1,7 +1,6 @@
 -- None, the product, or the block above plus it.
-use native.Mathlib.Omega.{arith}
+use Rattle.laws.proofs.Prelude.{needs, arith}
 use Rattle.endings.proofs.Locks.{lock-none, lock-days, lock-since}
-use borrow.Author.Needs.{needs}
 use Rattle.endings.proofs.block.lock_from.Statement.{statement}
 use Rattle.endings.proofs.block.lock_from.Tie as tie
 

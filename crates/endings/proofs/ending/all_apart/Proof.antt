@@ -1,13 +1,8 @@
 -- Each transaction below x is apart from all.
-use Prim.Native.Nat.{_≤_, _-_}
-use native.Mathlib.Omega.{arith}
-use mathlib.Core.Path.{_≡_, sym, _∙_}
-use mathlib.Core.Bool.{true}
-use borrow.Author.Tests.{not-true, not-false}
+use Rattle.laws.proofs.Prelude.{_-_, _≤_, _≡_, sym, _∙_, true, not-true, not-false, needs, arith}
 use Rattle.laws.specs.Below.{allBelow, all-start, all-more, all-broken, all-done}
 use Rattle.sheet.specs.Field.{count}
 use Rattle.endings.specs.Ending.{coinsApart}
-use borrow.Author.Needs.{needs}
 use Rattle.endings.proofs.ending.all_apart.Statement.{statement}
 use Rattle.endings.proofs.ending.all_apart.Tie as tie
 

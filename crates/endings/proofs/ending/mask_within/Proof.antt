@@ -1,11 +1,7 @@
 -- Below the power of two; all 32 bits are.
-use native.Mathlib.Omega.{arith}
+use Rattle.laws.proofs.Prelude.{_≡_, sym, ap, _∙_, ltb, lt-ltb, needs, arith}
 use native.Mathlib.Nat.{one-mul}
-use mathlib.Core.Path.{_≡_, sym, ap, _∙_}
-use lib.Dec.{ltb}
 use lib.Pow.{shl-exact}
-use borrow.Author.Tests.{lt-ltb}
-use borrow.Author.Needs.{needs}
 use Rattle.endings.proofs.ending.mask_within.Statement.{statement}
 use Rattle.endings.proofs.ending.mask_within.Tie as tie
 

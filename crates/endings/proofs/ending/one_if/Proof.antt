@@ -1,6 +1,5 @@
 -- In the mask, or not.
-use mathlib.Core.Path.{refl, sym, _∙_}
-use borrow.Author.Needs.{needs}
+use Rattle.laws.proofs.Prelude.{refl, sym, _∙_, needs}
 use Rattle.endings.proofs.ending.one_if.Statement.{statement}
 use Rattle.endings.proofs.ending.one_if.Tie as tie
 

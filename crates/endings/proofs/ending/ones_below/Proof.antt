@@ -1,11 +1,8 @@
 -- The sum over the bits below t.
-use Prim.Native.Nat.{_≤_, _-_}
-use native.Mathlib.Omega.{arith}
-use mathlib.Core.Path.{_≡_}
+use Rattle.laws.proofs.Prelude.{_-_, _≤_, _≡_, needs, arith}
 use Rattle.laws.specs.Booleans.{pick}
 use Rattle.laws.specs.Mask.{bit}
 use Rattle.laws.specs.Sum.{sumBelow, bitsBelow, sum-start, sum-more, sum-done}
-use borrow.Author.Needs.{needs}
 use Rattle.endings.proofs.ending.ones_below.Statement.{statement}
 use Rattle.endings.proofs.ending.ones_below.Tie as tie
 

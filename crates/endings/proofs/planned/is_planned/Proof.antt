@@ -1,12 +1,9 @@
 -- None below x leads to t.
-use Prim.Native.Nat.{_≤_, _-_}
-use mathlib.Core.Path.{_≡_, sym, _∙_}
-use mathlib.Core.Bool.{false, _&&_}
+use Rattle.laws.proofs.Prelude.{_-_, _≤_, _≡_, sym, _∙_, false, _&&_, needs}
 use Rattle.laws.specs.Below.{anyBelow, any-start, any-more, any-found, any-done}
 use Rattle.laws.specs.Mask.{bit}
 use Rattle.slots.specs.Ancestry.{isSelfOrAncestor}
 use Rattle.endings.specs.Plan.{planned}
-use borrow.Author.Needs.{needs}
 use Rattle.endings.proofs.planned.is_planned.Statement.{statement}
 use Rattle.endings.proofs.planned.is_planned.Tie as tie
 

@@ -1,8 +1,6 @@
 -- In the mask, and t in its line.
-use native.Mathlib.Omega.{arith}
-use mathlib.Core.Path.{_∙_}
+use Rattle.laws.proofs.Prelude.{_∙_, needs, arith}
 use Rattle.slots.proofs.LineSets.{line-bit}
-use borrow.Author.Needs.{needs}
 use Rattle.endings.proofs.planned.leads_to.Statement.{statement}
 use Rattle.endings.proofs.planned.leads_to.Tie as tie
 

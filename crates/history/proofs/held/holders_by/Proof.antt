@@ -1,12 +1,8 @@
 -- The holders of the coins before this one.
-use Prim.Native.Nat.{_≤_, _-_}
-use native.Mathlib.Omega.{arith}
-use mathlib.Core.Path.{_≡_}
-use lib.ListN.{replicate}
+use Rattle.laws.proofs.Prelude.{_-_, _≤_, _≡_, replicate, needs, arith}
 use Rattle.laws.specs.Each.{rewriteFirst, rewrite-start, rewrite-again, rewrite-done}
 use Rattle.readings.specs.Reported.{reportedHolder}
 use Rattle.history.specs.Promise.{holders}
-use borrow.Author.Needs.{needs}
 use Rattle.history.proofs.held.holders_by.Statement.{statement}
 use Rattle.history.proofs.held.holders_by.Tie as tie
 

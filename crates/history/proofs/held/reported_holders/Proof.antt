@@ -1,11 +1,8 @@
 -- By the report's answer.
-use Prim.Native.Nat.{_*_}
-use native.Mathlib.Omega.{arith}
-use mathlib.Core.Path.{sym}
+use Rattle.laws.proofs.Prelude.{_*_, sym, needs, arith}
 use lib.Seq.{length-take-le}
 use Rattle.laws.specs.Booleans.{tests}
 use Rattle.history.specs.Promise.{reportedHolders}
-use borrow.Author.Needs.{needs}
 use Rattle.history.proofs.held.reported_holders.Statement.{statement}
 use Rattle.history.proofs.held.reported_holders.Tie as tie
 

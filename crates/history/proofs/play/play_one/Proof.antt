@@ -1,8 +1,7 @@
 -- One step, and what it adds.
-use native.Mathlib.Omega.{arith}
+use Rattle.laws.proofs.Prelude.{needs, arith}
 use Rattle.history.specs.Forms.Steps.{playedOne}
 use Rattle.history.proofs.Playing.{one-at-most}
-use borrow.Author.Needs.{needs}
 use Rattle.history.proofs.play.play_one.Statement.{statement}
 use Rattle.history.proofs.play.play_one.Tie as tie
 

@@ -1,8 +1,6 @@
 -- What is left to do from each group on comes to the whole.
-use Prim.Native.Nat.{_-_}
-use native.Mathlib.Omega.{arith}
+use Rattle.laws.proofs.Prelude.{_-_, needs, arith}
 use Rattle.history.proofs.Playing.{Playing, playing-start, playing-more, playing-done}
-use borrow.Author.Needs.{needs}
 use Rattle.history.proofs.play.play_steps.Statement.{statement}
 use Rattle.history.proofs.play.play_steps.Tie as tie
 

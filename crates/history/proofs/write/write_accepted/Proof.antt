@@ -1,9 +1,7 @@
 -- What is written and what is left to write come to the whole.
-use Prim.Native.Nat.{_-_}
-use native.Mathlib.Omega.{arith}
+use Rattle.laws.proofs.Prelude.{_-_, needs, arith}
 use Rattle.output.proofs.Writing.{Writing, writing-start, writing-more, writing-done}
 use Rattle.history.proofs.Writing.{bytesFrom, bytesAll, bytes-start, bytes-turn, bytes-none, turn-room, turn-end}
-use borrow.Author.Needs.{needs}
 use Rattle.history.proofs.write.write_accepted.Statement.{statement}
 use Rattle.history.proofs.write.write_accepted.Tie as tie
 

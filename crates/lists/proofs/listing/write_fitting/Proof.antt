@@ -1,7 +1,6 @@
 -- As many bytes as four for each step.
-use native.Mathlib.Omega.{arith}
+use Rattle.laws.proofs.Prelude.{needs, arith}
 use Rattle.lists.proofs.Lists.{sets-bound, sets-room, gives-short, gives-whole}
-use borrow.Author.Needs.{needs}
 use Rattle.lists.proofs.listing.write_fitting.Statement.{statement}
 use Rattle.lists.proofs.listing.write_fitting.Tie as tie
 

@@ -1,13 +1,9 @@
 -- One actor's steps, then the other's.
-use Prim.Native.Nat.{ℕ, _≤_, _+_, _-_}
-use native.Mathlib.Omega.{arith}
-use mathlib.Core.List.{List, _++_}
-use lib.ListN.{length}
+use Rattle.laws.proofs.Prelude.{ℕ, _+_, _-_, _≤_, List, _++_, length, needs, arith}
 use borrow.Rule.Slice.PartMut.{putMid}
 use Rattle.laws.specs.Wrote.{Wrote, wrote-first, wrote-room, wrote-more, front-fits}
 use Rattle.output.specs.Forms.Emitted.{actorBytes}
 use Rattle.lists.specs.Forms.SetsBytes.{twoBytes}
-use borrow.Author.Needs.{needs}
 use Rattle.lists.proofs.listing.write_two.Statement.{statement}
 use Rattle.lists.proofs.listing.write_two.Tie as tie
 

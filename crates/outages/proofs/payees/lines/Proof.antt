@@ -1,12 +1,9 @@
 -- The lines of the transactions before t.
-use Prim.Native.Nat.{_≤_, _-_}
-use native.Mathlib.Omega.{arith}
-use mathlib.Core.Path.{_≡_, refl}
+use Rattle.laws.proofs.Prelude.{_-_, _≤_, _≡_, refl, needs, arith}
 use Rattle.slots.specs.Forms.Line.{lineSet}
 use Rattle.soonest.specs.Forms.Table.{Filled}
 use Rattle.soonest.proofs.Tables.{filled-start, filled-more, filled-done}
 use Rattle.outages.proofs.RowViews.{line-next}
-use borrow.Author.Needs.{needs}
 use Rattle.outages.proofs.payees.lines.Statement.{statement}
 use Rattle.outages.proofs.payees.lines.Tie as tie
 

@@ -4,10 +4,7 @@ use Rattle.outages.proofs.Unions.{union-start, union-more, union-done}
 use Rattle.sheet.specs.Field.{payees}
 use Rattle.laws.specs.Booleans.{pick}
 use Rattle.laws.specs.Mask.{bit, unionBelow}
-use lib.ListN.{getD}
-use mathlib.Core.Path.{_≡_}
-use Prim.Native.Nat.{_≤_, _-_}
-use borrow.Author.Needs.{needs}
+use Rattle.laws.proofs.Prelude.{_-_, _≤_, _≡_, getD, needs}
 use Rattle.outages.proofs.payees.payees_below.Statement.{statement}
 use Rattle.outages.proofs.payees.payees_below.Tie as tie
 

@@ -1,7 +1,6 @@
 -- What was read once makes the row.
 use Rattle.outages.specs.Forms.Row.{rowIn}
-use native.Mathlib.Omega.{arith}
-use borrow.Author.Needs.{needs}
+use Rattle.laws.proofs.Prelude.{needs, arith}
 use Rattle.outages.proofs.rows.write_at.Statement.{statement}
 use Rattle.outages.proofs.rows.write_at.Tie as tie
 

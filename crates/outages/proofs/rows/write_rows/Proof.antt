@@ -6,12 +6,8 @@ use Rattle.position.specs.Position.{slot}
 use Rattle.position.specs.Forms.View.{sinceIn}
 use Rattle.laws.specs.Each.{length-of-map}
 use Rattle.laws.specs.Wrote.{Turns, turns-start, turn-room, turn-end, turn-more, turns-done}
-use mathlib.Core.Path.{_≡_, sym}
-use lib.ListN.{length}
+use Rattle.laws.proofs.Prelude.{_-_, _<_, _≡_, sym, length, needs, arith}
 use Rattle.sheet.specs.Field.{count}
-use Prim.Native.Nat.{_-_, _<_}
-use native.Mathlib.Omega.{arith}
-use borrow.Author.Needs.{needs}
 use Rattle.outages.proofs.rows.write_rows.Statement.{statement}
 use Rattle.outages.proofs.rows.write_rows.Tie as tie
 

@@ -1,8 +1,7 @@
 -- In the tests' order.
 use Rattle.outages.specs.Verdict.{isCovered}
 use Rattle.laws.specs.Booleans.{tests}
-use borrow.Author.Tests.{not-true, not-false}
-use borrow.Author.Needs.{needs}
+use Rattle.laws.proofs.Prelude.{not-true, not-false, needs}
 use Rattle.outages.proofs.verdict.covered.Statement.{statement}
 use Rattle.outages.proofs.verdict.covered.Tie as tie
 

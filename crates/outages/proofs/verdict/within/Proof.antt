@@ -1,11 +1,6 @@
 -- No later than the blocks mined, or by what is left.
-use Prim.Native.Nat.{_+_, _-_}
-use native.Mathlib.Omega.{arith}
-use lib.Dec.{leb}
-use mathlib.Core.Path.{sym}
-use borrow.Author.Tests.{leb-true, leb-false, le-leb, lt-leb}
+use Rattle.laws.proofs.Prelude.{_+_, _-_, sym, leb, leb-true, leb-false, le-leb, lt-leb, needs, arith}
 use Rattle.laws.specs.Booleans.{split}
-use borrow.Author.Needs.{needs}
 use Rattle.outages.proofs.verdict.within.Statement.{statement}
 use Rattle.outages.proofs.verdict.within.Tie as tie
 

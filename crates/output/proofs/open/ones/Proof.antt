@@ -3,8 +3,7 @@ use lib.Count.{ones-le}
 use Rattle.laws.specs.Ones.{ones-bits}
 use Rattle.laws.specs.Mask.{bit}
 use Rattle.laws.specs.Sum.{sumBelow, bitsBelow}
-use mathlib.Core.Path.{refl}
-use borrow.Author.Needs.{needs}
+use Rattle.laws.proofs.Prelude.{refl, needs}
 use Rattle.output.proofs.open.ones.Statement.{statement}
 use Rattle.output.proofs.open.ones.Tie as tie
 

@@ -3,12 +3,9 @@ use Rattle.output.specs.Forms.Emitted.{openCount}
 use Rattle.output.proofs.Lengths.{count-bound}
 use Rattle.laws.specs.Sum.{sumBelow, bitsBelow, sum-start, sum-more, sum-done}
 use Rattle.laws.specs.Ones.{bits-short, bits-low}
-use lib.ListN.{getD}
-use mathlib.Core.Path.{_≡_, ap₂, _∙_}
-use Prim.Native.Nat.{ℕ, _≤_, _+_, _-_, _*_}
-use native.Mathlib.Omega.{arith}
+use Rattle.laws.proofs.Prelude.{ℕ, _+_, _-_, _*_, _≤_, _≡_, _∙_, getD, needs, arith}
+use mathlib.Core.Path.{ap₂}
 use native.Mathlib.Nat.{mod-lt}
-use borrow.Author.Needs.{needs}
 use Rattle.output.proofs.open.open_count.Statement.{statement}
 use Rattle.output.proofs.open.open_count.Tie as tie
 

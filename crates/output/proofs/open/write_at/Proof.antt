@@ -1,11 +1,7 @@
 -- The steps of the destinations before d.
 use Rattle.output.specs.Forms.Emitted.{emitted, emittedAt, opens}
 use Rattle.laws.specs.Wrote.{Turns, turns-start, turn-room, turn-end, turn-more, turns-done}
-use mathlib.Core.Bool.{Bool}
-use mathlib.Core.List.{List}
-use Prim.Native.Nat.{ℕ, _-_}
-use native.Mathlib.Omega.{arith}
-use borrow.Author.Needs.{needs}
+use Rattle.laws.proofs.Prelude.{ℕ, _-_, Bool, List, needs, arith}
 use Rattle.output.proofs.open.write_at.Statement.{statement}
 use Rattle.output.proofs.open.write_at.Tie as tie
 

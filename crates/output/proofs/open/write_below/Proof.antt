@@ -3,10 +3,7 @@ use Rattle.output.specs.Forms.Emitted.{emittedAt, opensFor}
 use Rattle.output.proofs.Four.{four-below, none-below}
 use Rattle.laws.specs.Over.{over-none}
 use Rattle.laws.specs.Wrote.{Turns, turns-start, turn-room, turn-end, turn-more, turns-done}
-use mathlib.Core.Path.{refl}
-use Prim.Native.Nat.{_-_}
-use native.Mathlib.Omega.{arith}
-use borrow.Author.Needs.{needs}
+use Rattle.laws.proofs.Prelude.{_-_, refl, needs, arith}
 use Rattle.output.proofs.open.write_below.Statement.{statement}
 use Rattle.output.proofs.open.write_below.Tie as tie
 

@@ -3,11 +3,7 @@ use Rattle.output.specs.Forms.Emitted.{belowBytes, lastBytes, kindBytes}
 use Rattle.laws.specs.Gather.{gather}
 use Rattle.laws.specs.Wrote.{Wrote, wrote-first, wrote-room, wrote-more, front-fits}
 use borrow.Rule.Slice.PartMut.{putMid}
-use lib.ListN.{length}
-use mathlib.Core.List.{List, _++_}
-use Prim.Native.Nat.{ℕ, _≤_, _+_, _-_}
-use native.Mathlib.Omega.{arith}
-use borrow.Author.Needs.{needs}
+use Rattle.laws.proofs.Prelude.{ℕ, _+_, _-_, _≤_, List, _++_, length, needs, arith}
 use Rattle.output.proofs.open.write_kind.Statement.{statement}
 use Rattle.output.proofs.open.write_kind.Tie as tie
 

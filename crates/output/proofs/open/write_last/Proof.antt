@@ -1,8 +1,7 @@
 -- The four bits of byte 255.
 use Rattle.output.proofs.Four.{four-last, none-last}
 use Rattle.laws.specs.Over.{over-none}
-use mathlib.Core.Path.{refl}
-use borrow.Author.Needs.{needs}
+use Rattle.laws.proofs.Prelude.{refl, needs}
 use Rattle.output.proofs.open.write_last.Statement.{statement}
 use Rattle.output.proofs.open.write_last.Tie as tie
 

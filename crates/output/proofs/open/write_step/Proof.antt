@@ -2,10 +2,7 @@
 use Rattle.output.specs.Forms.Emitted.{emitted}
 use Rattle.output.proofs.Lengths.{four-fit}
 use Rattle.laws.specs.Over.{over-none, stores-over}
-use lib.ListN.{length-set}
-use mathlib.Core.List.{_∷_, []}
-use mathlib.Core.Path.{refl}
-use native.Mathlib.Omega.{arith}
+use Rattle.laws.proofs.Prelude.{refl, [], _∷_, length-set, arith}
 use Rattle.output.proofs.open.write_step.Statement.{statement}
 use Rattle.output.proofs.open.write_step.Tie as tie
 

@@ -1,9 +1,7 @@
 -- Four stores.
 use Rattle.laws.specs.Little.{bytesOf}
 use Rattle.laws.specs.Over.{stores-over}
-use lib.ListN.{length-set}
-use native.Mathlib.Omega.{arith}
-use borrow.Author.Needs.{needs}
+use Rattle.laws.proofs.Prelude.{length-set, needs, arith}
 use Rattle.output.proofs.row.write_number.Statement.{statement}
 use Rattle.output.proofs.row.write_number.Tie as tie
 

@@ -2,12 +2,7 @@
 use Rattle.laws.specs.Little.{bytesOf, length-bytes}
 use Rattle.laws.specs.Wrote.{Wrote, wrote-first, wrote-room, wrote-more, front-fits}
 use borrow.Rule.Slice.PartMut.{putMid}
-use lib.ListN.{length, length-append}
-use mathlib.Core.List.{List, _++_}
-use mathlib.Core.Path.{sym}
-use Prim.Native.Nat.{ℕ, _-_, _≤_}
-use native.Mathlib.Omega.{arith}
-use borrow.Author.Needs.{needs}
+use Rattle.laws.proofs.Prelude.{ℕ, _-_, _≤_, sym, List, _++_, length, length-append, needs, arith}
 use Rattle.output.proofs.row.write_pair.Statement.{statement}
 use Rattle.output.proofs.row.write_pair.Tie as tie
 

@@ -1,7 +1,6 @@
 -- The digit's character.
 use Rattle.pages.specs.Line.{digit}
-use mathlib.Core.Path.{refl}
-use borrow.Author.Needs.{needs}
+use Rattle.laws.proofs.Prelude.{refl, needs}
 use Rattle.pages.proofs.line.digit.Statement.{statement}
 use Rattle.pages.proofs.line.digit.Tie as tie
 

@@ -1,8 +1,7 @@
 -- Never, or a number.
-use mathlib.Core.Path.{refl}
+use Rattle.laws.proofs.Prelude.{refl, needs}
 use Rattle.pages.proofs.Columns.{same-column, room-as, written-as}
 use Rattle.pages.proofs.Names.{is-never, is-height}
-use borrow.Author.Needs.{needs}
 use Rattle.pages.proofs.line.write_height.Statement.{statement}
 use Rattle.pages.proofs.line.write_height.Tie as tie
 

@@ -1,9 +1,5 @@
 -- The columns before k; then the end of the line.
-use Prim.Native.Nat.{_-_, _+_, _≤_}
-use native.Mathlib.Omega.{arith}
-use mathlib.Core.Path.{_≡_}
-use mathlib.Core.List.{[], _∷_, _++_}
-use lib.ListN.{length}
+use Rattle.laws.proofs.Prelude.{_+_, _-_, _≤_, _≡_, [], _∷_, _++_, length, needs, arith}
 use borrow.Rule.Slice.PartMut.{putMid}
 use Rattle.laws.specs.Gather.{gather}
 use Rattle.laws.specs.Wrote.{Wrote, Turns, turns-start, turn-room, turn-end, turn-more, turns-done, wrote-room, wrote-more}
@@ -12,7 +8,6 @@ use Rattle.pages.specs.Line.{lineFeed, column, line}
 use Rattle.pages.specs.Page.{lineTexts}
 use Rattle.pages.specs.Forms.Cell.{cell}
 use Rattle.pages.proofs.Lines.{bytes-readable, cells-short, cells-room, line-length, line-parts}
-use borrow.Author.Needs.{needs}
 use Rattle.pages.proofs.line.write_line.Statement.{statement}
 use Rattle.pages.proofs.line.write_line.Tie as tie
 

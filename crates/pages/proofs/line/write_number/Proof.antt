@@ -1,10 +1,7 @@
 -- The digits from the last one on, then their column.
-use Prim.Native.Nat.{_-_}
-use native.Mathlib.Omega.{arith}
-use mathlib.Core.Path.{refl}
+use Rattle.laws.proofs.Prelude.{_-_, refl, needs, arith}
 use Rattle.pages.proofs.Columns.{same-column, room-as, written-as}
 use Rattle.pages.proofs.Digits.{Made, digits-some, made-none, made-room, made-more, made-long, made-all}
-use borrow.Author.Needs.{needs}
 use Rattle.pages.proofs.line.write_number.Statement.{statement}
 use Rattle.pages.proofs.line.write_number.Tie as tie
 

@@ -1,14 +1,10 @@
 -- The lines before i.
-use Prim.Native.Nat.{suc, _-_, _<_}
-use native.Mathlib.Omega.{arith}
-use mathlib.Core.Path.{_≡_, sym}
-use lib.ListN.{length}
+use Rattle.laws.proofs.Prelude.{suc, _-_, _<_, _≡_, sym, length, needs, arith}
 use Rattle.laws.specs.Wrote.{Turns, turns-start, turn-room, turn-end, turn-more, turns-done}
 use Rattle.readings.specs.Reported.{reportedLine}
 use Rattle.pages.specs.Line.{line}
 use Rattle.pages.specs.Page.{lineTexts, pageOf}
 use Rattle.pages.proofs.Lines.{bytes-readable, line-length, page-room}
-use borrow.Author.Needs.{needs}
 use Rattle.pages.proofs.line.write_page.Statement.{statement}
 use Rattle.pages.proofs.line.write_page.Tie as tie
 

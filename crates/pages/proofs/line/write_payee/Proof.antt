@@ -1,8 +1,7 @@
 -- One of five texts.
-use mathlib.Core.Path.{refl}
+use Rattle.laws.proofs.Prelude.{refl, needs}
 use Rattle.pages.proofs.Columns.{same-column, room-as, written-as}
 use Rattle.pages.proofs.Names.{is-alice, is-bob, is-contract, is-carol, is-nobody}
-use borrow.Author.Needs.{needs}
 use Rattle.pages.proofs.line.write_payee.Statement.{statement}
 use Rattle.pages.proofs.line.write_payee.Tie as tie
 

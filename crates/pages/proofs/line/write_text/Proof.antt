@@ -1,10 +1,8 @@
 -- The column, byte by byte.
-use Prim.Native.Nat.{_-_}
-use native.Mathlib.Omega.{arith}
+use Rattle.laws.proofs.Prelude.{_-_, needs, arith}
 use Rattle.pages.specs.Line.{column}
 use Rattle.output.proofs.Writing.{Copied, copied-none}
 use Rattle.pages.proofs.Columns.{column-end, column-turn, column-done}
-use borrow.Author.Needs.{needs}
 use Rattle.pages.proofs.line.write_text.Statement.{statement}
 use Rattle.pages.proofs.line.write_text.Tie as tie
 

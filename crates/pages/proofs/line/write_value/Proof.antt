@@ -1,14 +1,10 @@
 -- One of six values.
-use Prim.Native.Nat.{ℕ}
-use mathlib.Core.Path.{_≡_, refl, ap, _∙_}
-use mathlib.Core.List.{[]}
-use lib.ListN.{getD}
+use Rattle.laws.proofs.Prelude.{ℕ, _≡_, refl, ap, _∙_, [], getD, needs}
 use Rattle.pages.specs.Line.{digits, column, widths}
 use Rattle.pages.specs.Page.{texts}
 use Rattle.pages.specs.Forms.Cell.{values}
 use Rattle.pages.proofs.Columns.{same-column, room-as, written-as}
 use Rattle.pages.proofs.Names.{is-value, last}
-use borrow.Author.Needs.{needs}
 use Rattle.pages.proofs.line.write_value.Statement.{statement}
 use Rattle.pages.proofs.line.write_value.Tie as tie
 

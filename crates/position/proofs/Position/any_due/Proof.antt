@@ -5,10 +5,7 @@ use Rattle.position.specs.Forms.View.{sinceIn}
 use Rattle.position.specs.Position.{slot}
 use Rattle.laws.specs.Below.{anyBelow, any-done}
 use Rattle.laws.specs.Mask.{bit}
-use mathlib.Core.Path.{_≡_}
-use mathlib.Core.Bool.{true, false}
-use Prim.Native.Nat.{_≤_, _<_, _-_}
-use borrow.Author.Needs.{needs}
+use Rattle.laws.proofs.Prelude.{_-_, _≤_, _<_, _≡_, true, false, needs}
 use Rattle.position.proofs.Position.any_due.Statement.{statement}
 use Rattle.position.proofs.Position.any_due.Tie as tie
 

@@ -2,11 +2,9 @@
 use Rattle.position.specs.Position.{slot, blockOf}
 use Rattle.slots.specs.Slot.{emptySlot}
 use Rattle.slots.specs.declared.Slot.{Slot}
-use lib.ListN.{length, List·getD-eq-default}
+use Rattle.laws.proofs.Prelude.{_≡_, refl, sym, ap, length, needs, arith}
+use lib.ListN.{List·getD-eq-default}
 use Rattle.laws.specs.Each.{length-of-map}
-use mathlib.Core.Path.{_≡_, refl, sym, ap}
-use native.Mathlib.Omega.{arith}
-use borrow.Author.Needs.{needs}
 use Rattle.position.proofs.Position.block_of.Statement.{statement}
 use Rattle.position.proofs.Position.block_of.Tie as tie
 

@@ -3,11 +3,7 @@ use Rattle.position.specs.Position.{slot}
 use Rattle.position.proofs.Outlooks.{paysAt, pays-turn, pays-found, pays-none}
 use Rattle.laws.specs.Below.{anyBelow, any-start, any-more}
 use Rattle.laws.specs.Each.{length-of-map}
-use lib.ListN.{length}
-use mathlib.Core.Bool.{false}
-use mathlib.Core.Path.{_≡_, sym, _∙_}
-use Prim.Native.Nat.{_≤_, _-_}
-use borrow.Author.Needs.{needs}
+use Rattle.laws.proofs.Prelude.{_-_, _≤_, _≡_, sym, _∙_, false, length, needs}
 use Rattle.position.proofs.Position.can_pay.Statement.{statement}
 use Rattle.position.proofs.Position.can_pay.Tie as tie
 

@@ -1,9 +1,8 @@
 -- Over the parent's block alone.
 use Rattle.position.specs.Position.{blockOf, deadlineIn}
 use Rattle.slots.proofs.Since.{deadline-since}
-use mathlib.Core.Path.{sym, ap, _∙_}
+use Rattle.laws.proofs.Prelude.{sym, ap, _∙_, needs}
 use denote.Ref.{now}
-use borrow.Author.Needs.{needs}
 use Rattle.position.proofs.Position.deadline_in.Statement.{statement}
 use Rattle.position.proofs.Position.deadline_in.Tie as tie
 

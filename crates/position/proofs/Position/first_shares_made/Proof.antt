@@ -3,11 +3,7 @@ use Rattle.position.proofs.FirstSets.{madeFrom, made-start, made-broken
 use Rattle.position.specs.FirstShares.{firstSharesMade}
 use Rattle.position.specs.Position.{slot, marked}
 use Rattle.laws.specs.Mask.{bit}
-use mathlib.Core.Path.{_≡_, sym, _∙_}
-use mathlib.Core.Bool.{true}
-use Prim.Native.Nat.{_≤_, _<_, _-_}
-use borrow.Author.Tests.{not-true, not-false}
-use borrow.Author.Needs.{needs}
+use Rattle.laws.proofs.Prelude.{_-_, _≤_, _<_, _≡_, sym, _∙_, true, not-true, not-false, needs}
 use Rattle.position.proofs.Position.first_shares_made.Statement.{statement}
 use Rattle.position.proofs.Position.first_shares_made.Tie as tie
 

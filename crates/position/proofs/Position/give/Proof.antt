@@ -2,9 +2,7 @@
 use Rattle.position.proofs.Outcomes.{keys-read, any-open, give-outcome}
 use Rattle.position.proofs.ShareTests.{give-answer}
 use Rattle.laws.specs.Booleans.{either}
-use mathlib.Core.Path.{refl, sym, _∙_}
-use borrow.Author.Tests.{eq-eqb}
-use borrow.Author.Needs.{needs}
+use Rattle.laws.proofs.Prelude.{refl, sym, _∙_, eq-eqb, needs}
 use Rattle.position.proofs.Position.give.Statement.{statement}
 use Rattle.position.proofs.Position.give.Tie as tie
 

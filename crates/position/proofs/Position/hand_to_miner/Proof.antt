@@ -5,13 +5,8 @@ use Rattle.position.proofs.SendTests.{miner-answer}
 use Rattle.position.specs.Position.{slot}
 use Rattle.position.specs.Effect.{withSlots}
 use Rattle.laws.specs.Booleans.{either}
-use mathlib.Core.Path.{_≡_, refl, sym, _∙_}
-use lib.ListN.{length}
+use Rattle.laws.proofs.Prelude.{_<_, _≡_, refl, sym, _∙_, length, eq-eqb, needs, arith}
 use Rattle.laws.specs.Each.{length-of-map}
-use native.Mathlib.Omega.{arith}
-use Prim.Native.Nat.{_<_}
-use borrow.Author.Tests.{eq-eqb}
-use borrow.Author.Needs.{needs}
 use Rattle.position.proofs.Position.hand_to_miner.Statement.{statement}
 use Rattle.position.proofs.Position.hand_to_miner.Tie as tie
 

@@ -3,9 +3,7 @@ use Rattle.position.proofs.Outcomes.{include-outcome}
 use Rattle.position.proofs.MineTests.{include-answer}
 use Rattle.position.specs.Position.{slot}
 use Rattle.position.specs.Effect.{withSlots}
-use native.Mathlib.Omega.{arith}
-use Prim.Native.Nat.{_<_}
-use borrow.Author.Needs.{needs}
+use Rattle.laws.proofs.Prelude.{_<_, needs, arith}
 use Rattle.position.proofs.Position.include.Statement.{statement}
 use Rattle.position.proofs.Position.include.Tie as tie
 

@@ -1,10 +1,8 @@
 -- A byte of the keys, 0 past them.
-use native.Mathlib.Omega.{arith}
-use mathlib.Core.Path.{_≡_, sym}
-use lib.ListN.{length, List·getD-eq-default}
+use Rattle.laws.proofs.Prelude.{_≡_, sym, length, needs, arith}
+use lib.ListN.{List·getD-eq-default}
 use Rattle.laws.specs.Each.{length-of-map}
 use Rattle.position.specs.Position.{keys}
-use borrow.Author.Needs.{needs}
 use Rattle.position.proofs.Position.keys.Statement.{statement}
 use Rattle.position.proofs.Position.keys.Tie as tie
 

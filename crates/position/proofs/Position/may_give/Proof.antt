@@ -1,7 +1,6 @@
 -- By the outlook.
 use Rattle.position.proofs.Outlooks.{give-outlook}
-use mathlib.Core.Path.{_∙_}
-use borrow.Author.Needs.{needs}
+use Rattle.laws.proofs.Prelude.{_∙_, needs}
 use Rattle.position.proofs.Position.may_give.Statement.{statement}
 use Rattle.position.proofs.Position.may_give.Tie as tie
 

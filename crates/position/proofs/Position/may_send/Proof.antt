@@ -1,7 +1,6 @@
 -- By what sends ask for.
 use Rattle.position.proofs.Outlooks.{send-outlook}
-use mathlib.Core.Path.{_∙_}
-use borrow.Author.Needs.{needs}
+use Rattle.laws.proofs.Prelude.{_∙_, needs}
 use Rattle.position.proofs.Position.may_send.Statement.{statement}
 use Rattle.position.proofs.Position.may_send.Tie as tie
 

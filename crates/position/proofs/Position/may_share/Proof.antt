@@ -1,7 +1,6 @@
 -- By the outlook.
 use Rattle.position.proofs.Outlooks.{share-outlook}
-use mathlib.Core.Path.{_∙_}
-use borrow.Author.Needs.{needs}
+use Rattle.laws.proofs.Prelude.{_∙_, needs}
 use Rattle.position.proofs.Position.may_share.Statement.{statement}
 use Rattle.position.proofs.Position.may_share.Tie as tie
 

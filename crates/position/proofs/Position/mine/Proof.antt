@@ -6,9 +6,7 @@ use Rattle.position.specs.Tests.{mineTests}
 use Rattle.position.specs.StepRefusal.{tests, stepRefusal}
 use Rattle.position.specs.Effect.{withMined, effect}
 use Rattle.laws.specs.Failing.{passed}
-use borrow.Author.Tests.{ltb-true}
-use mathlib.Core.Path.{refl, sym, _∙_}
-use borrow.Author.Needs.{needs}
+use Rattle.laws.proofs.Prelude.{refl, sym, _∙_, ltb-true, needs}
 use Rattle.position.proofs.Position.mine.Statement.{statement}
 use Rattle.position.proofs.Position.mine.Tie as tie
 

@@ -3,10 +3,8 @@ use Rattle.position.specs.Position.{slot}
 use Rattle.position.specs.Conduct.{isOpen}
 use Rattle.position.specs.Forms.Outlook.{openOutlook, outlook}
 use Rattle.position.proofs.Outlooks.{success-there, outlook-made}
-use mathlib.Core.Path.{sym, ap, _∙_}
+use Rattle.laws.proofs.Prelude.{sym, ap, _∙_, eq-eqb, needs}
 use Rattle.laws.specs.Mask.{bit}
-use borrow.Author.Tests.{eq-eqb}
-use borrow.Author.Needs.{needs}
 use Rattle.position.proofs.Position.outlook.Statement.{statement}
 use Rattle.position.proofs.Position.outlook.Tie as tie
 

@@ -1,8 +1,7 @@
 -- lock_B, lock_A, and the first shares.
 use Rattle.position.specs.Position.{isConfirmed}
 use Rattle.position.specs.Conduct.{phase}
-use borrow.Author.Tests.{lt-ltb, le-ltb, not-true, not-false}
-use borrow.Author.Needs.{needs}
+use Rattle.laws.proofs.Prelude.{lt-ltb, le-ltb, not-true, not-false, needs}
 use Rattle.position.proofs.Position.phase.Statement.{statement}
 use Rattle.position.proofs.Position.phase.Tie as tie
 

@@ -1,9 +1,8 @@
 -- Made of its parts.
 use Rattle.position.specs.Position.{slot}
 use Rattle.position.proofs.Outlooks.{send-outlook-made}
-use mathlib.Core.Path.{ap, _∙_}
+use Rattle.laws.proofs.Prelude.{ap, _∙_, needs}
 use Rattle.laws.specs.Mask.{bit}
-use borrow.Author.Needs.{needs}
 use Rattle.position.proofs.Position.send_outlook.Statement.{statement}
 use Rattle.position.proofs.Position.send_outlook.Tie as tie
 

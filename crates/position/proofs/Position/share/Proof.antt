@@ -5,11 +5,7 @@ use Rattle.position.proofs.Fields.{share-one-fits}
 use Rattle.position.specs.Position.{slot}
 use Rattle.position.specs.Effect.{withSlots}
 use Rattle.laws.specs.Booleans.{either}
-use mathlib.Core.Path.{refl, sym, _∙_}
-use native.Mathlib.Omega.{arith}
-use Prim.Native.Nat.{_<_}
-use borrow.Author.Tests.{eq-eqb}
-use borrow.Author.Needs.{needs}
+use Rattle.laws.proofs.Prelude.{_<_, refl, sym, _∙_, eq-eqb, needs, arith}
 use Rattle.position.proofs.Position.share.Statement.{statement}
 use Rattle.position.proofs.Position.share.Tie as tie
 

@@ -6,8 +6,7 @@ use Rattle.position.specs.Tests.{shareMet}
 use Rattle.position.specs.StepRefusal.{tests, stepRefusal}
 use Rattle.position.specs.Conduct.{conductAllows}
 use Rattle.position.specs.Effect.{effect, afterShare}
-use mathlib.Core.Path.{refl}
-use borrow.Author.Needs.{needs}
+use Rattle.laws.proofs.Prelude.{refl, needs}
 use Rattle.position.proofs.Position.share_all.Statement.{statement}
 use Rattle.position.proofs.Position.share_all.Tie as tie
 

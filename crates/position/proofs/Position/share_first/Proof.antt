@@ -4,10 +4,7 @@ use Rattle.position.specs.FirstShares.{firstShares}
 use Rattle.position.specs.Effect.{shareEach, withSlots}
 use Rattle.position.specs.Position.{slot, keys}
 use Rattle.laws.specs.Mask.{bit}
-use mathlib.Core.Path.{_≡_}
-use mathlib.Core.Bool.{true}
-use Prim.Native.Nat.{_≤_, _<_, _-_}
-use borrow.Author.Needs.{needs}
+use Rattle.laws.proofs.Prelude.{_-_, _≤_, _<_, _≡_, true, needs}
 use Rattle.position.proofs.Position.share_first.Statement.{statement}
 use Rattle.position.proofs.Position.share_first.Tie as tie
 

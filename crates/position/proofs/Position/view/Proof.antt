@@ -2,9 +2,7 @@
 use Rattle.position.proofs.Views.{view-start, view-more, view-done}
 use Rattle.position.specs.Forms.View.{viewBelow}
 use Rattle.position.specs.Position.{slot}
-use mathlib.Core.Path.{_≡_, refl}
-use Prim.Native.Nat.{_≤_, _-_}
-use borrow.Author.Needs.{needs}
+use Rattle.laws.proofs.Prelude.{_-_, _≤_, _≡_, refl, needs}
 use Rattle.position.proofs.Position.view.Statement.{statement}
 use Rattle.position.proofs.Position.view.Tie as tie
 

@@ -3,10 +3,7 @@ use Rattle.position.proofs.Renewed.{joined-start, joined-more, joined-d
 use Rattle.position.specs.Forms.Seen.{viewKept, viewJoined}
 use Rattle.position.specs.Position.{slot}
 use Rattle.laws.specs.Mask.{bit}
-use mathlib.Core.Bool.{true}
-use mathlib.Core.Path.{_≡_, refl}
-use Prim.Native.Nat.{_≤_, _<_, _-_}
-use borrow.Author.Needs.{needs}
+use Rattle.laws.proofs.Prelude.{_-_, _≤_, _<_, _≡_, refl, true, needs}
 use Rattle.position.proofs.Position.view_over.Statement.{statement}
 use Rattle.position.proofs.Position.view_over.Tie as tie
 

@@ -1,8 +1,6 @@
 -- Careful, and of a contract transaction.
 use Rattle.position.specs.Conduct.{isCareful}
-use mathlib.Core.Path.{sym, _∙_}
-use borrow.Author.Tests.{eq-eqb, ne-eqb}
-use borrow.Author.Needs.{needs}
+use Rattle.laws.proofs.Prelude.{sym, _∙_, eq-eqb, ne-eqb, needs}
 use Rattle.position.proofs.conduct.pays_first.Statement.{statement}
 use Rattle.position.proofs.conduct.pays_first.Tie as tie
 

@@ -1,8 +1,7 @@
 -- Nothing stands, is confirmed or shared.
 use Rattle.position.proofs.Starts.{start-seen}
-use mathlib.Core.Path.{ap}
+use Rattle.laws.proofs.Prelude.{ap, needs}
 use Rattle.position.specs.declared.Position.{Position}
-use borrow.Author.Needs.{needs}
 use Rattle.position.proofs.journal.start_view.Statement.{statement}
 use Rattle.position.proofs.journal.start_view.Tie as tie
 

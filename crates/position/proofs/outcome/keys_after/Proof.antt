@@ -1,10 +1,8 @@
 -- One more key, or the same.
 use native.Mathlib.Nat.{one-mul}
-use native.Mathlib.Omega.{arith}
+use Rattle.laws.proofs.Prelude.{eq-eqb, needs, arith}
 use lib.Pow.{shl-exact}
-use borrow.Author.Tests.{eq-eqb}
 use Rattle.laws.specs.Booleans.{tests}
-use borrow.Author.Needs.{needs}
 use Rattle.position.proofs.outcome.keys_after.Statement.{statement}
 use Rattle.position.proofs.outcome.keys_after.Tie as tie
 

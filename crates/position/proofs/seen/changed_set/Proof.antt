@@ -1,12 +1,9 @@
 -- By the kind, and by the transaction byte.
 use Rattle.laws.specs.Booleans.{tests}
 use Rattle.position.specs.Forms.Seen.{changedSet}
-use mathlib.Core.Path.{_∙_}
+use Rattle.laws.proofs.Prelude.{_∙_, eq-eqb, ne-eqb, lt-ltb, le-ltb, needs, arith}
 use lib.Pow.{shl-exact}
-use native.Mathlib.Omega.{arith}
 use native.Mathlib.Nat.{one-mul}
-use borrow.Author.Tests.{lt-ltb, le-ltb, eq-eqb, ne-eqb}
-use borrow.Author.Needs.{needs}
 use Rattle.position.proofs.seen.changed_set.Statement.{statement}
 use Rattle.position.proofs.seen.changed_set.Tie as tie
 

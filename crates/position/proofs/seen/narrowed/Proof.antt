@@ -1,7 +1,6 @@
 -- By the kind.
 use Rattle.position.specs.Forms.Seen.{narrowedSet}
-use borrow.Author.Tests.{eq-eqb, ne-eqb}
-use borrow.Author.Needs.{needs}
+use Rattle.laws.proofs.Prelude.{eq-eqb, ne-eqb, needs}
 use Rattle.position.proofs.seen.narrowed.Statement.{statement}
 use Rattle.position.proofs.seen.narrowed.Tie as tie
 

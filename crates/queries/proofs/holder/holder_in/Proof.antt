@@ -6,9 +6,8 @@ use Rattle.position.specs.Position.{slot, isConfirmed}
 use Rattle.position.specs.Forms.View.{viewBelow}
 use Rattle.position.specs.Report.{payee}
 use Rattle.position.specs.Holder.{holderIn}
-use mathlib.Core.Path.{ap, _∙_}
+use Rattle.laws.proofs.Prelude.{ap, _∙_, needs}
 use denote.Ref.{now}
-use borrow.Author.Needs.{needs}
 use Rattle.queries.proofs.holder.holder_in.Statement.{statement}
 use Rattle.queries.proofs.holder.holder_in.Tie as tie
 

@@ -1,10 +1,7 @@
 -- The sets at the places below i.
 use Rattle.queries.specs.Forms.OpenSets.{openSet, belowSets}
 use Rattle.laws.specs.Each.{rewriteFirst, rewrite-start, rewrite-again, rewrite-done}
-use lib.ListN.{length, replicate}
-use mathlib.Core.Path.{_≡_}
-use Prim.Native.Nat.{_+_, _/_, _%_, _≤_, _-_}
-use borrow.Author.Needs.{needs}
+use Rattle.laws.proofs.Prelude.{_+_, _-_, _/_, _%_, _≤_, _≡_, length, replicate, needs}
 use Rattle.queries.proofs.open.below_sets.Statement.{statement}
 use Rattle.queries.proofs.open.below_sets.Tie as tie
 

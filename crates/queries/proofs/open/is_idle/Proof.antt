@@ -1,8 +1,6 @@
 -- Not a party, open conduct, or the phase.
 use Rattle.queries.specs.Forms.OpenSets.{isIdle}
-use borrow.Author.Tests.{not-true, not-false}
-use mathlib.Core.Path.{sym, _∙_}
-use borrow.Author.Needs.{needs}
+use Rattle.laws.proofs.Prelude.{sym, _∙_, not-true, not-false, needs}
 use Rattle.queries.proofs.open.is_idle.Statement.{statement}
 use Rattle.queries.proofs.open.is_idle.Tie as tie
 

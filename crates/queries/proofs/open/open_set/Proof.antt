@@ -1,9 +1,7 @@
 -- None can stand, or the signatures, or none is tested, or the transactions of the sheet.
 use Rattle.queries.proofs.OpenReach.{set-none, set-sheet, set-given}
 use Rattle.queries.proofs.OpenTurns.{first-turn, none-next}
-use mathlib.Core.Path.{refl, sym, _∙_}
-use borrow.Author.Tests.{not-false}
-use borrow.Author.Needs.{needs}
+use Rattle.laws.proofs.Prelude.{refl, sym, _∙_, not-false, needs}
 use Rattle.queries.proofs.open.open_set.Statement.{statement}
 use Rattle.queries.proofs.open.open_set.Tie as tie
 

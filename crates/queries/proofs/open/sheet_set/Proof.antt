@@ -5,12 +5,7 @@ use Rattle.queries.proofs.OpenTurns.{turn-open, first-turn, next-turn}
 use Rattle.laws.specs.Mask.{bit}
 use Rattle.laws.specs.Sets.{setBelow, set-done}
 use Rattle.laws.specs.Each.{length-of-map}
-use lib.ListN.{length}
-use mathlib.Core.Path.{_≡_}
-use mathlib.Core.Bool.{true}
-use native.Mathlib.Omega.{arith}
-use Prim.Native.Nat.{_≤_, _<_, _-_}
-use borrow.Author.Needs.{needs}
+use Rattle.laws.proofs.Prelude.{_-_, _≤_, _<_, _≡_, true, length, needs, arith}
 use Rattle.queries.proofs.open.sheet_set.Statement.{statement}
 use Rattle.queries.proofs.open.sheet_set.Tie as tie
 

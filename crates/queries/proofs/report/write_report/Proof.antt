@@ -9,11 +9,7 @@ use Rattle.output.specs.Forms.Row.{rowBytes}
 use Rattle.laws.specs.Little.{bytesOf}
 use Rattle.laws.specs.Each.{length-of-map}
 use Rattle.laws.specs.Wrote.{Turns, turns-start, turn-room, turn-end, turn-more, turns-done}
-use mathlib.Core.Path.{_≡_, refl, sym}
-use lib.ListN.{length, getD}
-use Prim.Native.Nat.{_-_}
-use native.Mathlib.Omega.{arith}
-use borrow.Author.Needs.{needs}
+use Rattle.laws.proofs.Prelude.{_-_, _≡_, refl, sym, length, getD, needs, arith}
 use Rattle.queries.proofs.report.write_report.Statement.{statement}
 use Rattle.queries.proofs.report.write_report.Tie as tie
 

@@ -3,11 +3,7 @@ use Rattle.readings.specs.Holder.{confirmedChild}
 use Rattle.laws.specs.Below.{anyBelow, any-start, any-more, any-found, any-done}
 use Rattle.laws.specs.Mask.{bit}
 use Rattle.sheet.specs.Field.{parent}
-use lib.Dec.{eqb}
-use mathlib.Core.Bool.{false, _&&_}
-use mathlib.Core.Path.{_≡_, sym, _∙_}
-use Prim.Native.Nat.{_≤_, _-_}
-use borrow.Author.Needs.{needs}
+use Rattle.laws.proofs.Prelude.{_-_, _≤_, _≡_, sym, _∙_, false, _&&_, eqb, needs}
 use Rattle.readings.proofs.holder.confirmed_child.Statement.{statement}
 use Rattle.readings.proofs.holder.confirmed_child.Tie as tie
 

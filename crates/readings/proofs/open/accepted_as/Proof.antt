@@ -1,7 +1,6 @@
 -- By the kind.
 use Rattle.readings.specs.Forms.Sight.{refusalAs}
-use borrow.Author.Tests.{ne-eqb}
-use borrow.Author.Needs.{needs}
+use Rattle.laws.proofs.Prelude.{ne-eqb, needs}
 use Rattle.readings.proofs.open.accepted_as.Statement.{statement}
 use Rattle.readings.proofs.open.accepted_as.Tie as tie
 

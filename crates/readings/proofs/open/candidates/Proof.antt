@@ -1,7 +1,6 @@
 -- By the kind.
 use Rattle.readings.specs.Forms.Sight.{candidatesIn}
-use borrow.Author.Tests.{le-leb, lt-leb}
-use borrow.Author.Needs.{needs}
+use Rattle.laws.proofs.Prelude.{le-leb, lt-leb, needs}
 use Rattle.readings.proofs.open.candidates.Statement.{statement}
 use Rattle.readings.proofs.open.candidates.Tie as tie
 

@@ -1,9 +1,7 @@
 -- The set of those below i.
 use Rattle.laws.specs.Sets.{setBelow, set-start, set-more, set-done}
 use Rattle.readings.specs.Forms.Sight.{givesIn}
-use mathlib.Core.Path.{_≡_}
-use Prim.Native.Nat.{_≤_, _-_}
-use borrow.Author.Needs.{needs}
+use Rattle.laws.proofs.Prelude.{_-_, _≤_, _≡_, needs}
 use Rattle.readings.proofs.open.give_set.Statement.{statement}
 use Rattle.readings.proofs.open.give_set.Tie as tie
 

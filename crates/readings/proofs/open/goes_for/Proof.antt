@@ -1,7 +1,6 @@
 -- Of a party, by destination.
-use borrow.Author.Tests.{not-true, not-false}
+use Rattle.laws.proofs.Prelude.{not-true, not-false, needs}
 use Rattle.readings.specs.Forms.Sight.{goesFor}
-use borrow.Author.Needs.{needs}
 use Rattle.readings.proofs.open.goes_for.Statement.{statement}
 use Rattle.readings.proofs.open.goes_for.Tie as tie
 

@@ -1,7 +1,6 @@
 -- By the destination.
 use Rattle.readings.specs.Forms.Sight.{goesTo}
-use borrow.Author.Tests.{ne-eqb}
-use borrow.Author.Needs.{needs}
+use Rattle.laws.proofs.Prelude.{ne-eqb, needs}
 use Rattle.readings.proofs.open.goes_to.Statement.{statement}
 use Rattle.readings.proofs.open.goes_to.Tie as tie
 

@@ -1,6 +1,5 @@
 -- With stealth.
-use borrow.Author.Tests.{ne-eqb, eq-eqb}
-use borrow.Author.Needs.{needs}
+use Rattle.laws.proofs.Prelude.{eq-eqb, ne-eqb, needs}
 use Rattle.readings.proofs.open.handers.Statement.{statement}
 use Rattle.readings.proofs.open.handers.Tie as tie
 

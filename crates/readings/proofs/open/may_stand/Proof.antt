@@ -1,7 +1,6 @@
 -- By the actor, then the kind.
-use borrow.Author.Tests.{ne-eqb}
+use Rattle.laws.proofs.Prelude.{ne-eqb, needs}
 use Rattle.readings.specs.Forms.Sight.{mayStand}
-use borrow.Author.Needs.{needs}
 use Rattle.readings.proofs.open.may_stand.Statement.{statement}
 use Rattle.readings.proofs.open.may_stand.Tie as tie
 

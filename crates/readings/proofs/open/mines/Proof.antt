@@ -1,7 +1,6 @@
 -- The miner, and no test fails.
 use Rattle.readings.specs.Forms.Sight.{minesIn}
-use borrow.Author.Tests.{ne-eqb}
-use borrow.Author.Needs.{needs}
+use Rattle.laws.proofs.Prelude.{ne-eqb, needs}
 use Rattle.readings.proofs.open.mines.Statement.{statement}
 use Rattle.readings.proofs.open.mines.Tie as tie
 

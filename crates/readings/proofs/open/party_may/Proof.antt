@@ -1,7 +1,6 @@
 -- By the kind.
-use borrow.Author.Tests.{ne-eqb}
+use Rattle.laws.proofs.Prelude.{ne-eqb, needs}
 use Rattle.readings.specs.Forms.Sight.{partyMay}
-use borrow.Author.Needs.{needs}
 use Rattle.readings.proofs.open.party_may.Statement.{statement}
 use Rattle.readings.proofs.open.party_may.Tie as tie
 

@@ -1,8 +1,6 @@
 -- The parent first, then all tests of the kind.
 use Rattle.steps.proofs.NoParent.{pool-orphan}
-use mathlib.Core.Path.{sym, _∙_}
-use borrow.Author.Tests.{not-true}
-use borrow.Author.Needs.{needs}
+use Rattle.laws.proofs.Prelude.{sym, _∙_, not-true, needs}
 use Rattle.readings.proofs.open.pool_accepted.Statement.{statement}
 use Rattle.readings.proofs.open.pool_accepted.Tie as tie
 

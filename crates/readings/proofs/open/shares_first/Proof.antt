@@ -1,7 +1,6 @@
 -- Not under open conduct; else allowed and new.
 use Rattle.readings.specs.Forms.Sight.{sharesFirst}
-use borrow.Author.Tests.{ne-eqb}
-use borrow.Author.Needs.{needs}
+use Rattle.laws.proofs.Prelude.{ne-eqb, needs}
 use Rattle.readings.proofs.open.shares_first.Statement.{statement}
 use Rattle.readings.proofs.open.shares_first.Tie as tie
 

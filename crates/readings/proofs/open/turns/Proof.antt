@@ -1,7 +1,6 @@
 -- By the kind.
 use Rattle.readings.specs.Forms.Sight.{turnsIn}
-use borrow.Author.Tests.{ne-eqb}
-use borrow.Author.Needs.{needs}
+use Rattle.laws.proofs.Prelude.{ne-eqb, needs}
 use Rattle.readings.proofs.open.turns.Statement.{statement}
 use Rattle.readings.proofs.open.turns.Tie as tie
 

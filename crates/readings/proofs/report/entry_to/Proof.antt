@@ -1,7 +1,6 @@
 -- One less; 0 stays 0.
 use Rattle.slots.specs.Slot.{entryTo}
-use mathlib.Core.Path.{refl}
-use borrow.Author.Needs.{needs}
+use Rattle.laws.proofs.Prelude.{refl, needs}
 use Rattle.readings.proofs.report.entry_to.Statement.{statement}
 use Rattle.readings.proofs.report.entry_to.Tie as tie
 

@@ -1,8 +1,7 @@
 -- Refused with the sheet, or run.
-use mathlib.Core.Path.{sym, _∙_}
+use Rattle.laws.proofs.Prelude.{sym, _∙_, needs}
 use Rattle.runs.proofs.Calls.{by-sheet}
 use Rattle.runs.proofs.Runs.{ran-refused}
-use borrow.Author.Needs.{needs}
 use Rattle.runs.proofs.journal.ran.Statement.{statement}
 use Rattle.runs.proofs.journal.ran.Tie as tie
 

@@ -1,8 +1,7 @@
 -- Refused before any step, or run.
-use mathlib.Core.Path.{sym, _∙_}
+use Rattle.laws.proofs.Prelude.{sym, _∙_, needs}
 use Rattle.runs.proofs.Calls.{call-fit, journal-whole}
 use Rattle.runs.proofs.Runs.{run-none, ran-refused, ran-allowed}
-use borrow.Author.Needs.{needs}
 use Rattle.runs.proofs.journal.ran_checked.Statement.{statement}
 use Rattle.runs.proofs.journal.ran_checked.Tie as tie
 

@@ -1,7 +1,6 @@
 -- The row without counts and view.
-use mathlib.Core.Path.{ap, _∙_}
+use Rattle.laws.proofs.Prelude.{ap, _∙_, needs}
 use Rattle.runs.proofs.Rows.{ranOf, row-ran}
-use borrow.Author.Needs.{needs}
 use Rattle.runs.proofs.journal.run_seen.Statement.{statement}
 use Rattle.runs.proofs.journal.run_seen.Tie as tie
 

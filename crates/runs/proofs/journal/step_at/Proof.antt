@@ -1,7 +1,6 @@
 -- The part of one step, run.
-use mathlib.Core.Path.{refl}
+use Rattle.laws.proofs.Prelude.{refl, needs}
 use Rattle.runs.proofs.Runs.{ran-step}
-use borrow.Author.Needs.{needs}
 use Rattle.runs.proofs.journal.step_at.Statement.{statement}
 use Rattle.runs.proofs.journal.step_at.Tie as tie
 

@@ -1,7 +1,5 @@
 -- What is left to do from each step on is the whole, and the view is the position's.
-use Prim.Native.Nat.{_*_, _≤_, _-_}
-use native.Mathlib.Omega.{arith}
-use mathlib.Core.Path.{_≡_, refl, sym, _∙_}
+use Rattle.laws.proofs.Prelude.{_-_, _*_, _≤_, _≡_, refl, sym, _∙_, needs, arith}
 use denote.Ref.{now}
 use Rattle.laws.specs.Booleans.{either}
 use Rattle.sheet.specs.Field.{count}
@@ -16,7 +14,6 @@ use Rattle.position.proofs.Fields.{share-fields}
 use Rattle.position.proofs.SeenAfter.{seen-many}
 use Rattle.runs.specs.Forms.Row.{notedIf, runRow}
 use Rattle.runs.proofs.Rows.{leftFrom, left-all, left-on, left-stopped, left-ended, matched, unread, seen-few}
-use borrow.Author.Needs.{needs}
 use Rattle.runs.proofs.row.run_row.Statement.{statement}
 use Rattle.runs.proofs.row.run_row.Tie as tie
 

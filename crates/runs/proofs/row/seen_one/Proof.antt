@@ -1,6 +1,5 @@
 -- None, or one.
-use borrow.Author.Tests.{eq-eqb, ne-eqb}
-use borrow.Author.Needs.{needs}
+use Rattle.laws.proofs.Prelude.{eq-eqb, ne-eqb, needs}
 use Rattle.runs.proofs.row.seen_one.Statement.{statement}
 use Rattle.runs.proofs.row.seen_one.Tie as tie
 

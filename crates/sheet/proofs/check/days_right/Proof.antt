@@ -1,9 +1,8 @@
 -- The days of a lock; a byte is at most 255.
-use borrow.Author.Tests.{le-leb}
+use Rattle.laws.proofs.Prelude.{le-leb, needs}
 use mathlib.Core.Bool.{and-true}
 use Rattle.sheet.specs.Check.{daysRight}
 use Rattle.laws.specs.Booleans.{tests}
-use borrow.Author.Needs.{needs}
 use Rattle.sheet.proofs.check.days_right.Statement.{statement}
 use Rattle.sheet.proofs.check.days_right.Tie as tie
 

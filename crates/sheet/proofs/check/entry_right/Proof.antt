@@ -1,8 +1,7 @@
 -- Payees, required signatures and veil are in range: check 6.
 use Rattle.laws.specs.Booleans.{tests}
 use Rattle.sheet.specs.Check.{entryRight}
-use borrow.Author.Tests.{not-true, not-false}
-use borrow.Author.Needs.{needs}
+use Rattle.laws.proofs.Prelude.{not-true, not-false, needs}
 use Rattle.sheet.proofs.check.entry_right.Statement.{statement}
 use Rattle.sheet.proofs.check.entry_right.Tie as tie
 

@@ -1,8 +1,7 @@
 -- The head is there: check 1.
 use Rattle.sheet.proofs.Passed.{headless}
-use mathlib.Core.Path.{sym}
+use Rattle.laws.proofs.Prelude.{sym, needs}
 use Rattle.sheet.specs.Check.{headRight}
-use borrow.Author.Needs.{needs}
 use Rattle.sheet.proofs.check.head_right.Statement.{statement}
 use Rattle.sheet.proofs.check.head_right.Tie as tie
 

@@ -1,9 +1,7 @@
 -- A shift of 1 is a power of two.
-use mathlib.Core.Path.{_∙_}
-use native.Mathlib.Omega.{arith}
+use Rattle.laws.proofs.Prelude.{_∙_, needs, arith}
 use native.Mathlib.Nat.{one-mul}
 use lib.Pow.{shl-exact}
-use borrow.Author.Needs.{needs}
 use Rattle.sheet.proofs.check.limit.Statement.{statement}
 use Rattle.sheet.proofs.check.limit.Tie as tie
 

@@ -1,7 +1,6 @@
 -- The secrets, then the start masks.
-use borrow.Author.Tests.{not-true, not-false}
+use Rattle.laws.proofs.Prelude.{not-true, not-false, needs}
 use Rattle.sheet.specs.Check.{masksRight}
-use borrow.Author.Needs.{needs}
 use Rattle.sheet.proofs.check.masks_right.Statement.{statement}
 use Rattle.sheet.proofs.check.masks_right.Tie as tie
 

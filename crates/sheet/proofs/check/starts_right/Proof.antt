@@ -1,12 +1,8 @@
 -- Each start mask below k is right.
-use Prim.Native.Nat.{_≤_, _-_}
-use mathlib.Core.Path.{_≡_, sym}
-use mathlib.Core.Bool.{true}
-use borrow.Author.Tests.{not-true, not-false}
+use Rattle.laws.proofs.Prelude.{_-_, _≤_, _≡_, sym, true, not-true, not-false, needs}
 use Rattle.sheet.specs.Field.{parties, startMask}
 use Rattle.sheet.specs.Check.{within}
 use Rattle.laws.specs.Below.{allBelow, all-start, all-more, all-broken, all-done}
-use borrow.Author.Needs.{needs}
 use Rattle.sheet.proofs.check.starts_right.Statement.{statement}
 use Rattle.sheet.proofs.check.starts_right.Tie as tie
 

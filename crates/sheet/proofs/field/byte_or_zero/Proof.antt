@@ -1,8 +1,7 @@
 -- Past the end the byte is 0.
 use denote.Ref.{now}
-use mathlib.Core.Path.{sym}
+use Rattle.laws.proofs.Prelude.{sym, needs}
 use lib.ListN.{List·getD-eq-default}
-use borrow.Author.Needs.{needs}
 use Rattle.sheet.proofs.field.byte_or_zero.Statement.{statement}
 use Rattle.sheet.proofs.field.byte_or_zero.Tie as tie
 

@@ -1,8 +1,7 @@
 -- A party has the mask of its place.
-use mathlib.Core.Path.{sym}
+use Rattle.laws.proofs.Prelude.{sym, needs}
 use Rattle.sheet.proofs.Parties.{start-empty}
 use Rattle.sheet.specs.Field.{startKeys}
-use borrow.Author.Needs.{needs}
 use Rattle.sheet.proofs.field.start_keys.Statement.{statement}
 use Rattle.sheet.proofs.field.start_keys.Tie as tie
 

@@ -1,7 +1,6 @@
 -- Two halves of two bytes, the lower first.
-use mathlib.Core.Path.{sym}
+use Rattle.laws.proofs.Prelude.{sym, needs}
 use Rattle.laws.specs.Little.{number-halves}
-use borrow.Author.Needs.{needs}
 use Rattle.sheet.proofs.little.u32_at.Statement.{statement}
 use Rattle.sheet.proofs.little.u32_at.Tie as tie
 

@@ -2,8 +2,7 @@
 use Rattle.sheet.proofs.ParentSets.{parents-start, parents-more, parents-done}
 use Rattle.sheet.specs.Forms.Parents.{Parents}
 use Rattle.laws.specs.Mask.{bit}
-use Prim.Native.Nat.{_≤_, _-_}
-use borrow.Author.Needs.{needs}
+use Rattle.laws.proofs.Prelude.{_-_, _≤_, needs}
 use Rattle.sheet.proofs.parents.parents_of.Statement.{statement}
 use Rattle.sheet.proofs.parents.parents_of.Tie as tie
 

@@ -1,11 +1,7 @@
 -- A member's parent, where a set can have it.
 use Rattle.sheet.proofs.ParentSets.{added-none, added-far, added-one}
 use Rattle.laws.specs.Sets.{joined}
-use native.Mathlib.Omega.{arith}
-use mathlib.Core.Bool.{true}
-use mathlib.Core.Path.{sym, ap, _∙_}
-use borrow.Author.Tests.{not-true, not-false}
-use borrow.Author.Needs.{needs}
+use Rattle.laws.proofs.Prelude.{sym, ap, _∙_, true, not-true, not-false, needs, arith}
 use Rattle.sheet.proofs.parents.with_parent.Statement.{statement}
 use Rattle.sheet.proofs.parents.with_parent.Tie as tie
 

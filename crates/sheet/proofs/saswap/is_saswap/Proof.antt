@@ -4,12 +4,7 @@ use Rattle.sheet.specs.Setup.{isSaswap}
 use Rattle.sheet.specs.Field.{byte}
 use Rattle.laws.specs.Same.{same}
 use Rattle.laws.specs.Below.{allBelow, all-start, all-more, all-broken, all-done}
-use borrow.Author.Tests.{eq-eqb, ne-eqb}
-use lib.Dec.{eqb}
-use mathlib.Core.Bool.{true}
-use mathlib.Core.Path.{_≡_, sym}
-use Prim.Native.Nat.{_≤_, _-_}
-use borrow.Author.Needs.{needs}
+use Rattle.laws.proofs.Prelude.{_-_, _≤_, _≡_, sym, true, eqb, eq-eqb, ne-eqb, needs}
 use Rattle.sheet.proofs.saswap.is_saswap.Statement.{statement}
 use Rattle.sheet.proofs.saswap.is_saswap.Tie as tie
 

@@ -1,7 +1,6 @@
 -- The table at offset 0, with the two bytes that go by the offset.
 use Rattle.sheet.specs.Saswap.{offset, saswapAt, saswap}
-use native.Mathlib.Omega.{arith}
-use borrow.Author.Needs.{needs}
+use Rattle.laws.proofs.Prelude.{needs, arith}
 use Rattle.sheet.proofs.Offset.{offset-bound}
 use Rattle.sheet.proofs.saswap.saswap_sheet.Statement.{statement}
 use Rattle.sheet.proofs.saswap.saswap_sheet.Tie as tie

@@ -1,11 +1,9 @@
 -- With the bit at t, or as it was.
 use Rattle.laws.specs.Sets.{joined}
-use mathlib.Core.Path.{_∙_, ap}
+use Rattle.laws.proofs.Prelude.{ap, _∙_, needs, arith}
 use lib.Pow.{shl-exact}
 use lib.Bits.{bitOr}
-use native.Mathlib.Omega.{arith}
 use native.Mathlib.Nat.{one-mul}
-use borrow.Author.Needs.{needs}
 use Rattle.sheet.proofs.set.join.Statement.{statement}
 use Rattle.sheet.proofs.set.join.Tie as tie
 

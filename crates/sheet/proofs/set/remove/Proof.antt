@@ -1,12 +1,9 @@
 -- Without the bit at t.
 use Rattle.laws.specs.Sets.{removed}
-use mathlib.Core.Path.{_∙_, ap}
+use Rattle.laws.proofs.Prelude.{_-_, ap, _∙_, needs, arith}
 use lib.Pow.{shl-exact}
 use lib.Bits.{bitAnd}
-use native.Mathlib.Omega.{arith}
 use native.Mathlib.Nat.{one-mul}
-use Prim.Native.Nat.{_-_}
-use borrow.Author.Needs.{needs}
 use Rattle.sheet.proofs.set.remove.Statement.{statement}
 use Rattle.sheet.proofs.set.remove.Tie as tie
 

@@ -1,8 +1,7 @@
 -- A sheet of two has any conduct; one of three neither 1 nor 2: check 32.
-use borrow.Author.Tests.{not-true, not-false}
+use Rattle.laws.proofs.Prelude.{not-true, not-false, needs}
 use Rattle.laws.specs.Booleans.{tests}
 use Rattle.sheet.specs.Setup.{partiesRight}
-use borrow.Author.Needs.{needs}
 use Rattle.sheet.proofs.setup.parties_right.Statement.{statement}
 use Rattle.sheet.proofs.setup.parties_right.Tie as tie
 

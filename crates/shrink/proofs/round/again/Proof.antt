@@ -1,8 +1,7 @@
 -- The bytes one by one.
-use borrow.Author.Tests.{eq-eqb, ne-eqb}
+use Rattle.laws.proofs.Prelude.{eq-eqb, ne-eqb, needs}
 use Rattle.position.specs.Forms.Journal.{stepAt}
 use Rattle.shrink.specs.Forms.Round.{sameStep}
-use borrow.Author.Needs.{needs}
 use Rattle.shrink.proofs.round.again.Statement.{statement}
 use Rattle.shrink.proofs.round.again.Tie as tie
 

@@ -1,10 +1,8 @@
 -- What is written and what is left to write come to the whole.
-use Prim.Native.Nat.{_-_}
-use native.Mathlib.Omega.{arith}
+use Rattle.laws.proofs.Prelude.{_-_, needs, arith}
 use Rattle.output.proofs.Writing.{Writing, writing-start, writing-more, writing-done}
 use Rattle.shrink.proofs.Writing.{bytesFrom, bytesAll, bytes-start, bytes-turn, bytes-none, all-room, turn-room, turn-end, round-written}
 use Rattle.shrink.proofs.Twins.{Twins, twins-start, tried, twins-more}
-use borrow.Author.Needs.{needs}
 use Rattle.shrink.proofs.round.write_round.Statement.{statement}
 use Rattle.shrink.proofs.round.write_round.Tie as tie
 

@@ -1,8 +1,6 @@
 -- The first i bytes are over the front.
-use Prim.Native.Nat.{_-_}
-use mathlib.Core.Path.{refl}
+use Rattle.laws.proofs.Prelude.{_-_, refl, needs}
 use Rattle.output.proofs.Writing.{Copied, copied-none, copied-more, copied-all}
-use borrow.Author.Needs.{needs}
 use Rattle.shrink.proofs.rounds.copy.Statement.{statement}
 use Rattle.shrink.proofs.rounds.copy.Tie as tie
 

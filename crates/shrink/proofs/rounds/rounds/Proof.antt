@@ -1,12 +1,8 @@
 -- What the steps that are left shrink to is the whole.
-use Prim.Native.Nat.{_*_}
-use native.Mathlib.Omega.{arith}
-use mathlib.Core.Path.{sym}
-use lib.ListN.{take}
+use Rattle.laws.proofs.Prelude.{_*_, sym, take, needs, arith}
 use Rattle.position.specs.Play.{journalSteps}
 use Rattle.shrink.specs.Shrink.{shrunk}
 use Rattle.shrink.proofs.Repeating.{Going, front-length, going-done, going-less, kept-fits, kept-length, going-on}
-use borrow.Author.Needs.{needs}
 use Rattle.shrink.proofs.rounds.rounds.Statement.{statement}
 use Rattle.shrink.proofs.rounds.rounds.Tie as tie
 

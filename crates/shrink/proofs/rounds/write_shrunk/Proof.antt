@@ -1,8 +1,6 @@
 -- The row copied, shrunk, and written where it fits.
-use native.Mathlib.Omega.{arith}
-use mathlib.Core.Path.{sym}
+use Rattle.laws.proofs.Prelude.{sym, needs, arith}
 use Rattle.shrink.proofs.Answering.{row-copied, left-few, left-long, left-short, left-written}
-use borrow.Author.Needs.{needs}
 use Rattle.shrink.proofs.rounds.write_shrunk.Statement.{statement}
 use Rattle.shrink.proofs.rounds.write_shrunk.Tie as tie
 

@@ -1,8 +1,7 @@
 -- The bit of the party's marks.
 use Rattle.slots.specs.Slot.{markedFor}
 use Rattle.laws.specs.Mask.{bit}
-use mathlib.Core.Path.{_∙_, ap}
-use borrow.Author.Needs.{needs}
+use Rattle.laws.proofs.Prelude.{ap, _∙_, needs}
 use Rattle.slots.proofs.Slot.marked_for.Statement.{statement}
 use Rattle.slots.proofs.Slot.marked_for.Tie as tie
 

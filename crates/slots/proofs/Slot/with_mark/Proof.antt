@@ -1,10 +1,9 @@
 -- One more mark, by party number; the other fields stay.
 use native.Mathlib.Nat.{one-mul}
-use native.Mathlib.Omega.{arith}
+use Rattle.laws.proofs.Prelude.{needs, arith}
 use lib.Pow.{shl-exact}
 use Rattle.laws.specs.Booleans.{tests}
 use Rattle.slots.specs.Slot.{withMark}
-use borrow.Author.Needs.{needs}
 use Rattle.slots.proofs.Slot.with_mark.Statement.{statement}
 use Rattle.slots.proofs.Slot.with_mark.Tie as tie
 

@@ -3,10 +3,7 @@ use Rattle.slots.proofs.Children.{child-first, child-next, child-found}
 use Rattle.sheet.specs.Forms.Parents.{isParentBelow}
 use Rattle.laws.specs.Below.{any-done}
 use Rattle.laws.specs.Mask.{bit}
-use mathlib.Core.Bool.{true, false}
-use mathlib.Core.Path.{_≡_}
-use Prim.Native.Nat.{_≤_, _<_, _-_}
-use borrow.Author.Needs.{needs}
+use Rattle.laws.proofs.Prelude.{_-_, _≤_, _<_, _≡_, true, false, needs}
 use Rattle.slots.proofs.conflict.child_in.Statement.{statement}
 use Rattle.slots.proofs.conflict.child_in.Tie as tie
 

@@ -1,8 +1,7 @@
 -- A child of its parent, or for an opening none.
 use Rattle.slots.proofs.Parents.{parent-none}
 use Rattle.slots.proofs.ByParents.{by-opening, answer-parent}
-use mathlib.Core.Path.{_∙_}
-use borrow.Author.Needs.{needs}
+use Rattle.laws.proofs.Prelude.{_∙_, needs}
 use Rattle.slots.proofs.conflict.conflict_by.Statement.{statement}
 use Rattle.slots.proofs.conflict.conflict_by.Tie as tie
 

@@ -1,8 +1,7 @@
 -- An opening itself, or a child of its parent.
 use Rattle.slots.proofs.ByParents.{answer-opening, answer-child}
 use Rattle.slots.proofs.Parents.{parent-below}
-use mathlib.Core.Path.{sym, _∙_}
-use borrow.Author.Needs.{needs}
+use Rattle.laws.proofs.Prelude.{sym, _∙_, needs}
 use Rattle.slots.proofs.conflict.conflict_in.Statement.{statement}
 use Rattle.slots.proofs.conflict.conflict_in.Tie as tie
 

@@ -3,9 +3,7 @@ use Rattle.slots.proofs.ConflictSets.{conflicts-none}
 use Rattle.slots.specs.Forms.Conflict.{foundIn}
 use Rattle.laws.specs.Sets.{setBelow, set-start, set-more, set-done}
 use Rattle.laws.specs.Mask.{bit}
-use mathlib.Core.Path.{_≡_}
-use Prim.Native.Nat.{_≤_, _-_}
-use borrow.Author.Needs.{needs}
+use Rattle.laws.proofs.Prelude.{_-_, _≤_, _≡_, needs}
 use Rattle.slots.proofs.conflict.conflicts_of.Statement.{statement}
 use Rattle.slots.proofs.conflict.conflicts_of.Tie as tie
 

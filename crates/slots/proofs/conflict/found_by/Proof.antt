@@ -2,9 +2,7 @@
 use Rattle.slots.proofs.ByParents.{by-self}
 use Rattle.slots.proofs.ConflictSets.{conflictIn-outside}
 use Rattle.slots.specs.Forms.Conflict.{foundIn}
-use mathlib.Core.Path.{sym, _∙_}
-use borrow.Author.Tests.{not-true, not-false}
-use borrow.Author.Needs.{needs}
+use Rattle.laws.proofs.Prelude.{sym, _∙_, not-true, not-false, needs}
 use Rattle.slots.proofs.conflict.found_by.Statement.{statement}
 use Rattle.slots.proofs.conflict.found_by.Tie as tie
 

@@ -2,9 +2,8 @@
 use Rattle.slots.proofs.ConflictSets.{conflictIn-removed}
 use Rattle.slots.specs.Conflict.{conflictIn}
 use Rattle.laws.specs.Mask.{bit}
-use mathlib.Core.Path.{_∙_, ap}
+use Rattle.laws.proofs.Prelude.{ap, _∙_, needs}
 use denote.Ref.{now}
-use borrow.Author.Needs.{needs}
 use Rattle.slots.proofs.conflict.other_conflict_in.Statement.{statement}
 use Rattle.slots.proofs.conflict.other_conflict_in.Tie as tie
 

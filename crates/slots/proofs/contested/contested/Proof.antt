@@ -4,10 +4,7 @@ use Rattle.slots.specs.Conflict.{otherConflictIn}
 use Rattle.slots.specs.Forms.Contested.{contestedIn}
 use Rattle.laws.specs.Below.{anyBelow, any-done}
 use Rattle.laws.specs.Mask.{bit}
-use mathlib.Core.Bool.{true, false, _&&_}
-use mathlib.Core.Path.{_≡_, sym, _∙_}
-use Prim.Native.Nat.{_≤_, _<_, _-_}
-use borrow.Author.Needs.{needs}
+use Rattle.laws.proofs.Prelude.{_-_, _≤_, _<_, _≡_, sym, _∙_, true, false, _&&_, needs}
 use Rattle.slots.proofs.contested.contested.Statement.{statement}
 use Rattle.slots.proofs.contested.contested.Tie as tie
 

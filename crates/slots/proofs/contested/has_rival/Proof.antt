@@ -1,10 +1,7 @@
 -- None below k is a rival of t but itself.
 use Rattle.slots.proofs.OtherRivals.{otherRival, other-itself, other-stranger, other-found, none-before, none-after}
 use Rattle.laws.specs.Below.{anyBelow, any-more}
-use mathlib.Core.Bool.{false}
-use mathlib.Core.Path.{_≡_}
-use Prim.Native.Nat.{_<_, _-_}
-use borrow.Author.Needs.{needs}
+use Rattle.laws.proofs.Prelude.{_-_, _<_, _≡_, false, needs}
 use Rattle.slots.proofs.contested.has_rival.Statement.{statement}
 use Rattle.slots.proofs.contested.has_rival.Tie as tie
 

@@ -1,7 +1,6 @@
 -- None for an opening; else the least of its rivals' that are above the own one.
 use Rattle.slots.proofs.Deadlines.{deadline-opening}
-use mathlib.Core.Path.{sym, _∙_}
-use borrow.Author.Needs.{needs}
+use Rattle.laws.proofs.Prelude.{sym, _∙_, needs}
 use Rattle.slots.proofs.deadline.deadline.Statement.{statement}
 use Rattle.slots.proofs.deadline.deadline.Tie as tie
 

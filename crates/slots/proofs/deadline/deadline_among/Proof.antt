@@ -4,13 +4,8 @@ use Rattle.slots.specs.Deadline.{deadline}
 use Rattle.slots.specs.Conflict.{conflict}
 use Rattle.sheet.specs.LockHeight.{never, lockHeight}
 use Rattle.laws.specs.Least.{leastBelow, least-start, least-more, least-done}
-use lib.Dec.{ltb}
-use mathlib.Core.Bool.{_&&_}
-use mathlib.Core.Path.{_≡_}
-use native.Mathlib.Omega.{arith}
+use Rattle.laws.proofs.Prelude.{_-_, _≤_, _≡_, _&&_, ltb, needs, arith}
 use native.Mathlib.Nat.{min-le-left}
-use Prim.Native.Nat.{_≤_, _-_}
-use borrow.Author.Needs.{needs}
 use Rattle.slots.proofs.deadline.deadline_among.Statement.{statement}
 use Rattle.slots.proofs.deadline.deadline_among.Tie as tie
 

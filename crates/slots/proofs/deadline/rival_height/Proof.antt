@@ -1,8 +1,6 @@
 -- A child of `up` with a higher lock gives its lock height, any other never.
 use Rattle.laws.specs.Booleans.{tests}
-use mathlib.Core.Path.{sym, _∙_}
-use borrow.Author.Tests.{eq-eqb, ne-eqb}
-use borrow.Author.Needs.{needs}
+use Rattle.laws.proofs.Prelude.{sym, _∙_, eq-eqb, ne-eqb, needs}
 use Rattle.slots.proofs.deadline.rival_height.Statement.{statement}
 use Rattle.slots.proofs.deadline.rival_height.Tie as tie
 

@@ -1,8 +1,6 @@
 -- Never outside the set; else the deadline.
 use Rattle.slots.specs.Forms.Limited.{deadlineBy}
-use mathlib.Core.Path.{sym, _∙_}
-use borrow.Author.Tests.{not-true, not-false}
-use borrow.Author.Needs.{needs}
+use Rattle.laws.proofs.Prelude.{sym, _∙_, not-true, not-false, needs}
 use Rattle.slots.proofs.limited.deadline_by.Statement.{statement}
 use Rattle.slots.proofs.limited.deadline_by.Tie as tie
 

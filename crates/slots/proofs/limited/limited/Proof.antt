@@ -1,7 +1,6 @@
 -- The rivals of those with a lock.
 use Rattle.slots.proofs.Deadlines.{limited-by}
-use mathlib.Core.Path.{_∙_}
-use borrow.Author.Needs.{needs}
+use Rattle.laws.proofs.Prelude.{_∙_, needs}
 use Rattle.slots.proofs.limited.limited.Statement.{statement}
 use Rattle.slots.proofs.limited.limited.Tie as tie
 

@@ -1,9 +1,7 @@
 -- The set of those below k.
 use Rattle.slots.specs.Forms.Limited.{hasLock}
 use Rattle.laws.specs.Sets.{setBelow, set-start, set-more, set-done}
-use mathlib.Core.Path.{_≡_}
-use Prim.Native.Nat.{_≤_, _-_}
-use borrow.Author.Needs.{needs}
+use Rattle.laws.proofs.Prelude.{_-_, _≤_, _≡_, needs}
 use Rattle.slots.proofs.limited.locked.Statement.{statement}
 use Rattle.slots.proofs.limited.locked.Tie as tie
 

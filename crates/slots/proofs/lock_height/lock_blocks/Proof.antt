@@ -1,9 +1,7 @@
 -- The days read from the sheet, a byte, times two bytes.
 use Rattle.laws.specs.Little.{product-below}
 use Rattle.sheet.specs.LockHeight.{lockBlocks}
-use Prim.Native.Nat.{_*_, _<_}
-use native.Mathlib.Omega.{arith}
-use borrow.Author.Needs.{needs}
+use Rattle.laws.proofs.Prelude.{_*_, _<_, needs, arith}
 use Rattle.slots.proofs.lock_height.lock_blocks.Statement.{statement}
 use Rattle.slots.proofs.lock_height.lock_blocks.Tie as tie
 

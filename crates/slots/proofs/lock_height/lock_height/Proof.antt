@@ -1,8 +1,7 @@
 -- By the lock type.
 use Rattle.sheet.specs.LockHeight.{lockHeight}
 use Rattle.laws.specs.Booleans.{tests}
-use native.Mathlib.Omega.{arith}
-use borrow.Author.Needs.{needs}
+use Rattle.laws.proofs.Prelude.{needs, arith}
 use Rattle.slots.proofs.lock_height.lock_height.Statement.{statement}
 use Rattle.slots.proofs.lock_height.lock_height.Tie as tie
 

@@ -1,8 +1,7 @@
 -- Never, or the sum.
 use Rattle.sheet.specs.LockHeight.{sinceParent}
 use Rattle.laws.specs.Booleans.{tests}
-use native.Mathlib.Omega.{arith}
-use borrow.Author.Needs.{needs}
+use Rattle.laws.proofs.Prelude.{needs, arith}
 use Rattle.slots.proofs.lock_height.since_parent.Statement.{statement}
 use Rattle.slots.proofs.lock_height.since_parent.Tie as tie
 

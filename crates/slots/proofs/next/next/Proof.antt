@@ -1,9 +1,7 @@
 -- Past the end, no member, or the lowest bit that is left.
 use Rattle.slots.proofs.Trailing.{next-past, next-none, next-some}
 use lib.Count.{trailing-le}
-use mathlib.Core.Path.{refl}
-use Prim.Native.Nat.{_/_, _^_}
-use borrow.Author.Needs.{needs}
+use Rattle.laws.proofs.Prelude.{_/_, _^_, refl, needs}
 use Rattle.slots.proofs.next.next.Statement.{statement}
 use Rattle.slots.proofs.next.next.Tie as tie
 

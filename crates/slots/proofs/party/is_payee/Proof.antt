@@ -1,12 +1,10 @@
 -- The bit of the party's place among the payees.
 use denote.Ref.{now}
 use Rattle.laws.specs.Booleans.{held}
-use borrow.Author.Tests.{not-true, not-false}
-use native.Mathlib.Omega.{arith}
+use Rattle.laws.proofs.Prelude.{not-true, not-false, needs, arith}
 use Rattle.sheet.specs.Field.{place}
 use Rattle.sheet.proofs.Parties.{parties-few, place-below}
 use Rattle.slots.specs.Destination.{isPayee}
-use borrow.Author.Needs.{needs}
 use Rattle.slots.proofs.party.is_payee.Statement.{statement}
 use Rattle.slots.proofs.party.is_payee.Tie as tie
 

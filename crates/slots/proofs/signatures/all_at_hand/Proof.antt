@@ -1,11 +1,7 @@
 -- Each signature that is needed is at hand: the subset test of both masks, shifted, is what is left of it.
 use Rattle.laws.specs.Mask.{subset}
 use Rattle.laws.specs.Bits.{subset-none, subset-shift}
-use borrow.Author.Tests.{not-true, not-false}
-use mathlib.Core.Path.{_≡_, refl, sym, _∙_}
-use Prim.Native.Nat.{_<_}
-use native.Mathlib.Omega.{arith}
-use borrow.Author.Needs.{needs}
+use Rattle.laws.proofs.Prelude.{_<_, _≡_, refl, sym, _∙_, not-true, not-false, needs, arith}
 use Rattle.slots.proofs.signatures.all_at_hand.Statement.{statement}
 use Rattle.slots.proofs.signatures.all_at_hand.Tie as tie
 

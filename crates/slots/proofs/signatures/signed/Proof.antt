@@ -1,8 +1,7 @@
 -- What t needs stands at the sheet's signatures, so that none is needed beyond them.
 use Rattle.laws.specs.Bits.{subset-within}
 use Rattle.slots.specs.Signatures.{signed}
-use mathlib.Core.Path.{sym, _∙_}
-use borrow.Author.Needs.{needs}
+use Rattle.laws.proofs.Prelude.{sym, _∙_, needs}
 use Rattle.slots.proofs.signatures.signed.Statement.{statement}
 use Rattle.slots.proofs.signatures.signed.Tie as tie
 

@@ -1,13 +1,10 @@
 -- The soonest blocks of the transactions before t.
-use Prim.Native.Nat.{_≤_, _-_}
-use native.Mathlib.Omega.{arith}
-use mathlib.Core.Path.{refl}
+use Rattle.laws.proofs.Prelude.{_-_, _≤_, refl, needs, arith}
 use Rattle.position.specs.Position.{slot, blockOf}
 use Rattle.soonest.specs.Soonest.{soonestBlock}
 use Rattle.soonest.specs.Forms.Bounds.{Soon}
 use Rattle.soonest.specs.Forms.Table.{Filled}
 use Rattle.soonest.proofs.Tables.{filled-start, filled-more, filled-done, soonest-above, soonest-next}
-use borrow.Author.Needs.{needs}
 use Rattle.soonest.proofs.block.soonest_blocks.Statement.{statement}
 use Rattle.soonest.proofs.block.soonest_blocks.Tie as tie
 

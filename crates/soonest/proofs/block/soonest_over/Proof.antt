@@ -1,10 +1,8 @@
 -- A confirmed one by its block, any other by the greatest of three.
-use Prim.Native.Nat.{_+_, _*_}
+use Rattle.laws.proofs.Prelude.{_+_, _*_, needs, arith}
 use Rattle.soonest.specs.Soonest.{soonestOver}
 use Rattle.soonest.proofs.Bounds.{greater-le}
 use Rattle.laws.specs.Booleans.{tests}
-use native.Mathlib.Omega.{arith}
-use borrow.Author.Needs.{needs}
 use Rattle.soonest.proofs.block.soonest_over.Statement.{statement}
 use Rattle.soonest.proofs.block.soonest_over.Tie as tie
 

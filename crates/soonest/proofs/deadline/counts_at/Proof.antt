@@ -1,8 +1,7 @@
 -- By the two lock heights.
 use Rattle.soonest.specs.Soonest.{countsAt}
 use Rattle.laws.specs.Booleans.{tests}
-use native.Mathlib.Omega.{arith}
-use borrow.Author.Needs.{needs}
+use Rattle.laws.proofs.Prelude.{needs, arith}
 use Rattle.soonest.proofs.deadline.counts_at.Statement.{statement}
 use Rattle.soonest.proofs.deadline.counts_at.Tie as tie
 

@@ -4,9 +4,7 @@ use Rattle.soonest.specs.Forms.Deadline.{deadlineOver}
 use Rattle.slots.specs.Conflict.{conflict}
 use Rattle.sheet.specs.LockHeight.{never}
 use Rattle.laws.specs.Least.{leastBelow, least-start, least-more, least-done}
-use mathlib.Core.Path.{_≡_}
-use Prim.Native.Nat.{_≤_, _-_}
-use borrow.Author.Needs.{needs}
+use Rattle.laws.proofs.Prelude.{_-_, _≤_, _≡_, needs}
 use Rattle.soonest.proofs.deadline.soonest_deadline.Statement.{statement}
 use Rattle.soonest.proofs.deadline.soonest_deadline.Tie as tie
 

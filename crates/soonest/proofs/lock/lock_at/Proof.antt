@@ -2,8 +2,7 @@
 use Rattle.soonest.specs.Soonest.{lockAt}
 use Rattle.sheet.specs.LockHeight.{lockHeight}
 use Rattle.laws.specs.Booleans.{tests}
-use native.Mathlib.Omega.{arith}
-use borrow.Author.Needs.{needs}
+use Rattle.laws.proofs.Prelude.{needs, arith}
 use Rattle.soonest.proofs.lock.lock_at.Statement.{statement}
 use Rattle.soonest.proofs.lock.lock_at.Tie as tie
 

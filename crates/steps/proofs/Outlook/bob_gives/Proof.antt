@@ -1,8 +1,7 @@
 -- Phase, signature, what Bob has for success, and the time.
 use Rattle.laws.specs.Booleans.{tests}
 use Rattle.steps.specs.Forms.Conduct.{bobGivesIn}
-use borrow.Author.Tests.{not-true, not-false}
-use borrow.Author.Needs.{needs}
+use Rattle.laws.proofs.Prelude.{not-true, not-false, needs}
 use Rattle.steps.proofs.Outlook.bob_gives.Statement.{statement}
 use Rattle.steps.proofs.Outlook.bob_gives.Tie as tie
 

@@ -1,7 +1,6 @@
 -- Not needed, or not known to Alice, or spend_B.
 use Rattle.steps.specs.Forms.Conduct.{secretSafeIn}
-use borrow.Author.Tests.{not-true, not-false}
-use borrow.Author.Needs.{needs}
+use Rattle.laws.proofs.Prelude.{not-true, not-false, needs}
 use Rattle.steps.proofs.Outlook.secret_safe.Statement.{statement}
 use Rattle.steps.proofs.Outlook.secret_safe.Tie as tie
 

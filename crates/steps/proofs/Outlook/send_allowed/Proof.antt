@@ -1,7 +1,6 @@
 -- Open, or in phase and, if careful, safe.
 use Rattle.steps.specs.Forms.Conduct.{sendAllowedIn}
-use borrow.Author.Tests.{not-true, not-false}
-use borrow.Author.Needs.{needs}
+use Rattle.laws.proofs.Prelude.{not-true, not-false, needs}
 use Rattle.steps.proofs.Outlook.send_allowed.Statement.{statement}
 use Rattle.steps.proofs.Outlook.send_allowed.Tie as tie
 

@@ -1,7 +1,6 @@
 -- Allowed, and not held back.
 use Rattle.steps.specs.Forms.Conduct.{sendHeldIn}
-use borrow.Author.Tests.{not-true, not-false}
-use borrow.Author.Needs.{needs}
+use Rattle.laws.proofs.Prelude.{not-true, not-false, needs}
 use Rattle.steps.proofs.Outlook.send_held.Statement.{statement}
 use Rattle.steps.proofs.Outlook.send_held.Tie as tie
 

@@ -1,10 +1,8 @@
 -- A byte of the keys, 0 past them.
 use Rattle.laws.specs.Each.{length-of-map}
-use native.Mathlib.Omega.{arith}
-use mathlib.Core.Path.{_≡_, sym}
-use lib.ListN.{length, List·getD-eq-default}
+use Rattle.laws.proofs.Prelude.{_≡_, sym, length, needs, arith}
+use lib.ListN.{List·getD-eq-default}
 use Rattle.steps.specs.Forms.View.{keysIn}
-use borrow.Author.Needs.{needs}
 use Rattle.steps.proofs.View.keys.Statement.{statement}
 use Rattle.steps.proofs.View.keys.Tie as tie
 

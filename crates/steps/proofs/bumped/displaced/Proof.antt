@@ -1,7 +1,6 @@
 -- None, or those that the search finds.
 use Rattle.steps.specs.Forms.Blocks.{displacedIn}
-use borrow.Author.Tests.{eq-eqb, ne-eqb}
-use borrow.Author.Needs.{needs}
+use Rattle.laws.proofs.Prelude.{eq-eqb, ne-eqb, needs}
 use Rattle.steps.proofs.bumped.displaced.Statement.{statement}
 use Rattle.steps.proofs.bumped.displaced.Tie as tie
 

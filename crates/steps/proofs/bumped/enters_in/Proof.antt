@@ -1,7 +1,6 @@
 -- In the pool, not in the block, of the line.
 use Rattle.steps.specs.Forms.Blocks.{entersIn}
-use borrow.Author.Tests.{not-true, not-false}
-use borrow.Author.Needs.{needs}
+use Rattle.laws.proofs.Prelude.{not-true, not-false, needs}
 use Rattle.steps.proofs.bumped.enters_in.Statement.{statement}
 use Rattle.steps.proofs.bumped.enters_in.Tie as tie
 

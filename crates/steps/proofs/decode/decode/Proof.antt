@@ -1,8 +1,7 @@
 -- What is spelled, with its fields checked.
 use Rattle.steps.specs.Decode.{rangeChecked, decode}
-use mathlib.Core.Path.{ap, _∙_}
+use Rattle.laws.proofs.Prelude.{ap, _∙_, needs}
 use denote.Ref.{now}
-use borrow.Author.Needs.{needs}
 use Rattle.steps.proofs.decode.decode.Statement.{statement}
 use Rattle.steps.proofs.decode.decode.Tie as tie
 

@@ -1,7 +1,6 @@
 -- The fields of kind 2.
 use Rattle.laws.specs.Booleans.{tests}
-use borrow.Author.Tests.{not-true, not-false}
-use borrow.Author.Needs.{needs}
+use Rattle.laws.proofs.Prelude.{not-true, not-false, needs}
 use Rattle.steps.proofs.decode.give_fields.Statement.{statement}
 use Rattle.steps.proofs.decode.give_fields.Tie as tie
 

@@ -1,7 +1,6 @@
 -- A spelled step with right fields.
 use Rattle.steps.specs.Decode.{rangeChecked}
-use mathlib.Core.Path.{sym, _∙_}
-use borrow.Author.Needs.{needs}
+use Rattle.laws.proofs.Prelude.{sym, _∙_, needs}
 use Rattle.steps.proofs.decode.range_checked.Statement.{statement}
 use Rattle.steps.proofs.decode.range_checked.Tie as tie
 

@@ -1,6 +1,5 @@
 -- The fields of kinds 3 and 4.
-use borrow.Author.Tests.{not-true, not-false}
-use borrow.Author.Needs.{needs}
+use Rattle.laws.proofs.Prelude.{not-true, not-false, needs}
 use Rattle.steps.proofs.decode.send_fields.Statement.{statement}
 use Rattle.steps.proofs.decode.send_fields.Tie as tie
 

@@ -1,6 +1,5 @@
 -- The fields of kind 1.
-use borrow.Author.Tests.{not-true, not-false}
-use borrow.Author.Needs.{needs}
+use Rattle.laws.proofs.Prelude.{not-true, not-false, needs}
 use Rattle.steps.proofs.decode.share_fields.Statement.{statement}
 use Rattle.steps.proofs.decode.share_fields.Tie as tie
 

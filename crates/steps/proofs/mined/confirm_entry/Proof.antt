@@ -1,9 +1,7 @@
 -- A block entry is confirmed; any other slot stays.
 use Rattle.steps.specs.Mined.{confirmEntry}
 use Rattle.slots.specs.Slot.{standing, entryTo}
-use borrow.Author.Tests.{lt-ltb}
-use native.Mathlib.Omega.{arith}
-use borrow.Author.Needs.{needs}
+use Rattle.laws.proofs.Prelude.{lt-ltb, needs, arith}
 use Rattle.steps.proofs.mined.confirm_entry.Statement.{statement}
 use Rattle.steps.proofs.mined.confirm_entry.Tie as tie
 

@@ -1,9 +1,7 @@
 -- None, or those that the search finds.
 use Rattle.slots.proofs.OtherRivals.{uncontested-none}
 use Rattle.steps.specs.Forms.Blocks.{struckIn}
-use mathlib.Core.Path.{sym, _∙_}
-use borrow.Author.Tests.{eq-eqb, ne-eqb, not-true}
-use borrow.Author.Needs.{needs}
+use Rattle.laws.proofs.Prelude.{sym, _∙_, eq-eqb, ne-eqb, not-true, needs}
 use Rattle.steps.proofs.mined.struck.Statement.{statement}
 use Rattle.steps.proofs.mined.struck.Tie as tie
 

@@ -1,12 +1,8 @@
 -- The tests in their order.
-use borrow.Author.Tests.{le-ltb, lt-ltb}
+use Rattle.laws.proofs.Prelude.{refl, [], ltb, lt-ltb, le-ltb, needs}
 use Rattle.sheet.specs.Refusal.{stepBlocks}
-use mathlib.Core.List.{[]}
-use lib.Dec.{ltb}
 use Rattle.steps.specs.Forms.Mining.{mineTestsIn}
 use Rattle.laws.specs.Failing.{none-left, fails, passes, fails-not, passes-not}
-use mathlib.Core.Path.{refl}
-use borrow.Author.Needs.{needs}
 use Rattle.steps.proofs.mining.mine_refusal.Statement.{statement}
 use Rattle.steps.proofs.mining.mine_refusal.Tie as tie
 

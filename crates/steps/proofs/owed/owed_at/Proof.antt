@@ -1,7 +1,6 @@
 -- Waiting, outside the block, and at its deadline.
 use Rattle.steps.specs.Forms.Mining.{owedIn}
-use borrow.Author.Tests.{not-true, not-false}
-use borrow.Author.Needs.{needs}
+use Rattle.laws.proofs.Prelude.{not-true, not-false, needs}
 use Rattle.steps.proofs.owed.owed_at.Statement.{statement}
 use Rattle.steps.proofs.owed.owed_at.Tie as tie
 

@@ -1,8 +1,7 @@
 -- None to ask for, or a member of the set.
 use Rattle.slots.specs.Ancestry.{hasParent}
 use Rattle.laws.specs.Bits.{bit-above}
-use mathlib.Core.Path.{sym}
-use borrow.Author.Needs.{needs}
+use Rattle.laws.proofs.Prelude.{sym, needs}
 use Rattle.steps.proofs.parent.parent_there.Statement.{statement}
 use Rattle.steps.proofs.parent.parent_there.Tie as tie
 

@@ -2,9 +2,7 @@
 use Rattle.steps.specs.Forms.Sending.{paysIn}
 use Rattle.steps.proofs.NoParent.{pays-none}
 use Rattle.laws.specs.Booleans.{tests}
-use mathlib.Core.Path.{sym, _∙_}
-use borrow.Author.Tests.{not-true, not-false}
-use borrow.Author.Needs.{needs}
+use Rattle.laws.proofs.Prelude.{sym, _∙_, not-true, not-false, needs}
 use Rattle.steps.proofs.sending.pays.Statement.{statement}
 use Rattle.steps.proofs.sending.pays.Tie as tie
 

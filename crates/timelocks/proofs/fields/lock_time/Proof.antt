@@ -2,9 +2,7 @@
 use Rattle.timelocks.proofs.Within.{absolute-within}
 use Rattle.timelocks.specs.Fields.{nLockTime}
 use Rattle.laws.specs.Booleans.{tests}
-use mathlib.Core.Path.{sym, _∙_}
-use native.Mathlib.Omega.{arith}
-use borrow.Author.Needs.{needs}
+use Rattle.laws.proofs.Prelude.{sym, _∙_, needs, arith}
 use Rattle.timelocks.proofs.fields.lock_time.Statement.{statement}
 use Rattle.timelocks.proofs.fields.lock_time.Tie as tie
 

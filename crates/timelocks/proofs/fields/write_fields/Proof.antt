@@ -5,12 +5,8 @@ use Rattle.timelocks.specs.Limits.{absoluteRight}
 use Rattle.laws.specs.Below.{all-at}
 use Rattle.laws.specs.Little.{bytesOf}
 use Rattle.laws.specs.Wrote.{Turns, turns-start, turn-room, turn-end, turn-more, turns-done}
-use mathlib.Core.List.{List, _++_}
-use mathlib.Core.Path.{_≡_, sym}
-use Prim.Native.Nat.{ℕ, _-_, _<_}
+use Rattle.laws.proofs.Prelude.{ℕ, _-_, _<_, _≡_, sym, List, _++_, needs, arith}
 use Rattle.sheet.specs.Field.{count}
-use native.Mathlib.Omega.{arith}
-use borrow.Author.Needs.{needs}
 use Rattle.timelocks.proofs.fields.write_fields.Statement.{statement}
 use Rattle.timelocks.proofs.fields.write_fields.Tie as tie
 
