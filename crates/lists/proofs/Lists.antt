@@ -27,7 +27,16 @@ module _ (a b c m : OpenSets) where
       let y = actorBytes (b .below) (b .last) bob in
       let z = actorBytes (c .below) (c .last) carol in
       let w = actorBytes (m .below) (m .last) miner in
-      omega (arith, length-append (x ++ y) (z ++ w), length-append x y, length-append z w, length-actor (a .below) (a .last) alice, length-actor (b .below) (b .last) bob, length-actor (c .below) (c .last) carol, length-actor (m .below) (m .last) miner)
+      omega (
+        arith,
+        length-append (x ++ y) (z ++ w),
+        length-append x y,
+        length-append z w,
+        length-actor (a .below) (a .last) alice,
+        length-actor (b .below) (b .last) bob,
+        length-actor (c .below) (c .last) carol,
+        length-actor (m .below) (m .last) miner,
+      )
 
   pub sets-bound : setsCount a b c m ≤ 3696
   unfolding setsCount

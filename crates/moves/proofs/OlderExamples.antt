@@ -17,7 +17,8 @@ use Rattle.position.specs.declared.Ran.{Ran}
 use Rattle.position.specs.StepRefusal.{tests, stepRefusal}
 use Rattle.position.specs.Play.{run}
 use Rattle.position.proofs.Opened.{opened}
-use Rattle.moves.specs.OlderOrder.{olderSendTests, olderPoolTests, olderMinerTests, olderPayingPasses, olderCanPay, olderPayingFirst, olderAllows, olderRefusal, meets, passesBelow, meetsBoth, olderTake, olderRunFrom, olderRun, SameRun}
+use Rattle.moves.specs.OlderOrder.{olderSendTests, olderPoolTests, olderMinerTests, olderPayingPasses, olderCanPay, olderPayingFirst, olderAllows}
+use Rattle.moves.specs.OlderOrder.{olderRefusal, meets, passesBelow, meetsBoth, olderTake, olderRunFrom, olderRun, SameRun}
 
 -- "open .., stealth 1"
 abbrev setup : List ℕ

@@ -33,8 +33,12 @@ module _ (s : List ℕ) (mined : ℕ) where
         confirmed = omega arith;
         numbered = refl;
         height = omega arith;
-        shared = λ e. picked-has (MaskOf (signatures s)) (eqb e alice) (pow-pos (signatures s)) (picked-has (MaskOf (signatures s)) (eqb e bob) (pow-pos (signatures s)) (picked-has (MaskOf (signatures s)) (eqb e contract) (pow-pos (signatures s)) (pow-pos (signatures s))));
-        marks = λ party. picked-has (MaskOf destinations) (eqb party alice) (pow-pos destinations) (picked-has (MaskOf destinations) (eqb party bob) (pow-pos destinations) (picked-has (MaskOf destinations) (eqb party carol) (pow-pos destinations) (pow-pos destinations)));
+        shared = λ e. picked-has (MaskOf (signatures s)) (eqb e alice) (pow-pos (signatures s))
+            (picked-has (MaskOf (signatures s)) (eqb e bob) (pow-pos (signatures s))
+            (picked-has (MaskOf (signatures s)) (eqb e contract) (pow-pos (signatures s)) (pow-pos (signatures s))));
+        marks = λ party. picked-has (MaskOf destinations) (eqb party alice) (pow-pos destinations)
+            (picked-has (MaskOf destinations) (eqb party bob) (pow-pos destinations)
+            (picked-has (MaskOf destinations) (eqb party carol) (pow-pos destinations) (pow-pos destinations)));
       }
 
   -- each part changed alone, within its range

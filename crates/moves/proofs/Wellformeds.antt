@@ -26,7 +26,8 @@ use Rattle.position.specs.Owed.{enters}
 use Rattle.position.specs.Tests.{mineTests, blockLimit}
 use Rattle.position.specs.StepRefusal.{tests, stepRefusal}
 use Rattle.steps.specs.Mined.{confirmEntry}
-use Rattle.position.specs.Effect.{withSlots, changeSlot, changeSlots, withKey, shareOne, shareEach, afterShare, afterGive, afterSend, afterHandIn, afterInclude, leavesPool, mineSlot, withMined, afterMine, leavesBlock, bumpSlot, afterBump, effect}
+use Rattle.position.specs.Effect.{withSlots, changeSlot, changeSlots, withKey, shareOne, shareEach, afterShare, afterGive, afterSend}
+use Rattle.position.specs.Effect.{afterHandIn, afterInclude, leavesPool, mineSlot, withMined, afterMine, leavesBlock, bumpSlot, afterBump, effect}
 use Rattle.position.specs.Play.{FourBytes, journalSteps, step, runFrom, callTests, run, play}
 use Rattle.moves.specs.Wellformed.{WellformedSlot, Wellformed}
 use Rattle.position.proofs.Changed.{one-length, all-length}

@@ -31,7 +31,8 @@ use Rattle.outage.specs.Claim.{Fixed, NoneLater, Fate, waits, done, oust
 use Rattle.outage.proofs.Theorems.{foresight, planner}
 
 unfoldable judged : Unit {0}
-unfolding opened greater lockAt soonestOver soonestBlock soonestParent sinceLocked mayRise countsAt soonestDeadline soonestBlockIn soonestDeadlineIn isSettled isSafe isCovered isPassed exposed verdict payeesBelow blockFrom outageRow outageBytes outageAnswer
+unfolding opened greater lockAt soonestOver soonestBlock soonestParent sinceLocked mayRise countsAt soonestDeadline soonestBlockIn
+    soonestDeadlineIn isSettled isSafe isCovered isPassed exposed verdict payeesBelow blockFrom outageRow outageBytes outageAnswer
 judged = tt
 
 -- so many blocks, and this party's send of a transaction to the pool, included and mined

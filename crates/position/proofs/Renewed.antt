@@ -159,7 +159,12 @@ module _ (s : List ℕ) (n there : ℕ) (p q : Position) (v : View) (few : n ≤
       let f = mixed t (λ k. sharedAny (slot q k)) (λ k. sharedAny (slot p k)) in
       let g = mixed (suc t) (λ k. sharedAny (slot q k)) (λ k. sharedAny (slot p k)) in
       let w : bitOr (unionBelow n f) (g t) ≡ unionBelow n g =
-      union-grown t n f g l (mixed-other t (λ k. sharedAny (slot q k)) (λ k. sharedAny (slot p k))) (rw (mixed-here t (λ k. sharedAny (slot q k)) (λ k. sharedAny (slot p k)), mixed-before t (λ k. sharedAny (slot q k)) (λ k. sharedAny (slot p k))) (moved .keeps t l .1)) in
+      union-grown t n f g l (mixed-other t (λ k. sharedAny (slot q k)) (λ k. sharedAny (slot p k)))
+      (rw (
+        mixed-here t (λ k. sharedAny (slot q k)) (λ k. sharedAny (slot p k)),
+        mixed-before t (λ k. sharedAny (slot q k))
+            (λ k. sharedAny (slot p k)),
+      ) (moved .keeps t l .1)) in
       rw (← x, ← y, ← z, ← w, mixed-here t (λ k. sharedAny (slot q k)) (λ k. sharedAny (slot p k))) refl
 
   -- nothing changes by another

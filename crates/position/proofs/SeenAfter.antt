@@ -38,7 +38,8 @@ use Rattle.position.specs.declared.Stepped.{Stepped}
 use Rattle.position.specs.Position.{slot, inPool, inBlock, keys}
 use Rattle.position.specs.FirstShares.{firstShares}
 use Rattle.position.specs.Owed.{waiting, enters}
-use Rattle.position.specs.Effect.{withSlots, changeSlot, changeSlots, withKey, withMined, shareOne, shareEach, afterShare, afterGive, afterSend, afterHandIn, afterInclude, leavesPool, mineSlot, afterMine, leavesBlock, bumpSlot, afterBump, effect}
+use Rattle.position.specs.Effect.{withSlots, changeSlot, changeSlots, withKey, withMined, shareOne, shareEach, afterShare, afterGive}
+use Rattle.position.specs.Effect.{afterSend, afterHandIn, afterInclude, leavesPool, mineSlot, afterMine, leavesBlock, bumpSlot, afterBump, effect}
 use Rattle.position.specs.Play.{FourBytes, decodeBytes, step}
 use Rattle.position.specs.Forms.View.{viewBelow}
 use Rattle.position.specs.Forms.Seen.{changedSet, narrowedSet, lowest, viewKept, viewJoined}

@@ -11,5 +11,8 @@ use Rattle.sheet.specs.Setup.{perDay, blocksRight, partiesRight, isSaswa
 use Rattle.sheet.specs.LockHeight.{lockBlocks, sinceParent, lockHeight}
 
 unfoldable pub opened : Unit {0}
-unfolding allBelow anyBelow firstFailing numberAt same parties count arrays place partyAt isParty startKeys entry lockPair opening headRight countRight within masksRight signaturesRight lengthRight parentRight entryRight daysRight lockRight hasChild childrenRight arrayTests sheetTests sheetRefusal offset saswapAt saswap perDay blocksRight partiesRight isSaswap conductRight setupTests setupRefusal lockBlocks sinceParent lockHeight
+unfolding allBelow anyBelow firstFailing numberAt same parties count arrays place partyAt isParty startKeys entry lockPair opening headRight
+    countRight within masksRight signaturesRight lengthRight parentRight entryRight daysRight lockRight hasChild childrenRight arrayTests
+    sheetTests sheetRefusal offset saswapAt saswap perDay blocksRight partiesRight isSaswap conductRight setupTests setupRefusal lockBlocks
+    sinceParent lockHeight
 opened = tt

@@ -116,7 +116,12 @@ module _ (s u j : List ℕ) (z : firstFailing (longTests s u j) ≡ 0) (h : run 
 
   row-shape : Shape (getD (journalSteps j) (run s u j .accepted) noStep) (take (run s u j .accepted) (journalSteps j)) (refusedRow s u j)
   unfolding refusedRow
-  row-shape = record { before = take (run s u j .accepted) (journalSteps j); ends = rw (add-one (run s u j .accepted)) (take-suc (journalSteps j) (run s u j .accepted) noStep within); order = Sublistᴰ·refl (take (run s u j .accepted) (journalSteps j)) }
+  row-shape = record {
+    before = take (run s u j .accepted) (journalSteps j);
+    ends = rw (add-one (run s u j .accepted))
+        (take-suc (journalSteps j) (run s u j .accepted) noStep within);
+    order = Sublistᴰ·refl (take (run s u j .accepted) (journalSteps j));
+  }
 
   few-length : length (fewSteps s u j) ≤ 1024
   unfolding fewSteps
@@ -127,7 +132,9 @@ module _ (s u j : List ℕ) (z : firstFailing (longTests s u j) ≡ 0) (h : run 
   few-steps =
       let row = refusedRow s u j in
       let part = shrunk s u (run s u j .refusal) row in
-      let v = shrunk-keeps s u (run s u j .refusal) (λ r. Shape (getD (journalSteps j) (run s u j .accepted) noStep) (take (run s u j .accepted) (journalSteps j)) r) (next-shape s u (run s u j .refusal) (getD (journalSteps j) (run s u j .accepted) noStep) (take (run s u j .accepted) (journalSteps j))) row row-shape in
+      let v = shrunk-keeps s u (run s u j .refusal) (λ r. Shape (getD (journalSteps j) (run s u j .accepted) noStep)
+      (take (run s u j .accepted) (journalSteps j)) r) (next-shape s u (run s u j .refusal)
+      (getD (journalSteps j) (run s u j .accepted) noStep) (take (run s u j .accepted) (journalSteps j))) row row-shape in
       let e = shrunk-keeps s u (run s u j .refusal) (λ r. stillRefused s u (run s u j .refusal) (start s) r ≡ true) (next-still s u (run s u j .refusal)) row row-still in
       let c = calls-pass s u j z in
       let f = next-fixed s u (run s u j .refusal) part (shrunk-end s u (run s u j .refusal) row) in

@@ -10,10 +10,9 @@ ghost use lib.ListN.{length, take};
 ghost use Rattle.laws.specs.Over.{over};
 ghost use Rattle.sheet.specs.Checked.{Fit};
 ghost use Rattle.position.specs.Position.{start};
-ghost use Rattle.position.specs.Play.{journalSteps, journalBytes};
-ghost use Rattle.position.specs.Answers.{fitted};
+ghost use Rattle.position.specs.Play.{journalSteps};
 ghost use Rattle.shrink.specs.Shrink.{stillRefused, shrunk};
-ghost use Rattle.shrink.specs.Forms.Round.{Starts};
+ghost use Rattle.shrink.specs.Forms.Round.{Starts, shrunkFitted};
 
 // These bytes, at the front of a buffer.
 fn copy(from: &[u8], out: &mut [u8])
@@ -64,9 +63,9 @@ pub fn write_shrunk(sheet: &[u8], setup: &[u8], number: u32, row: &[u8], out: &m
     requires { ⌜ length (now row) ≤ 4096 ⌝ }
     requires { ⌜ length (now row) % 4 ≡ 0 ⌝ }
     requires { ⌜ stillRefused (now sheet) (now setup) number (start (now sheet)) (journalSteps (now row)) ≡ true ⌝ }
-    ensures { λ r. ⌜ r .refusal ≡ fitted (journalBytes (shrunk (now (sheet .entry)) (now (setup .entry)) number (journalSteps (now (row .entry))))) (length (shrunk (now (sheet .entry)) (now (setup .entry)) number (journalSteps (now (row .entry))))) (now (out .entry)) .refusal ⌝ }
-    ensures { λ r. ⌜ r .count ≡ fitted (journalBytes (shrunk (now (sheet .entry)) (now (setup .entry)) number (journalSteps (now (row .entry))))) (length (shrunk (now (sheet .entry)) (now (setup .entry)) number (journalSteps (now (row .entry))))) (now (out .entry)) .count ⌝ }
-    ensures { λ r. ⌜ now (out .exit) ≡ fitted (journalBytes (shrunk (now (sheet .entry)) (now (setup .entry)) number (journalSteps (now (row .entry))))) (length (shrunk (now (sheet .entry)) (now (setup .entry)) number (journalSteps (now (row .entry))))) (now (out .entry)) .buffer ⌝ }
+    ensures { λ r. ⌜ r .refusal ≡ shrunkFitted (now (sheet .entry)) (now (setup .entry)) number (now (row .entry)) (now (out .entry)) .refusal ⌝ }
+    ensures { λ r. ⌜ r .count ≡ shrunkFitted (now (sheet .entry)) (now (setup .entry)) number (now (row .entry)) (now (out .entry)) .count ⌝ }
+    ensures { λ r. ⌜ now (out .exit) ≡ shrunkFitted (now (sheet .entry)) (now (setup .entry)) number (now (row .entry)) (now (out .entry)) .buffer ⌝ }
 {
     let mut part = [0u8; 4096];
     let mut spare = [0u8; 4096];

@@ -62,7 +62,8 @@ pub extern "C" fn swap_run(sheet: &[u8], setup: &[u8], journal: &[u8]) -> u32
 // Lists the open steps after a journal: refusal × 65,536 + the steps written.
 #[no_mangle]
 pub extern "C" fn swap_list(sheet: &[u8], setup: &[u8], journal: &[u8], out: &mut [u8]) -> u32
-    ensures { λ r. ⌜ r ≡ packed (listAnswer (now (sheet .entry)) (now (setup .entry)) (now (journal .entry)) (now (out .entry)) .refusal) (listAnswer (now (sheet .entry)) (now (setup .entry)) (now (journal .entry)) (now (out .entry)) .count) ⌝ }
+    ensures { λ r. ⌜ r ≡ packed (listAnswer (now (sheet .entry)) (now (setup .entry)) (now (journal .entry)) (now (out .entry)) .refusal)
+        (listAnswer (now (sheet .entry)) (now (setup .entry)) (now (journal .entry)) (now (out .entry)) .count) ⌝ }
     ensures { λ r. ⌜ now (out .exit) ≡ listAnswer (now (sheet .entry)) (now (setup .entry)) (now (journal .entry)) (now (out .entry)) .buffer ⌝ }
 {
     let listed = list(sheet, setup, journal, out);
@@ -137,7 +138,8 @@ pub extern "C" fn swap_earliest(
     dests: &[u8],
     out: &mut [u8],
 ) -> u32
-    ensures { λ r. ⌜ r ≡ packed (earliestAnswer (now (sheet .entry)) (now (setup .entry)) mask (now (dests .entry)) (now (out .entry)) .refusal) (earliestAnswer (now (sheet .entry)) (now (setup .entry)) mask (now (dests .entry)) (now (out .entry)) .count) ⌝ }
+    ensures { λ r. ⌜ r ≡ packed (earliestAnswer (now (sheet .entry)) (now (setup .entry)) mask (now (dests .entry)) (now (out .entry)) .refusal)
+        (earliestAnswer (now (sheet .entry)) (now (setup .entry)) mask (now (dests .entry)) (now (out .entry)) .count) ⌝ }
     ensures { λ r. ⌜ now (out .exit) ≡ earliestAnswer (now (sheet .entry)) (now (setup .entry)) mask (now (dests .entry)) (now (out .entry)) .buffer ⌝ }
 {
     let planned = earliest(sheet, setup, mask, dests, out);
@@ -147,7 +149,8 @@ pub extern "C" fn swap_earliest(
 // Asks whether a step would pass after a journal: refusal × 65,536 + the steps in the journal.
 #[no_mangle]
 pub extern "C" fn swap_ask(sheet: &[u8], setup: &[u8], journal: &[u8], step: &[u8]) -> u32
-    ensures { λ r. ⌜ r ≡ packed (askAnswer (now (sheet .entry)) (now (setup .entry)) (now (journal .entry)) (now (step .entry)) .refusal) (askAnswer (now (sheet .entry)) (now (setup .entry)) (now (journal .entry)) (now (step .entry)) .count) ⌝ }
+    ensures { λ r. ⌜ r ≡ packed (askAnswer (now (sheet .entry)) (now (setup .entry)) (now (journal .entry)) (now (step .entry)) .refusal)
+        (askAnswer (now (sheet .entry)) (now (setup .entry)) (now (journal .entry)) (now (step .entry)) .count) ⌝ }
 {
     let asked = ask(sheet, setup, journal, step);
     asked.refusal * 65536 + asked.count
@@ -172,7 +175,8 @@ pub extern "C" fn swap_commit(
 // Writes the few steps of a refused journal that matter: refusal × 65,536 + the steps written.
 #[no_mangle]
 pub extern "C" fn swap_shrink(sheet: &[u8], setup: &[u8], journal: &[u8], out: &mut [u8]) -> u32
-    ensures { λ r. ⌜ r ≡ packed (shrinkAnswer (now (sheet .entry)) (now (setup .entry)) (now (journal .entry)) (now (out .entry)) .refusal) (shrinkAnswer (now (sheet .entry)) (now (setup .entry)) (now (journal .entry)) (now (out .entry)) .count) ⌝ }
+    ensures { λ r. ⌜ r ≡ packed (shrinkAnswer (now (sheet .entry)) (now (setup .entry)) (now (journal .entry)) (now (out .entry)) .refusal)
+        (shrinkAnswer (now (sheet .entry)) (now (setup .entry)) (now (journal .entry)) (now (out .entry)) .count) ⌝ }
     ensures { λ r. ⌜ now (out .exit) ≡ shrinkAnswer (now (sheet .entry)) (now (setup .entry)) (now (journal .entry)) (now (out .entry)) .buffer ⌝ }
 {
     let shrunk = shrink(sheet, setup, journal, out);

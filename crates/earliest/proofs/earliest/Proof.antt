@@ -15,7 +15,9 @@ write-plan-requires : tie.Need-write-plan-requires
 write-plan-requires c κs = let p = unrefused _ _ _ _ _ (c .before .before .before .earliest-refusal .ensures) (c .before .before .if1 .left) in (sheet-checked _ (p .sheet), (p .right, rw (c .before .per-day .ensures) (p .possible)))
 
 returns-2 : tie.Need-returns-2
-returns-2 c = gives-planned _ _ _ _ _ _ _ _ _ _ (c .before .before .before .before .before .before .earliest-refusal .ensures) (c .before .before .before .before .before .if1 .left) (c .before .before .before .before .per-day .ensures) (c .before .before .write-plan .ensures)
+returns-2 c =
+    let c4 = c .before .before .before .before in let c5 = c4 .before in let c6 = c5 .before in
+    gives-planned _ _ _ _ _ _ _ _ _ _ (c6 .earliest-refusal .ensures) (c5 .if1 .left) (c4 .per-day .ensures) (c .before .before .write-plan .ensures)
 
 pub earliest-spec : {M : Type 1} → statement M
 earliest-spec =

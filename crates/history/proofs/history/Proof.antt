@@ -41,38 +41,66 @@ returns-4 : tie.Need-returns-4
 returns-4 c =
     let h = sym (c .before .before .before .before .before .before .before .before .before .before .sheet-refusal .ensures) ∙ c .before .before .before .before .before .before .before .before .before .if1 .left in
     let k = sym (c .before .before .before .before .before .before .before .before .setup-refusal .ensures) ∙ c .before .before .before .before .before .before .before .if2 .left in
-    report-short _ _ _ _ _ h k _ (c .before .before .before .before .before .before .play-steps .ensures .1) (c .before .before .before .if3 .left) _ (omega (arith, c .before .before .count .ensures .is, c .before .if4 .taken)) (c .unplayed4 .ensures)
+    report-short _ _ _ _ _ h k _ (c .before .before .before .before .before .before .play-steps .ensures .1)
+    (c .before .before .before .if3 .left) _ (omega (arith, c .before .before .count .ensures .is, c .before .if4 .taken))
+    (c .unplayed4 .ensures)
 
 write-accepted-requires : tie.Need-write-accepted-requires
 write-accepted-requires c κs =
     let h = sym (c .before .before .before .before .before .before .before .before .before .before .sheet-refusal .ensures) ∙ c .before .before .before .before .before .before .before .before .before .if1 .left in
-    let k = sym (c .before .before .before .before .before .before .before .before .setup-refusal .ensures) ∙ c .before .before .before .before .before .before .before .if2 .left in
-    (fit _ _ h k, bytes-room _ _ _ (now (c .before .before .before .before .before .before .before .before .before .before .before .before .before .before .before .before .args .accepted)) _ (c .before .before .before .before .before .before .play-steps .ensures .1) (c .before .before .before .if3 .left))
+    let k = sym (c .before .before .before .before .before .before .before .before .setup-refusal .ensures) ∙ c .before .before .before .before .before .before .before .if2 .left in (
+      fit _ _ h k,
+      bytes-room _ _ _ (now (c .before .before .before .before .before .before .before .before .before .before .before .before
+          .before .before .before .before .args .accepted)) _ (c .before .before .before .before .before .before .play-steps .ensures .1)
+          (c .before .before .before .if3 .left),
+    )
 
 slice-aggregate-report : tie.Need-slice-aggregate-report
 slice-aggregate-report c =
-    part-length _ _ _ _ _ (c .before .before .before .before .before .before .before .before .before .before .play-steps .ensures .1) (c .before .before .before .before .before .before .before .if3 .left) _ (c .before .before .before .write-accepted .ensures)
+    part-length _ _ _ _ _ (c .before .before .before .before .before .before .before .before .before .before .play-steps .ensures .1)
+    (c .before .before .before .before .before .before .before .if3 .left) _ (c .before .before .before .write-accepted .ensures)
 
 holders-in-requires : tie.Need-holders-in-requires
 holders-in-requires c κs =
-    let h = sym (c .before .before .before .before .before .before .before .before .before .before .before .before .before .before .before .before .before .before .sheet-refusal .ensures) ∙ c .before .before .before .before .before .before .before .before .before .before .before .before .before .before .before .before .before .if1 .left in
-    let k = sym (c .before .before .before .before .before .before .before .before .before .before .before .before .before .before .before .before .setup-refusal .ensures) ∙ c .before .before .before .before .before .before .before .before .before .before .before .before .before .before .before .if2 .left in
+    let h = sym (c .before .before .before .before .before .before .before .before .before .before .before .before .before .before .before
+    .before .before .before .sheet-refusal .ensures) ∙ c .before .before .before .before .before .before .before .before .before .before
+    .before .before .before .before .before .before .before .if1 .left in
+    let k = sym (c .before .before .before .before .before .before .before .before .before .before .before .before .before .before .before
+    .before .setup-refusal .ensures) ∙ c .before .before .before .before .before .before .before .before .before .before .before .before
+    .before .before .before .if2 .left in
     fit _ _ h k .checked
 
 reported-holders-requires : tie.Need-reported-holders-requires
 reported-holders-requires c κs =
-    let h = sym (c .before .before .before .before .before .before .before .before .before .before .before .before .before .before .before .before .before .before .before .before .sheet-refusal .ensures) ∙ c .before .before .before .before .before .before .before .before .before .before .before .before .before .before .before .before .before .before .before .if1 .left in
-    let k = sym (c .before .before .before .before .before .before .before .before .before .before .before .before .before .before .before .before .before .before .setup-refusal .ensures) ∙ c .before .before .before .before .before .before .before .before .before .before .before .before .before .before .before .before .before .if2 .left in
+    let h = sym (c .before .before .before .before .before .before .before .before .before .before .before .before .before .before .before
+    .before .before .before .before .before .sheet-refusal .ensures) ∙
+    c .before .before .before .before .before .before .before .before .before .before .before .before .before .before .before .before
+    .before .before .before .if1 .left in
+    let k = sym (c .before .before .before .before .before .before .before .before .before .before .before .before .before .before .before
+    .before .before .before .setup-refusal .ensures) ∙ c .before .before .before .before .before .before .before .before .before .before
+    .before .before .before .before .before .before .before .if2 .left in
     (fit _ _ h k .checked .sized, search needs)
 
 returns-5 : tie.Need-returns-5
 returns-5 c =
-    let h = sym (c .before .before .before .before .before .before .before .before .before .before .before .before .before .before .before .before .before .before .before .before .before .sheet-refusal .ensures) ∙ c .before .before .before .before .before .before .before .before .before .before .before .before .before .before .before .before .before .before .before .before .if1 .left in
-    let k = sym (c .before .before .before .before .before .before .before .before .before .before .before .before .before .before .before .before .before .before .before .setup-refusal .ensures) ∙ c .before .before .before .before .before .before .before .before .before .before .before .before .before .before .before .before .before .before .if2 .left in
+    let h = sym (c .before .before .before .before .before .before .before .before .before .before .before .before .before .before .before
+    .before .before .before .before .before .before .sheet-refusal .ensures) ∙
+    c .before .before .before .before .before .before .before .before .before .before .before .before .before .before .before .before
+    .before .before .before .before .if1 .left in
+    let k = sym (c .before .before .before .before .before .before .before .before .before .before .before .before .before .before .before
+    .before .before .before .before .setup-refusal .ensures) ∙ c .before .before .before .before .before .before .before .before .before
+    .before .before .before .before .before .before .before .before .before .if2 .left in
     let p = c .before .before .before .before .before .before .before .before .before .before .before .before .before .before .before .before .before .play-steps .ensures in
     let n = c .before .before .before .before .before .before .before .before .before .before .before .before .before .count .ensures .is in
     let w = c .before .before .before .before .before .report .ensures in
-    played-promise _ _ _ _ _ h k _ (p .1) (c .before .before .before .before .before .before .before .before .before .before .before .before .before .before .if3 .left) (omega (arith, n, c .before .before .before .before .before .before .before .before .before .before .before .before .if4 .left)) _ _ _ _ _ _ (p .0) (c .before .before .before .before .before .before .before .before .before .before .write-accepted .ensures) (w .0) (w .1) (c .before .before .holders-in .ensures) (c .reported-holders .ensures)
+    played-promise _ _ _ _ _ h k _ (p .1) (c .before .before .before .before .before .before .before .before .before .before .before
+    .before .before .before .if3 .left) (omega (
+      arith,
+      n,
+      c .before .before .before .before .before .before .before .before .before
+          .before .before .before .if4 .left,
+    )) _ _ _ _ _ _ (p .0) (c .before .before .before .before .before .before .before .before .before
+    .before .write-accepted .ensures) (w .0) (w .1) (c .before .before .holders-in .ensures) (c .reported-holders .ensures)
 
 pub history-spec : {M : Type 1} → statement M
 history-spec =

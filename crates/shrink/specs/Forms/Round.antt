@@ -8,8 +8,9 @@ use lib.Dec.{eqb, ltb}
 use lib.ListN.{length, take}
 use Rattle.laws.specs.Booleans.{pick}
 use Rattle.position.specs.declared.Position.{Position}
-use Rattle.position.specs.Play.{FourBytes, journalBytes, step}
-use Rattle.shrink.specs.Shrink.{stillRefused}
+use Rattle.position.specs.Play.{FourBytes, journalSteps, journalBytes, step}
+use Rattle.position.specs.Answers.{Written, fitted}
+use Rattle.shrink.specs.Shrink.{stillRefused, shrunk}
 
 -- the step before these can go, tried from the position before it
 unfoldable pub goesAt : List ℕ → List ℕ → ℕ → Position → List FourBytes → Bool
@@ -41,3 +42,7 @@ roundAt s u number p (b ∷ after) =
 pub record Starts (row : List FourBytes) (bytes : List ℕ) (r : ℕ) : Type 0 where
   pub count : r ≡ length row
   pub front : take (4 * r) bytes ≡ journalBytes row
+
+-- the part that is left, where the buffer has room for it
+abbrev pub shrunkFitted : List ℕ → List ℕ → ℕ → List ℕ → List ℕ → Written
+shrunkFitted s u number row out = fitted (journalBytes (shrunk s u number (journalSteps row))) (length (shrunk s u number (journalSteps row))) out

@@ -21,7 +21,8 @@ limit-refusal-requires c κs =
 
 returns-3 : tie.Need-returns-3
 returns-3 c =
-    by-limits _ _ _ _ _ _ _ (c .before .before .before .before .before .sheet-refusal .ensures) (c .before .before .before .before .if1 .left) (c .before .before .before .setup-refusal .ensures) (c .before .before .if2 .left) (c .before .per-day .ensures) (c .limit-refusal .ensures)
+    let c3 = c .before .before .before in let c4 = c3 .before in let c5 = c4 .before in
+    by-limits _ _ _ _ _ _ _ (c5 .sheet-refusal .ensures) (c4 .if1 .left) (c3 .setup-refusal .ensures) (c .before .before .if2 .left) (c .before .per-day .ensures) (c .limit-refusal .ensures)
 
 pub field-refusal-spec : {M : Type 1} → statement M
 field-refusal-spec =

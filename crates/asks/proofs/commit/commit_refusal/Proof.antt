@@ -17,22 +17,34 @@ unfolding commitRun
 step-number-requires c κs = opened-fit _ _ _ _ _ (c .before .before .before .before .before .commit-run .ensures) (c .before .before .before .if1 .left)
 
 returns-3 : tie.Need-returns-3
-returns-3 c = by-step _ _ _ _ _ _ _ (c .before .before .before .before .before .before .before .commit-run .ensures) (c .before .before .before .before .before .if1 .left) (c .before .before .before .if2 .left) _ (c .before .step-number .ensures) (c .if3 .taken)
+returns-3 c = by-step _ _ _ _ _ _ _ (c .before .before .before .before .before .before .before .commit-run .ensures)
+    (c .before .before .before .before .before .if1 .left) (c .before .before .before .if2 .left) _ (c .before .step-number .ensures)
+    (c .if3 .taken)
 
 sub-if4 : tie.Need-sub-if4
-sub-if4 c = let a = c .before .before .before .before .before .before .before .before .before .before .before .before .args in run-stands (a .sheet .now) (a .setup .now) (a .step .now) (a .count) (a .buffer .now) (a .n) _ (c .before .before .before .before .before .before .before .commit-run .ensures) (c .before .before .before .before .before .if1 .left) .0
+sub-if4 c = let a = c .before .before .before .before .before .before .before .before .before .before .before .before .args in run-stands
+    (a .sheet .now) (a .setup .now) (a .step .now) (a .count) (a .buffer .now) (a .n) _
+    (c .before .before .before .before .before .before .before .commit-run .ensures) (c .before .before .before .before .before .if1 .left) .0
 
 returns-4 : tie.Need-returns-4
 returns-4 c =
     let a = c .before .before .before .before .before .before .before .before .before .before .before .before .before .args in
-    let w = run-stands (a .sheet .now) (a .setup .now) (a .step .now) (a .count) (a .buffer .now) (a .n) _ (c .before .before .before .before .before .before .before .before .commit-run .ensures) (c .before .before .before .before .before .before .if1 .left) in
-    by-room _ _ _ _ _ _ _ (c .before .before .before .before .before .before .before .before .commit-run .ensures) (c .before .before .before .before .before .before .if1 .left) (c .before .before .before .before .if2 .left) _ (c .before .before .step-number .ensures) (c .before .if3 .left) (omega (arith, c .if4 .taken, w .0))
+    let w = run-stands (a .sheet .now) (a .setup .now) (a .step .now) (a .count) (a .buffer .now) (a .n) _
+    (c .before .before .before .before .before .before .before .before .commit-run .ensures)
+    (c .before .before .before .before .before .before .if1 .left) in
+    by-room _ _ _ _ _ _ _ (c .before .before .before .before .before .before .before .before .commit-run .ensures)
+    (c .before .before .before .before .before .before .if1 .left) (c .before .before .before .before .if2 .left) _
+    (c .before .before .step-number .ensures) (c .before .if3 .left) (omega (arith, c .if4 .taken, w .0))
 
 returns-5 : tie.Need-returns-5
 returns-5 c =
     let a = c .before .before .before .before .before .before .before .before .before .before .before .before .before .args in
-    let w = run-stands (a .sheet .now) (a .setup .now) (a .step .now) (a .count) (a .buffer .now) (a .n) _ (c .before .before .before .before .before .before .before .before .commit-run .ensures) (c .before .before .before .before .before .before .if1 .left) in
-    by-none _ _ _ _ _ _ _ (c .before .before .before .before .before .before .before .before .commit-run .ensures) (c .before .before .before .before .before .before .if1 .left) (c .before .before .before .before .if2 .left) _ (c .before .before .step-number .ensures) (c .before .if3 .left) (omega (arith, c .if4 .left, w .0))
+    let w = run-stands (a .sheet .now) (a .setup .now) (a .step .now) (a .count) (a .buffer .now) (a .n) _
+    (c .before .before .before .before .before .before .before .before .commit-run .ensures)
+    (c .before .before .before .before .before .before .if1 .left) in
+    by-none _ _ _ _ _ _ _ (c .before .before .before .before .before .before .before .before .commit-run .ensures)
+    (c .before .before .before .before .before .before .if1 .left) (c .before .before .before .before .if2 .left) _
+    (c .before .before .step-number .ensures) (c .before .if3 .left) (omega (arith, c .if4 .left, w .0))
 
 pub commit-refusal-spec : {M : Type 1} → statement M
 commit-refusal-spec =

@@ -20,10 +20,14 @@ listed-at-requires : tie.Need-listed-at-requires Inv-loop μ-loop
 listed-at-requires c κs = omega (arith, c .loop-test .taken)
 
 returns : tie.Need-returns Inv-loop μ-loop
-returns c = left-stopped behind latest _ _ _ _ _ _ (c .before .before .before .before .loop .inv .1) (omega (arith, c .before .before .before .loop-test .taken)) (c .before .before .listed-at .ensures) (c .before .rises .ensures) (c .if1 .taken)
+returns c =
+    let c3 = c .before .before .before in let c4 = c3 .before in
+    left-stopped behind latest _ _ _ _ _ _ (c4 .loop .inv .1) (omega (arith, c3 .loop-test .taken)) (c .before .before .listed-at .ensures) (c .before .rises .ensures) (c .if1 .taken)
 
 loop-again : tie.Need-loop-again Inv-loop μ-loop
-loop-again c = (omega (arith, c .before .before .before .loop-test .taken), left-on behind latest _ _ _ _ _ _ _ (c .before .before .before .before .loop .inv .1) (omega (arith, c .before .before .before .loop-test .taken)) (c .before .before .listed-at .ensures) (c .before .rises .ensures) (c .if1 .left) refl)
+loop-again c =
+    let c3 = c .before .before .before in let c4 = c3 .before in
+    (omega (arith, c3 .loop-test .taken), left-on behind latest _ _ _ _ _ _ _ (c4 .loop .inv .1) (omega (arith, c3 .loop-test .taken)) (c .before .before .listed-at .ensures) (c .before .rises .ensures) (c .if1 .left) refl)
 
 returns-2 : tie.Need-returns-2 Inv-loop μ-loop
 returns-2 c = left-ended behind latest _ _ _ _ (c .before .loop .inv .1) (omega (arith, c .loop-test .left))

@@ -22,10 +22,14 @@ listed-at-requires : tie.Need-listed-at-requires Inv-loop μ-loop
 listed-at-requires c κs = omega (arith, c .loop-test .taken)
 
 returns-2 : tie.Need-returns-2 Inv-loop μ-loop
-returns-2 c = left-stopped (named _) unchanged _ _ _ _ _ _ (c .before .before .before .before .loop .inv .1) (omega (arith, c .before .before .before .loop-test .taken)) (c .before .before .listed-at .ensures) (c .before .entry-named .ensures) (c .if2 .taken)
+returns-2 c =
+    let c3 = c .before .before .before in let c4 = c3 .before in
+    left-stopped (named _) unchanged _ _ _ _ _ _ (c4 .loop .inv .1) (omega (arith, c3 .loop-test .taken)) (c .before .before .listed-at .ensures) (c .before .entry-named .ensures) (c .if2 .taken)
 
 loop-again : tie.Need-loop-again Inv-loop μ-loop
-loop-again c = (omega (arith, c .before .before .before .loop-test .taken), left-on (named _) unchanged _ _ _ _ _ _ _ (c .before .before .before .before .loop .inv .1) (omega (arith, c .before .before .before .loop-test .taken)) (c .before .before .listed-at .ensures) (c .before .entry-named .ensures) (c .if2 .left) refl)
+loop-again c =
+    let c3 = c .before .before .before in let c4 = c3 .before in
+    (omega (arith, c3 .loop-test .taken), left-on (named _) unchanged _ _ _ _ _ _ _ (c4 .loop .inv .1) (omega (arith, c3 .loop-test .taken)) (c .before .before .listed-at .ensures) (c .before .entry-named .ensures) (c .if2 .left) refl)
 
 returns-3 : tie.Need-returns-3 Inv-loop μ-loop
 returns-3 c = left-ended (named _) unchanged _ _ _ _ (c .before .loop .inv .1) (omega (arith, c .loop-test .left))

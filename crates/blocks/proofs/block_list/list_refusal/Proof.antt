@@ -20,11 +20,18 @@ ledger-accepts-requires c κs = (c .before .before .before .before .before .befo
 
 returns-3 : tie.Need-returns-3
 unfolding listTests
-returns-3 c = passes 29 _ _ _ _ (c .before .before .before .before .before .before .fields-named .ensures) (c .before .before .before .before .before .if1 .left) (passes 30 _ _ _ _ (c .before .before .before .before .entries-rise .ensures) (c .before .before .before .if2 .left) (fails 31 _ _ _ (ledger-by _ _ _ _ _ (c .before .before .per-day .ensures) (c .before .ledger-accepts .ensures)) (c .if3 .taken)))
+returns-3 c =
+    let c3 = c .before .before .before in let c4 = c3 .before in let c5 = c4 .before in let c6 = c5 .before in
+    passes 29 _ _ _ _ (c6 .fields-named .ensures) (c5 .if1 .left) (passes 30 _ _ _ _ (c4 .entries-rise .ensures) (c3 .if2 .left)
+    (fails 31 _ _ _ (ledger-by _ _ _ _ _ (c .before .before .per-day .ensures) (c .before .ledger-accepts .ensures)) (c .if3 .taken)))
 
 returns-4 : tie.Need-returns-4
 unfolding listTests
-returns-4 c = passes 29 _ _ _ _ (c .before .before .before .before .before .before .fields-named .ensures) (c .before .before .before .before .before .if1 .left) (passes 30 _ _ _ _ (c .before .before .before .before .entries-rise .ensures) (c .before .before .before .if2 .left) (passes 31 0 _ _ _ (ledger-by _ _ _ _ _ (c .before .before .per-day .ensures) (c .before .ledger-accepts .ensures)) (c .if3 .left) none-left))
+returns-4 c =
+    let c3 = c .before .before .before in let c4 = c3 .before in let c5 = c4 .before in let c6 = c5 .before in
+    passes 29 _ _ _ _ (c6 .fields-named .ensures) (c5 .if1 .left) (passes 30 _ _ _ _ (c4 .entries-rise .ensures) (c3 .if2 .left)
+    (passes 31 0 _ _ _ (ledger-by _ _ _ _ _ (c .before .before .per-day .ensures) (c .before .ledger-accepts .ensures)) (c .if3 .left)
+    none-left))
 
 pub list-refusal-spec : {M : Type 1} → statement M
 list-refusal-spec =

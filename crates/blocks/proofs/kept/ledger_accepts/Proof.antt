@@ -22,28 +22,58 @@ listed-at-requires : tie.Need-listed-at-requires Inv-loop μ-loop
 listed-at-requires c κs = omega (arith, c .loop-test .taken)
 
 coin-of-requires : tie.Need-coin-of-requires Inv-loop μ-loop
-coin-of-requires c κs = (c .before .before .before .before .before .before .pre .0 .sized, turn-low _ _ (c .before .before .before .before .before .before .pre .0) _ _ (c .before .before .before .loop .inv .2) (omega (arith, c .before .before .loop-test .taken)) (c .before .listed-at .ensures) _ (c .wide .ensures .is))
+coin-of-requires c κs =
+    let c3 = c .before .before .before in let c6 = c3 .before .before .before in
+    (c6 .pre .0 .sized, turn-low _ _ (c6 .pre .0) _ _ (c3 .loop .inv .2) (omega (arith, c .before .before .loop-test .taken)) (c .before .listed-at .ensures) _ (c .wide .ensures .is))
 
 mul-last : tie.Need-mul-last Inv-loop μ-loop
-mul-last c = let b = turn-coin _ _ (c .before .before .before .before .before .before .before .pre .0) _ _ (c .before .before .before .before .loop .inv .2) (omega (arith, c .before .before .before .loop-test .taken)) (c .before .before .listed-at .ensures) _ (c .before .wide .ensures .is) _ (c .coin-of .ensures) in search needs
+mul-last c =
+    let c3 = c .before .before .before in let c4 = c3 .before in let c7 = c4 .before .before .before in
+    let b = turn-coin _ _ (c7 .pre .0) _ _ (c4 .loop .inv .2) (omega (arith, c3 .loop-test .taken)) (c .before .before .listed-at .ensures) _ (c .before .wide .ensures .is) _ (c .coin-of .ensures) in search needs
 
 array-copy-out-last : tie.Need-array-copy-out-last Inv-loop μ-loop
-array-copy-out-last c = let b = turn-coin _ _ (c .before .before .before .before .before .before .before .pre .0) _ _ (c .before .before .before .before .loop .inv .2) (omega (arith, c .before .before .before .loop-test .taken)) (c .before .before .listed-at .ensures) _ (c .before .wide .ensures .is) _ (c .coin-of .ensures) in search needs
+array-copy-out-last c =
+    let c3 = c .before .before .before in let c4 = c3 .before in let c7 = c4 .before .before .before in
+    let b = turn-coin _ _ (c7 .pre .0) _ _ (c4 .loop .inv .2) (omega (arith, c3 .loop-test .taken)) (c .before .before .listed-at .ensures) _ (c .before .wide .ensures .is) _ (c .coin-of .ensures) in search needs
 
 fits-requires : tie.Need-fits-requires Inv-loop μ-loop
-fits-requires c κs = (c .before .before .before .before .before .before .before .before .pre .0, named-low _ _ _ _ (c .before .before .before .before .before .loop .inv .2) (omega (arith, c .before .before .before .before .loop-test .taken)) (c .before .before .before .listed-at .ensures))
+fits-requires c κs =
+    let c3 = c .before .before .before in let c4 = c3 .before in let c5 = c4 .before in let c8 = c5 .before .before .before in
+    (c8 .pre .0, named-low _ _ _ _ (c5 .loop .inv .2) (omega (arith, c4 .loop-test .taken)) (c3 .listed-at .ensures))
 
 returns : tie.Need-returns Inv-loop μ-loop
-returns c = left-stopped (right _ _) (next _) _ _ _ _ _ _ (c .before .before .before .before .before .before .before .loop .inv .3) (omega (arith, c .before .before .before .before .before .before .loop-test .taken)) (c .before .before .before .before .before .listed-at .ensures) (turn-right _ _ _ _ _ _ _ (c .before .before .before .before .wide .ensures .is) (c .before .before .before .coin-of .ensures) (c .before .fits2 .ensures)) (c .if1 .taken)
+returns c =
+    let c3 = c .before .before .before in let c4 = c3 .before in let c5 = c4 .before in let c6 = c5 .before in let c7 = c6 .before in
+    left-stopped (right _ _) (next _) _ _ _ _ _ _ (c7 .loop .inv .3) (omega (arith, c6 .loop-test .taken)) (c5 .listed-at .ensures)
+    (turn-right _ _ _ _ _ _ _ (c4 .wide .ensures .is) (c3 .coin-of .ensures) (c .before .fits2 .ensures)) (c .if1 .taken)
 
 mul-kept : tie.Need-mul-kept Inv-loop μ-loop
-mul-kept c = let b = turn-coin _ _ (c .before .before .before .before .before .before .before .before .before .before .pre .0) _ _ (c .before .before .before .before .before .before .before .loop .inv .2) (omega (arith, c .before .before .before .before .before .before .loop-test .taken)) (c .before .before .before .before .before .listed-at .ensures) _ (c .before .before .before .before .wide .ensures .is) _ (c .before .before .before .coin-of .ensures) in search needs
+mul-kept c =
+    let c3 = c .before .before .before in let c4 = c3 .before in let c5 = c4 .before in let c6 = c5 .before in let c7 = c6 .before in
+    let c10 = c7 .before .before .before in
+    let b = turn-coin _ _ (c10 .pre .0) _ _ (c7 .loop .inv .2) (omega (arith, c6 .loop-test .taken)) (c5 .listed-at .ensures) _ (c4 .wide .ensures .is) _ (c3 .coin-of .ensures) in search needs
 
 array-set-from-kept : tie.Need-array-set-from-kept Inv-loop μ-loop
-array-set-from-kept c = let b = turn-coin _ _ (c .before .before .before .before .before .before .before .before .before .before .pre .0) _ _ (c .before .before .before .before .before .before .before .loop .inv .2) (omega (arith, c .before .before .before .before .before .before .loop-test .taken)) (c .before .before .before .before .before .listed-at .ensures) _ (c .before .before .before .before .wide .ensures .is) _ (c .before .before .before .coin-of .ensures) in search needs
+array-set-from-kept c =
+    let c3 = c .before .before .before in let c4 = c3 .before in let c5 = c4 .before in let c6 = c5 .before in let c7 = c6 .before in
+    let c10 = c7 .before .before .before in
+    let b = turn-coin _ _ (c10 .pre .0) _ _ (c7 .loop .inv .2) (omega (arith, c6 .loop-test .taken)) (c5 .listed-at .ensures) _ (c4 .wide .ensures .is) _ (c3 .coin-of .ensures) in search needs
 
 loop-again : tie.Need-loop-again Inv-loop μ-loop
-loop-again c = (omega (arith, c .before .before .before .before .before .before .loop-test .taken), simp (length-set) (c .before .before .before .before .before .before .before .loop .inv .1), named-next _ _ _ (c .before .before .before .before .before .before .before .loop .inv .2) (omega (arith, c .before .before .before .before .before .before .loop-test .taken)), left-on (right _ _) (next _) _ _ _ _ _ _ _ (c .before .before .before .before .before .before .before .loop .inv .3) (omega (arith, c .before .before .before .before .before .before .loop-test .taken)) (c .before .before .before .before .before .listed-at .ensures) (turn-right _ _ _ _ _ _ _ (c .before .before .before .before .wide .ensures .is) (c .before .before .before .coin-of .ensures) (c .before .fits2 .ensures)) (c .if1 .left) (turn-keeps _ _ _ _ _ _ _ (rw (c .before .before .before .before .before .before .before .loop .inv .1) (turn-coin _ _ (c .before .before .before .before .before .before .before .before .before .before .pre .0) _ _ (c .before .before .before .before .before .before .before .loop .inv .2) (omega (arith, c .before .before .before .before .before .before .loop-test .taken)) (c .before .before .before .before .before .listed-at .ensures) _ (c .before .before .before .before .wide .ensures .is) _ (c .before .before .before .coin-of .ensures))) (c .before .before .before .before .wide .ensures .is) (c .before .before .before .coin-of .ensures) (c .before .fits2 .ensures) (c .if1 .left)))
+loop-again c =
+    let c3 = c .before .before .before in let c4 = c3 .before in let c5 = c4 .before in let c6 = c5 .before in let c7 = c6 .before in
+    let c10 = c7 .before .before .before in (
+      omega (arith, c6 .loop-test .taken),
+      simp (length-set) (c7 .loop .inv .1),
+      named-next _ _ _ (c7 .loop .inv .2)
+          (omega (arith, c6 .loop-test .taken)),
+      left-on (right _ _) (next _) _ _ _ _ _ _ _ (c7 .loop .inv .3)
+          (omega (arith, c6 .loop-test .taken)) (c5 .listed-at .ensures) (turn-right _ _ _ _ _ _ _ (c4 .wide .ensures .is)
+          (c3 .coin-of .ensures) (c .before .fits2 .ensures)) (c .if1 .left)
+          (turn-keeps _ _ _ _ _ _ _ (rw (c7 .loop .inv .1) (turn-coin _ _ (c10 .pre .0) _ _ (c7 .loop .inv .2)
+          (omega (arith, c6 .loop-test .taken)) (c5 .listed-at .ensures) _ (c4 .wide .ensures .is) _ (c3 .coin-of .ensures)))
+          (c4 .wide .ensures .is) (c3 .coin-of .ensures) (c .before .fits2 .ensures) (c .if1 .left)),
+    )
 
 returns-2 : tie.Need-returns-2 Inv-loop μ-loop
 returns-2 c = left-ended (right _ _) (next _) _ _ _ _ (c .before .loop .inv .3) (omega (arith, c .loop-test .left))

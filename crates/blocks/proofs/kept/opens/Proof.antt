@@ -5,7 +5,9 @@ use Rattle.blocks.proofs.kept.opens.Statement.{statement}
 use Rattle.blocks.proofs.kept.opens.Tie as tie
 
 returns : tie.Need-returns
-returns c = opens-right _ _ (c .before .before .before .before .before .before .pre .0) _ _ (c .before .before .before .before .before .before .pre .1) (c .before .before .before .before .wide .ensures .is) _ _ _ (c .before .before .before .opening .ensures) (c .before .before .if1 .taken) (c .before .lock-height .ensures .is) (c .wide2 .ensures .0)
+returns c =
+    let c3 = c .before .before .before in let c4 = c3 .before in let c6 = c4 .before .before in
+    opens-right _ _ (c6 .pre .0) _ _ (c6 .pre .1) (c4 .wide .ensures .is) _ _ _ (c3 .opening .ensures) (c .before .before .if1 .taken) (c .before .lock-height .ensures .is) (c .wide2 .ensures .0)
 
 returns-2 : tie.Need-returns-2
 returns-2 c = opens-wrong _ _ (c .before .before .before .before .pre .0) _ _ (c .before .before .before .before .pre .1) (c .before .before .wide .ensures .is) _ (c .before .opening .ensures) (c .if1 .left)

@@ -16,7 +16,8 @@ returns-2 c =
 returns-3 : tie.Need-returns-3
 unfolding atHandIn
 returns-3 c =
-    rw (sym (c .before .before .before .before .before .is-contract .ensures) ∙ c .before .before .before .before .if1 .left, sym (c .before .before .before .is-payee .ensures) ∙ not-false _ (c .before .before .if2 .left), ← (c .before .sender2 .ensures)) (c .signed2 .ensures)
+    let c3 = c .before .before .before in let c4 = c3 .before in let c5 = c4 .before in
+    rw (sym (c5 .is-contract .ensures) ∙ c4 .if1 .left, sym (c3 .is-payee .ensures) ∙ not-false _ (c .before .before .if2 .left), ← (c .before .sender2 .ensures)) (c .signed2 .ensures)
 
 pub at-hand-spec : {M : Type 1} → statement M
 at-hand-spec =

@@ -39,8 +39,12 @@ write-pair-requires c κs = eight-room _ _ _ _ _ _ _ (c .before .before .before 
 
 add-start-2 : tie.Need-add-start-2 Inv-loop μ-loop
 add-start-2 c =
-    let l = c .before .before .before .before .before .before .before .loop in
-    let h = stands _ (c .before .before .before .before .before .before .before .before .before .before .before .before .pre .1 .0) _ _ _ (omega (arith, c .before .before .before .before .before .before .loop-test .taken, c .before .before .before .before .before .before .before .before .swaps .ensures .is)) (l .inv .1) (c .before .before .before .before .before .length-of .ensures .is) in
+    let c5 = c .before .before .before .before .before in let c6 = c .before .before .before .before .before .before in
+    let c7 = c .before .before .before .before .before .before .before in
+    let c8 = c .before .before .before .before .before .before .before .before in
+    let c12 = c .before .before .before .before .before .before .before .before .before .before .before .before in
+    let l = c7 .loop in
+    let h = stands _ (c12 .pre .1 .0) _ _ _ (omega (arith, c6 .loop-test .taken, c8 .swaps .ensures .is)) (l .inv .1) (c5 .length-of .ensures .is) in
     omega (arith, h .journal-ends)
 
 add-at : tie.Need-add-at Inv-loop μ-loop
@@ -48,8 +52,10 @@ add-at c = omega (arith, eight-end _ _ _ _ _ _ _ (c .before .before .before .bef
 
 loop-again : tie.Need-loop-again Inv-loop μ-loop
 loop-again c =
-    let l = c .before .before .before .before .before .before .before .loop in
-    (eight-more _ _ _ _ _ _ _ _ _ (l .inv .0) (c .before .before .before .before .before .before .loop-test .taken) (c .before .before .before .before .swap-ran .ensures) (c .before .before .write-pair .ensures), start-next _ _ _ _ (l .inv .1) (c .before .before .before .before .before .length-of .ensures .is))
+    let c4 = c .before .before .before .before in let c5 = c .before .before .before .before .before in
+    let c6 = c .before .before .before .before .before .before in let c7 = c .before .before .before .before .before .before .before in
+    let l = c7 .loop in
+    (eight-more _ _ _ _ _ _ _ _ _ (l .inv .0) (c6 .loop-test .taken) (c4 .swap-ran .ensures) (c .before .before .write-pair .ensures), start-next _ _ _ _ (l .inv .1) (c5 .length-of .ensures .is))
 
 same-length : tie.Need-same-length Inv-loop μ-loop
 same-length c = c .before .loop .inv .0 .wrote .long

@@ -17,7 +17,9 @@ lengths-sum-requires : tie.Need-lengths-sum-requires
 lengths-sum-requires c κs = right-arrays _ _ (c .before .before .swaps .ensures .is) (omega (arith, c .before .before .before .if1 .left)) (omega (arith, c .before .if2 .left)) (omega (arith, c .if3 .left))
 
 returns-4 : tie.Need-returns-4
-returns-4 c = right-sum _ _ (c .before .before .before .swaps .ensures .is) (omega (arith, c .before .before .before .before .if1 .left)) _ (omega (arith, c .before .before .if2 .left)) (omega (arith, c .before .if3 .left)) (c .lengths-sum .ensures)
+returns-4 c =
+    let c3 = c .before .before .before in let c4 = c .before .before .before .before in
+    right-sum _ _ (c3 .swaps .ensures .is) (omega (arith, c4 .if1 .left)) _ (omega (arith, c .before .before .if2 .left)) (omega (arith, c .before .if3 .left)) (c .lengths-sum .ensures)
 
 pub bundle-right-spec : {M : Type 1} → statement M
 bundle-right-spec =

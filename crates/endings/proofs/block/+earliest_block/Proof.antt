@@ -54,6 +54,10 @@ pub +earliest-block-spec : {M : Type 1} → statement M
     earliest-block.Post
     (λ c κs. search needs) (λ c κs. search needs)
     (λ c κs. let p = c .before .before .before .before .pre .1 in (p .0, (p .1, omega (arith, c .earliest-block .ensures .small, c .before .if1 .taken))))
-    (λ c. record { is = block-below _ _ _ _ (c .before .before .before .parent .ensures .is) _ _ (c .before .before .if1 .taken) (c .before .earliest-block .ensures .is) (c .earliest-from .ensures .is); small = c .earliest-from .ensures .small })
+    (λ c. record {
+      is = block-below _ _ _ _ (c .before .before .before .parent .ensures .is) _ _ (c .before .before .if1 .taken)
+          (c .before .earliest-block .ensures .is) (c .earliest-from .ensures .is);
+      small = c .earliest-from .ensures .small;
+    })
     (earliest-block-earliest-from-requires-2 t)
     (λ c. record { is = block-first _ _ _ _ (c .before .before .parent .ensures .is) _ (c .before .if1 .left) (c .earliest-from2 .ensures .is); small = c .earliest-from2 .ensures .small })

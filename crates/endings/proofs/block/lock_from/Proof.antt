@@ -8,13 +8,17 @@ returns : tie.Need-returns
 returns c = record { is = lock-none _ _ _ _ _ (c .before .lock-type .ensures) (c .if1 .taken); small = search needs }
 
 returns-2 : tie.Need-returns-2
-returns-2 c = record { is = lock-days _ _ _ _ _ (c .before .before .before .lock-type .ensures) _ (c .before .lock-blocks .ensures .is) (c .before .before .if1 .left) (c .if2 .taken); small = omega (arith, c .before .lock-blocks .ensures .small) }
+returns-2 c =
+    let c3 = c .before .before .before in
+    record { is = lock-days _ _ _ _ _ (c3 .lock-type .ensures) _ (c .before .lock-blocks .ensures .is) (c .before .before .if1 .left) (c .if2 .taken); small = omega (arith, c .before .lock-blocks .ensures .small) }
 
 add-result : tie.Need-add-result
 add-result c = let h = c .before .lock-blocks .ensures .small in let g = c .before .before .before .before .before .pre .1 .1 in search needs
 
 returns-3 : tie.Need-returns-3
-returns-3 c = record { is = lock-since _ _ _ _ _ (c .before .before .before .lock-type .ensures) _ (c .before .lock-blocks .ensures .is) (c .before .before .if1 .left) (c .if2 .left); small = omega (arith, c .before .lock-blocks .ensures .small) }
+returns-3 c =
+    let c3 = c .before .before .before in
+    record { is = lock-since _ _ _ _ _ (c3 .lock-type .ensures) _ (c .before .lock-blocks .ensures .is) (c .before .before .if1 .left) (c .if2 .left); small = omega (arith, c .before .lock-blocks .ensures .small) }
 
 pub lock-from-spec : {M : Type 1} → statement M
 lock-from-spec =

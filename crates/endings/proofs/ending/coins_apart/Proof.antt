@@ -11,10 +11,14 @@ returns-2 : tie.Need-returns-2
 returns-2 c = apart-second _ _ _ _ _ (c .before .before .before .has .ensures) _ (c .before .has2 .ensures) (c .before .before .if1 .left) (c .if2 .taken)
 
 returns-3 : tie.Need-returns-3
-returns-3 c = apart-coins _ _ _ _ _ (c .before .before .before .before .before .before .has .ensures) _ (c .before .before .before .before .has2 .ensures) (c .before .before .before .before .before .if1 .left) _ _ (c .before .before .coin-of .ensures) (c .before .coin-of2 .ensures) (c .before .before .before .if2 .left) (c .if3 .taken)
+returns-3 c =
+    let c3 = c .before .before .before in let c4 = c3 .before in let c5 = c4 .before in let c6 = c5 .before in
+    apart-coins _ _ _ _ _ (c6 .has .ensures) _ (c4 .has2 .ensures) (c5 .if1 .left) _ _ (c .before .before .coin-of .ensures) (c .before .coin-of2 .ensures) (c3 .if2 .left) (c .if3 .taken)
 
 returns-4 : tie.Need-returns-4
-returns-4 c = apart-same _ _ _ _ _ (c .before .before .before .before .before .before .has .ensures) _ (c .before .before .before .before .has2 .ensures) (c .before .before .before .before .before .if1 .left) _ _ (c .before .before .coin-of .ensures) (c .before .coin-of2 .ensures) (c .before .before .before .if2 .left) (c .if3 .left)
+returns-4 c =
+    let c3 = c .before .before .before in let c4 = c3 .before in let c5 = c4 .before in let c6 = c5 .before in
+    apart-same _ _ _ _ _ (c6 .has .ensures) _ (c4 .has2 .ensures) (c5 .if1 .left) _ _ (c .before .before .coin-of .ensures) (c .before .coin-of2 .ensures) (c3 .if2 .left) (c .if3 .left)
 
 pub coins-apart-spec : {M : Type 1} → statement M
 coins-apart-spec =

@@ -12,11 +12,15 @@ returns c = fails 33 _ _ _ (c .before .ending-right .ensures) (c .if1 .taken)
 
 returns-2 : tie.Need-returns-2
 unfolding endingTests
-returns-2 c = passes 33 _ _ _ _ (c .before .before .before .before .ending-right .ensures) (c .before .before .before .if1 .left) (fails 34 _ _ _ (possible-by _ _ _ _ _ (c .before .before .per-day .ensures) (c .before .is-possible .ensures)) (c .if2 .taken))
+returns-2 c =
+    let c3 = c .before .before .before in let c4 = c3 .before in
+    passes 33 _ _ _ _ (c4 .ending-right .ensures) (c3 .if1 .left) (fails 34 _ _ _ (possible-by _ _ _ _ _ (c .before .before .per-day .ensures) (c .before .is-possible .ensures)) (c .if2 .taken))
 
 returns-3 : tie.Need-returns-3
 unfolding endingTests
-returns-3 c = passes 33 _ _ _ _ (c .before .before .before .before .ending-right .ensures) (c .before .before .before .if1 .left) (passes 34 0 _ _ _ (possible-by _ _ _ _ _ (c .before .before .per-day .ensures) (c .before .is-possible .ensures)) (c .if2 .left) none-left)
+returns-3 c =
+    let c3 = c .before .before .before in let c4 = c3 .before in
+    passes 33 _ _ _ _ (c4 .ending-right .ensures) (c3 .if1 .left) (passes 34 0 _ _ _ (possible-by _ _ _ _ _ (c .before .before .per-day .ensures) (c .before .is-possible .ensures)) (c .if2 .left) none-left)
 
 pub ending-refusal-spec : {M : Type 1} → statement M
 ending-refusal-spec =

@@ -8,13 +8,19 @@ returns : tie.Need-returns
 returns c = right-outside _ _ _ _ (mask-by _ _ _ _ (c .before .before .count .ensures .is) (c .before .mask-within .ensures)) (c .if1 .taken)
 
 returns-2 : tie.Need-returns-2
-returns-2 c = right-short _ _ _ _ (mask-by _ _ _ _ (c .before .before .before .before .count .ensures .is) (c .before .before .before .mask-within .ensures)) _ (ones-by _ _ _ _ (c .before .before .before .before .count .ensures .is) (c .before .ones-below .ensures .is)) (c .before .before .if1 .left) (c .if2 .taken)
+returns-2 c =
+    let c3 = c .before .before .before in let c4 = c3 .before in
+    right-short _ _ _ _ (mask-by _ _ _ _ (c4 .count .ensures .is) (c3 .mask-within .ensures)) _ (ones-by _ _ _ _ (c4 .count .ensures .is) (c .before .ones-below .ensures .is)) (c .before .before .if1 .left) (c .if2 .taken)
 
 all-named-requires : tie.Need-all-named-requires
 all-named-requires c κs = (c .before .before .before .before .before .before .before .pre, size-by _ _ _ _ _ (c .before .before .before .before .count .ensures .is) (c .before .ones-below .ensures .is) (c .if2 .left))
 
 returns-3 : tie.Need-returns-3
-returns-3 c = right-all _ _ _ _ (mask-by _ _ _ _ (c .before .before .before .before .before .count .ensures .is) (c .before .before .before .before .mask-within .ensures)) _ (ones-by _ _ _ _ (c .before .before .before .before .before .count .ensures .is) (c .before .before .ones-below .ensures .is)) (c .before .before .before .if1 .left) _ (c .before .if2 .left) (c .all-named .ensures)
+returns-3 c =
+    let c3 = c .before .before .before in let c4 = c3 .before in let c5 = c4 .before in
+    right-all _ _ _ _ (mask-by _ _ _ _ (c5 .count .ensures .is) (c4 .mask-within .ensures)) _
+    (ones-by _ _ _ _ (c5 .count .ensures .is) (c .before .before .ones-below .ensures .is)) (c3 .if1 .left) _ (c .before .if2 .left)
+    (c .all-named .ensures)
 
 pub ending-right-spec : {M : Type 1} → statement M
 ending-right-spec =

@@ -5,7 +5,9 @@ use Rattle.endings.proofs.planned.leads_to.Statement.{statement}
 use Rattle.endings.proofs.planned.leads_to.Tie as tie
 
 returns : tie.Need-returns
-returns c = simp (← (c .before .before .before .has .ensures), c .before .before .if1 .taken) (c .has2 .ensures ∙ rw (c .before .line-of .ensures) (line-bit _ _ _ (omega (arith, c .before .before .before .before .before .pre .0 .few, c .before .before .before .before .before .pre .1 .1)) (omega (arith, c .before .before .before .before .before .pre .0 .few, c .before .before .before .before .before .pre .1 .0))))
+returns c =
+    let c3 = c .before .before .before in let c5 = c3 .before .before in
+    simp (← (c3 .has .ensures), c .before .before .if1 .taken) (c .has2 .ensures ∙ rw (c .before .line-of .ensures) (line-bit _ _ _ (omega (arith, c5 .pre .0 .few, c5 .pre .1 .1)) (omega (arith, c5 .pre .0 .few, c5 .pre .1 .0))))
 
 returns-2 : tie.Need-returns-2
 returns-2 c = simp (← (c .before .has .ensures), c .if1 .left)

@@ -34,7 +34,9 @@ open-sets-requires-4 c κs =
     (q, (c .before .before .before .before .before .view .ensures, (c .before .before .before .before .outlook .ensures, c .before .before .before .any-owed .ensures)))
 
 returns : tie.Need-returns
-returns c = gives-sets _ _ _ _ _ _ _ _ _ _ _ (c .before .before .before .before .before .before .before .open-sets .ensures) (c .before .before .before .before .before .before .open-sets2 .ensures) (c .before .before .before .before .before .open-sets3 .ensures) (c .before .before .before .before .open-sets4 .ensures) (c .before .before .write-fitting .ensures)
+returns c = gives-sets _ _ _ _ _ _ _ _ _ _ _ (c .before .before .before .before .before .before .before .open-sets .ensures)
+    (c .before .before .before .before .before .before .open-sets2 .ensures) (c .before .before .before .before .before .open-sets3 .ensures)
+    (c .before .before .before .before .open-sets4 .ensures) (c .before .before .write-fitting .ensures)
 
 pub write-list-spec : {M : Type 1} → statement M
 write-list-spec =

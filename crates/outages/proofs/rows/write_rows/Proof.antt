@@ -35,8 +35,18 @@ write-at-requires c κs =
     let i = c .before .before .before .before .before .loop in
     let m = c .before .before .before .before .loop-test .taken in
     let t : i .t < count (k .args .sheet .now) = omega (arith, m, c .before .before .before .before .before .before .before .before .before .before .before .count .ensures .is) in
-    let l = row-length (k .args .sheet .now) (k .args .setup .now) (k .args .t1) (k .args .blocks) (i .t) in
-    (k .pre .0, (t, (above-small _ _ _ (k .pre .0 .checked) _ t _ _ (c .before .before .before .before .before .before .before .before .before .before .per-day .ensures) (c .before .before .before .before .before .before .before .soonest-blocks .ensures), omega (arith, l, turn-room _ _ _ _ _ _ (i .inv) m))))
+    let l = row-length (k .args .sheet .now) (k .args .setup .now) (k .args .t1) (k .args .blocks) (i .t) in (
+      k .pre .0,
+      (
+        t,
+        (
+          above-small _ _ _ (k .pre .0 .checked) _ t _ _ (c .before .before .before .before .before .before .before .before
+              .before .before .per-day .ensures) (c .before .before .before .before .before .before .before .soonest-blocks .ensures),
+          omega
+              (arith, l, turn-room _ _ _ _ _ _ (i .inv) m),
+        ),
+      ),
+    )
 
 add-at : tie.Need-add-at Inv-loop μ-loop
 add-at c =
@@ -53,8 +63,15 @@ loop-again c =
     let t : i .t < count (k .args .sheet .now) = omega (arith, m, c .before .before .before .before .before .before .before .before .before .before .before .before .before .before .count .ensures .is) in
     let n : length (k .args .t1 .slots) ≡ 32 = search (length-of-map, k .good) in
     let written =
-    row-right (k .args .sheet .now) (k .args .setup .now) (k .args .t1) (k .pre .0 .checked) (i .t) t _ _ (c .before .before .before .before .before .before .before .before .before .before .before .before .before .per-day .ensures) (c .before .before .before .before .before .before .before .before .before .before .soonest-blocks .ensures) _ _ _ (c .before .before .before .before .block-above .result) (k .args .blocks) n
-    (c .before .before .before .before .before .before .before .before .before .before .before .before .view .ensures) (c .before .before .before .before .before .before .before .before .before .before .before .conflicts-of .ensures) (c .before .before .before .before .before .before .before .before .before .lines .ensures) (rw (← (c .before .before .before .before .before .before .slot-above .ensures .0)) (c .before .before .before .before .block-above .ensures)) in
+    row-right (k .args .sheet .now) (k .args .setup .now) (k .args .t1) (k .pre .0 .checked) (i .t) t _ _
+    (c .before .before .before .before .before .before .before .before .before .before .before .before .before .per-day .ensures)
+    (c .before .before .before .before .before .before .before .before .before .before .soonest-blocks .ensures) _ _ _
+    (c .before .before .before .before .block-above .result) (k .args .blocks) n
+    (c .before .before .before .before .before .before .before .before .before .before .before .before .view .ensures)
+    (c .before .before .before .before .before .before .before .before .before .before .before .conflicts-of .ensures)
+    (c .before .before .before .before .before .before .before .before .before .lines .ensures)
+    (rw (← (c .before .before .before .before .before .before .slot-above .ensures .0))
+    (c .before .before .before .before .block-above .ensures)) in
     turn-more _ _ _ _ _ _ _ 10 (i .inv) m (sym (row-length (k .args .sheet .now) (k .args .setup .now) (k .args .t1) (k .args .blocks) (i .t))) (rw written at (c .before .before .write-at .ensures))
 
 same-length : tie.Need-same-length Inv-loop μ-loop

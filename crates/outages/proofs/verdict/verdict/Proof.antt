@@ -18,7 +18,16 @@ returns-3 c = simp (← (c .before .before .before .before .has .ensures), c .be
 
 returns-4 : tie.Need-returns-4
 unfolding verdictIn
-returns-4 c = simp (← (c .before .before .before .before .before .before .has .ensures), c .before .before .before .before .before .if1 .left, c .before .before .before .before .if2 .left, ← (c .before .before .before .safe .ensures), c .before .before .if3 .left, ← (c .before .stealth .ensures), c .exposed .ensures)
+returns-4 c = simp (
+  ← (c .before .before .before .before .before .before .has .ensures),
+  c .before .before .before .before .before .if1 .left,
+  c .before .before .before .before .if2 .left,
+  ←
+      (c .before .before .before .safe .ensures),
+  c .before .before .if3 .left,
+  ← (c .before .stealth .ensures),
+  c .exposed .ensures,
+)
 
 pub verdict-spec : {M : Type 1} → statement M
 verdict-spec =

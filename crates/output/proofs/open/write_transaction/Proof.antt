@@ -11,7 +11,8 @@ write-at-requires c κs =
 
 returns : tie.Need-returns
 returns c =
-    rw (four-for _ _ _ _ _ _ _ _ _ (c .before .before .before .before .before .before .before .has .ensures) (c .before .before .before .before .before .before .has2 .ensures) (c .before .before .before .before .before .has3 .ensures) (c .before .before .before .before .has4 .ensures)) (c .before .before .write-at .ensures)
+    let c4 = c .before .before .before .before in let c5 = c4 .before in let c6 = c5 .before in let c7 = c6 .before in
+    rw (four-for _ _ _ _ _ _ _ _ _ (c7 .has .ensures) (c6 .has2 .ensures) (c5 .has3 .ensures) (c4 .has4 .ensures)) (c .before .before .write-at .ensures)
 
 pub write-transaction-spec : {M : Type 1} → statement M
 write-transaction-spec =

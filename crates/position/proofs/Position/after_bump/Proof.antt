@@ -19,19 +19,28 @@ abbrev μ-loop : tie.MeasureT-loop
 
 loop-holds : tie.Need-loop-holds Inv-loop μ-loop
 loop-holds c =
-    let l : length (c .before .before .before .before .before .before .args .t1 .slots) ≡ 32 = search (length-of-map, c .before .before .before .before .before .before .good) in
-    (c .next .ensures .high, rewritten-start _ _ _ _ (bumped-outside _ _ _ (c .before .before .before .before .before .before .pre .0 .sized .few) (c .before .before .before .before .before .before .pre .1 .0) _ _ _ (c .before .before .before .before .entering .ensures)) _ (c .before .count .ensures .is) _ l (c .next .ensures))
+    let c6 = c .before .before .before .before .before .before in
+    let l : length (c6 .args .t1 .slots) ≡ 32 = search (length-of-map, c6 .good) in
+    let c4 = c .before .before .before .before in
+    (c .next .ensures .high, rewritten-start _ _ _ _ (bumped-outside _ _ _ (c6 .pre .0 .sized .few) (c6 .pre .1 .0) _ _ _ (c4 .entering .ensures)) _ (c .before .count .ensures .is) _ l (c .next .ensures))
 
 loop-again : tie.Need-loop-again Inv-loop μ-loop
 unfolding withSlots slot
-loop-again c = (c .next2 .ensures .high, rewritten-more _ _ _ _ (bumped-outside _ _ _ (c .before .before .before .before .before .before .before .before .before .before .before .pre .0 .sized .few) (c .before .before .before .before .before .before .before .before .before .before .before .pre .1 .0) _ _ _ (c .before .before .before .before .before .before .before .before .before .entering .ensures)) _ (c .before .before .before .before .before .before .count .ensures .is) _ _ _ _ (c .before .before .before .before .loop .inv .1) (c .before .bumped-slot .ensures) (c .next2 .ensures))
+loop-again c =
+    let c4 = c .before .before .before .before in let c6 = c4 .before .before in let c9 = c6 .before .before .before in
+    let c11 = c9 .before .before in (
+      c .next2 .ensures .high,
+      rewritten-more _ _ _ _ (bumped-outside _ _ _ (c11 .pre .0 .sized .few) (c11 .pre .1 .0) _ _ _
+          (c9 .entering .ensures)) _ (c6 .count .ensures .is) _ _ _ _ (c4 .loop .inv .1) (c .before .bumped-slot .ensures) (c .next2 .ensures),
+    )
 
 returns : tie.Need-returns Inv-loop μ-loop
 unfolding afterBump changeSlots withSlots
 returns c =
-    let s = now (c .before .before .before .before .before .before .before .before .args .sheet) in
-    rewritten-done _ _ _ _ (bumped-outside _ _ _ (c .before .before .before .before .before .before .before .before .pre .0 .sized .few) (c .before .before .before .before .before .before .before .before .pre .1 .0) _ _ _ (c .before .before .before .before .before .before .entering .ensures)) _ (c .before .before .before .count .ensures .is) _ _ (c .before .loop .inv .1) (c .before .loop .inv .0) (c .loop-test .left)
-    ∙ rw (bumped-right s (c .before .before .before .before .before .before .before .before .args .t1) (c .before .before .before .before .before .before .before .before .args .view) (c .before .before .before .before .before .before .before .before .args .t) (c .before .before .before .before .before .before .entering .result) (c .before .before .before .before .before .displaced .result) (c .before .before .before .before .before .before .before .before .pre .0 .sized .few) (c .before .before .before .before .before .before .before .before .pre .1 .1) (c .before .before .before .before .before .before .before .before .pre .1 .0) (c .before .before .before .before .before .before .entering .ensures) (c .before .before .before .before .before .displaced .ensures)) refl
+    let c3 = c .before .before .before in let c5 = c3 .before .before in let c6 = c5 .before in let c8 = c6 .before .before in
+    let s = now (c8 .args .sheet) in
+    rewritten-done _ _ _ _ (bumped-outside _ _ _ (c8 .pre .0 .sized .few) (c8 .pre .1 .0) _ _ _ (c6 .entering .ensures)) _ (c3 .count .ensures .is) _ _ (c .before .loop .inv .1) (c .before .loop .inv .0) (c .loop-test .left)
+    ∙ rw (bumped-right s (c8 .args .t1) (c8 .args .view) (c8 .args .t) (c6 .entering .result) (c5 .displaced .result) (c8 .pre .0 .sized .few) (c8 .pre .1 .1) (c8 .pre .1 .0) (c6 .entering .ensures) (c5 .displaced .ensures)) refl
 
 pub after-bump-spec : {M : Type 1} → statement M
 after-bump-spec =

@@ -19,20 +19,28 @@ abbrev μ-loop : tie.MeasureT-loop
 
 loop-holds : tie.Need-loop-holds Inv-loop μ-loop
 loop-holds c =
-    let l : length (c .before .before .before .before .before .args .t1 .slots) ≡ 32 = search (length-of-map, c .before .before .before .before .before .good) in
-    (c .next .ensures .high, rewritten-start _ _ _ _ (mined-outside _ _ _ (c .before .before .before .before .before .pre .0 .sized .few) (c .before .before .before .before .before .pre .1 .0) _ _ _ (c .before .before .touched .ensures)) _ (c .before .count .ensures .is) _ l (c .next .ensures))
+    let c5 = c .before .before .before .before .before in
+    let l : length (c5 .args .t1 .slots) ≡ 32 = search (length-of-map, c5 .good) in
+    (c .next .ensures .high, rewritten-start _ _ _ _ (mined-outside _ _ _ (c5 .pre .0 .sized .few) (c5 .pre .1 .0) _ _ _ (c .before .before .touched .ensures)) _ (c .before .count .ensures .is) _ l (c .next .ensures))
 
 loop-again : tie.Need-loop-again Inv-loop μ-loop
 unfolding withSlots slot
-loop-again c = (c .next2 .ensures .high, rewritten-more _ _ _ _ (mined-outside _ _ _ (c .before .before .before .before .before .before .before .before .before .before .pre .0 .sized .few) (c .before .before .before .before .before .before .before .before .before .before .pre .1 .0) _ _ _ (c .before .before .before .before .before .before .before .touched .ensures)) _ (c .before .before .before .before .before .before .count .ensures .is) _ _ _ _ (c .before .before .before .before .loop .inv .1) (c .before .mined-slot .ensures) (c .next2 .ensures))
+loop-again c =
+    let c4 = c .before .before .before .before in let c6 = c4 .before .before in let c7 = c6 .before in
+    let c10 = c7 .before .before .before in (
+      c .next2 .ensures .high,
+      rewritten-more _ _ _ _ (mined-outside _ _ _ (c10 .pre .0 .sized .few) (c10 .pre .1 .0) _ _ _
+          (c7 .touched .ensures)) _ (c6 .count .ensures .is) _ _ _ _ (c4 .loop .inv .1) (c .before .mined-slot .ensures) (c .next2 .ensures),
+    )
 
 returns : tie.Need-returns Inv-loop μ-loop
 unfolding afterMine withMined changeSlots withSlots
 returns c =
-    let s = now (c .before .before .before .before .before .before .before .args .sheet) in
-    let done = rewritten-done _ _ _ _ (mined-outside _ _ _ (c .before .before .before .before .before .before .before .pre .0 .sized .few) (c .before .before .before .before .before .before .before .pre .1 .0) _ _ _ (c .before .before .before .before .touched .ensures)) _ (c .before .before .before .count .ensures .is) _ _ (c .before .loop .inv .1) (c .before .loop .inv .0) (c .loop-test .left) in
-    ap (withMined (c .before .before .before .before .before .before .before .args .t1 .mined + 1)) done
-    ∙ rw (mined-right s (c .before .before .before .before .before .before .before .args .t1) (c .before .before .before .before .before .before .before .args .view) (c .before .before .before .before .before .struck .result) (c .before .before .before .before .before .before .before .pre .0 .sized .few) (c .before .before .before .before .before .before .before .pre .1 .0) (c .before .before .before .before .before .struck .ensures)) refl
+    let c3 = c .before .before .before in let c4 = c3 .before in let c5 = c4 .before in let c7 = c5 .before .before in
+    let s = now (c7 .args .sheet) in
+    let done = rewritten-done _ _ _ _ (mined-outside _ _ _ (c7 .pre .0 .sized .few) (c7 .pre .1 .0) _ _ _ (c4 .touched .ensures)) _ (c3 .count .ensures .is) _ _ (c .before .loop .inv .1) (c .before .loop .inv .0) (c .loop-test .left) in
+    ap (withMined (c7 .args .t1 .mined + 1)) done
+    ∙ rw (mined-right s (c7 .args .t1) (c7 .args .view) (c5 .struck .result) (c7 .pre .0 .sized .few) (c7 .pre .1 .0) (c5 .struck .ensures)) refl
 
 pub after-entries-spec : {M : Type 1} → statement M
 after-entries-spec =

@@ -20,7 +20,9 @@ after-bump-requires c κs = let p = c .before .before .before .before .before .b
 
 returns-2 : tie.Need-returns-2
 unfolding stepRefusal tests bumpTests bumpTestsIn effect
-returns-2 c = accepts _ _ _ _ _ _ (rw (← (c .before .before .before .before .wide .ensures .is), ← (c .before .before .before .owed .ensures)) (c .before .before .bump-refusal .ensures)) (c .before .if1 .left) (rw (← (c .before .before .before .before .wide .ensures .is)) (c .after-bump .ensures))
+returns-2 c =
+    let c3 = c .before .before .before in let c4 = c3 .before in
+    accepts _ _ _ _ _ _ (rw (← (c4 .wide .ensures .is), ← (c3 .owed .ensures)) (c .before .before .bump-refusal .ensures)) (c .before .if1 .left) (rw (← (c4 .wide .ensures .is)) (c .after-bump .ensures))
 
 pub bump-spec : {M : Type 1} → statement M
 bump-spec =

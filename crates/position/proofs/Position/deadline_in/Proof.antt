@@ -8,7 +8,18 @@ use Rattle.position.proofs.Position.deadline_in.Tie as tie
 
 returns : tie.Need-returns
 unfolding deadlineIn
-returns c = record { is = rw (← (c .before .per-day .ensures), deadline-since (now (c .before .before .before .before .before .before .args .sheet)) (c .before .per-day .result) (blockOf (c .before .before .before .before .before .before .args .self)) (c .before .before .block-of .result) (c .before .before .before .before .before .before .args .t) (ap (blockOf (c .before .before .before .before .before .before .args .self)) (sym (c .before .before .before .parent .ensures .is)) ∙ sym (c .before .before .block-of .ensures))) (c .deadline .ensures .is); small = c .deadline .ensures .small }
+returns c =
+    let c3 = c .before .before .before in let c6 = c3 .before .before .before in
+    record {
+      is = rw (
+        ← (c .before .per-day .ensures),
+        deadline-since (now (c6 .args .sheet)) (c .before .per-day .result)
+            (blockOf (c6 .args .self)) (c .before .before .block-of .result) (c6 .args .t)
+            (ap (blockOf (c6 .args .self)) (sym (c3 .parent .ensures .is)) ∙ sym (c .before .before .block-of .ensures)),
+      )
+          (c .deadline .ensures .is);
+      small = c .deadline .ensures .small;
+    }
 
 pub deadline-in-spec : {M : Type 1} → statement M
 deadline-in-spec =

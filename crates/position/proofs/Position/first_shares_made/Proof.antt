@@ -25,10 +25,11 @@ returns c =
 loop-again : tie.Need-loop-again Inv-loop μ-loop
 unfolding marked slot
 loop-again c =
-    let l = c .before .before .before .before .loop-test .taken in (
+    let c4 = c .before .before .before .before in let c5 = c4 .before in
+    let l = c4 .loop-test .taken in (
       c .next2 .ensures .high,
       c .next2 .ensures .here,
-      made-more _ _ _ _ _ (c .before .before .before .before .before .loop .inv .2) l (c .before .before .before .before .before .loop .inv .1 l) (sym (c .before .before .marked-for .ensures) ∙ not-false (c .before .before .marked-for .result) (c .before .if1 .left)) _ (c .next2 .ensures),
+      made-more _ _ _ _ _ (c5 .loop .inv .2) l (c5 .loop .inv .1 l) (sym (c .before .before .marked-for .ensures) ∙ not-false (c .before .before .marked-for .result) (c .before .if1 .left)) _ (c .next2 .ensures),
     )
 
 returns-2 : tie.Need-returns-2 Inv-loop μ-loop

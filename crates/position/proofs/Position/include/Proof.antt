@@ -8,14 +8,17 @@ use Rattle.position.proofs.Position.include.Statement.{statement}
 use Rattle.position.proofs.Position.include.Tie as tie
 
 element-set-from-after : tie.Need-element-set-from-after
-element-set-from-after c = let l : c .before .before .before .before .before .wide .result < 32 = omega (arith, c .before .before .before .before .before .wide .ensures .is, c .before .before .before .before .before .before .before .before .pre .1 .1, c .before .before .before .before .before .before .before .before .pre .0 .checked .sized .few) in search (needs, l)
+element-set-from-after c =
+    let c5 = c .before .before .before .before .before in let c8 = c5 .before .before .before in
+    let l : c5 .wide .result < 32 = omega (arith, c5 .wide .ensures .is, c8 .pre .1 .1, c8 .pre .0 .checked .sized .few) in search (needs, l)
 
 returns : tie.Need-returns
 unfolding slot withSlots
 returns c =
-    let p = c .before .before .before .before .before .before .before .before .pre in
-    include-outcome _ _ _ _ _ _ _ _ _ _ (c .before .before .before .before .before .wide .ensures .is) (c .slot-after .ensures)
-    (include-answer _ _ _ (p .0 .checked) _ (rw (c .before .before .before .before .before .wide .ensures .is) (p .1 .1)) _ _ _ (p .1 .0) (c .before .before .before .before .any-owed .ensures) (c .before .before .before .include-refusal .ensures))
+    let c3 = c .before .before .before in let c4 = c3 .before in let c5 = c4 .before in let c8 = c5 .before .before .before in
+    let p = c8 .pre in
+    include-outcome _ _ _ _ _ _ _ _ _ _ (c5 .wide .ensures .is) (c .slot-after .ensures)
+    (include-answer _ _ _ (p .0 .checked) _ (rw (c5 .wide .ensures .is) (p .1 .1)) _ _ _ (p .1 .0) (c4 .any-owed .ensures) (c3 .include-refusal .ensures))
     (c .before .with-block .ensures)
 
 pub include-spec : {M : Type 1} → statement M

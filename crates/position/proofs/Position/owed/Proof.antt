@@ -5,7 +5,9 @@ use Rattle.position.proofs.Position.owed.Statement.{statement}
 use Rattle.position.proofs.Position.owed.Tie as tie
 
 returns : tie.Need-returns
-returns c = rw (c .owed-at .ensures, c .before .per-day .ensures, c .before .before .block-of .ensures, c .before .before .before .parent .ensures .is, c .before .before .before .before .before .before .pre .1 .0) (owed-view _ _ _ (search needs) _ (search needs))
+returns c =
+    let c3 = c .before .before .before in let c6 = c3 .before .before .before in
+    rw (c .owed-at .ensures, c .before .per-day .ensures, c .before .before .block-of .ensures, c3 .parent .ensures .is, c6 .pre .1 .0) (owed-view _ _ _ (search needs) _ (search needs))
 
 pub owed-spec : {M : Type 1} → statement M
 owed-spec =

@@ -28,11 +28,12 @@ shared-slot-requires c κs =
 loop-again : tie.Need-loop-again Inv-loop μ-loop
 unfolding slot keys withSlots
 loop-again c =
-    let l = c .before .before .before .loop-test .taken in (
+    let c3 = c .before .before .before in let c4 = c3 .before in
+    let l = c3 .loop-test .taken in (
       c .next2 .ensures .high,
       c .next2 .ensures .here,
-      c .before .before .before .before .loop .inv .2,
-      share-more _ _ _ _ _ _ (c .before .before .before .before .loop .inv .3) l (c .before .before .before .before .loop .inv .1 l) _ _ (c .before .before .before .before .loop .inv .2) (c .before .shared-slot .ensures) _ (c .next2 .ensures),
+      c4 .loop .inv .2,
+      share-more _ _ _ _ _ _ (c4 .loop .inv .3) l (c4 .loop .inv .1 l) _ _ (c4 .loop .inv .2) (c .before .shared-slot .ensures) _ (c .next2 .ensures),
     )
 
 returns : tie.Need-returns Inv-loop μ-loop

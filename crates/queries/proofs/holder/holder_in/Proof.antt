@@ -13,11 +13,20 @@ use Rattle.queries.proofs.holder.holder_in.Tie as tie
 
 returns : tie.Need-returns
 unfolding holderIn viewBelow slot
-returns c = c .payee-of .ensures ∙ payee-right (c .before .before .before .before .before .before .args .t1) (c .before .before .before .coin-end .result) ∙ held-by (now (c .before .before .before .before .before .before .args .sheet)) (isConfirmed (c .before .before .before .before .before .before .args .t1)) (payee (c .before .before .before .before .before .before .args .t1)) (c .before .before .before .before .before .before .args .coin) (c .before .before .before .before .view .result .confirmed) (c .before .before .before .coin-end .result) (search needs) (ap (λ (v : View). v .confirmed) (c .before .before .before .before .view .ensures)) (c .before .before .before .coin-end .ensures) (c .before .before .if1 .taken)
+returns c = c .payee-of .ensures ∙ payee-right (c .before .before .before .before .before .before .args .t1)
+    (c .before .before .before .coin-end .result) ∙ held-by (now (c .before .before .before .before .before .before .args .sheet))
+    (isConfirmed (c .before .before .before .before .before .before .args .t1))
+    (payee (c .before .before .before .before .before .before .args .t1)) (c .before .before .before .before .before .before .args .coin)
+    (c .before .before .before .before .view .result .confirmed) (c .before .before .before .coin-end .result) (search needs)
+    (ap (λ (v : View). v .confirmed) (c .before .before .before .before .view .ensures)) (c .before .before .before .coin-end .ensures)
+    (c .before .before .if1 .taken)
 
 returns-2 : tie.Need-returns-2
 unfolding holderIn viewBelow
-returns-2 c = held-none (now (c .before .before .before .before .args .sheet)) (isConfirmed (c .before .before .before .before .args .t1)) (payee (c .before .before .before .before .args .t1)) (c .before .before .before .before .args .coin) (c .before .before .view .result .confirmed) (c .before .coin-end .result) (search needs) (ap (λ (v : View). v .confirmed) (c .before .before .view .ensures)) (c .before .coin-end .ensures) (c .if1 .left)
+returns-2 c = held-none (now (c .before .before .before .before .args .sheet)) (isConfirmed (c .before .before .before .before .args .t1))
+    (payee (c .before .before .before .before .args .t1)) (c .before .before .before .before .args .coin)
+    (c .before .before .view .result .confirmed) (c .before .coin-end .result) (search needs)
+    (ap (λ (v : View). v .confirmed) (c .before .before .view .ensures)) (c .before .coin-end .ensures) (c .if1 .left)
 
 pub holder-in-spec : {M : Type 1} → statement M
 holder-in-spec =

@@ -14,7 +14,9 @@ returns-3 : tie.Need-returns-3
 returns-3 c = kept-phase _ _ _ _ _ (c .before .before .before .before .before .before .before .before .pre .1 .1) (c .before .before .if2 .left) (c .if3 .taken)
 
 returns-4 : tie.Need-returns-4
-returns-4 c = kept-if-paid _ _ _ _ _ (c .before .before .before .before .before .before .before .before .before .pre .1 .1) _ _ (c .before .before .before .before .before .before .is-party .ensures) (c .before .before .before .before .before .if1 .left) (c .before .before .before .if2 .left) (c .can-pay .ensures)
+returns-4 c = kept-if-paid _ _ _ _ _ (c .before .before .before .before .before .before .before .before .before .pre .1 .1) _ _
+    (c .before .before .before .before .before .before .is-party .ensures) (c .before .before .before .before .before .if1 .left)
+    (c .before .before .before .if2 .left) (c .can-pay .ensures)
 
 pub kept-back-spec : {M : Type 1} → statement M
 kept-back-spec = tie.close (tie.spec (λ c κs. search needs) returns returns-2 returns-3 (λ c κs. search needs) returns-4)

@@ -9,14 +9,20 @@ returns : tie.Need-returns
 returns c = set-none _ _ _ _ _ _ _ (c .before .may-stand .ensures) (c .if1 .taken)
 
 returns-2 : tie.Need-returns-2
-returns-2 c = set-given _ _ _ _ _ _ _ _ _ (c .before .before .before .before .before .before .pre .0) (c .before .before .before .before .before .before .pre .0 .checked .signatures-few) (c .before .before .before .before .before .before .pre .1 .0) (c .before .before .before .may-stand .ensures) (c .before .before .if1 .left) (c .before .before .before .before .before .before .pre .1 .1 .1) (c .before .if2 .taken) (c .give-set .ensures)
+returns-2 c = set-given _ _ _ _ _ _ _ _ _ (c .before .before .before .before .before .before .pre .0)
+    (c .before .before .before .before .before .before .pre .0 .checked .signatures-few)
+    (c .before .before .before .before .before .before .pre .1 .0) (c .before .before .before .may-stand .ensures)
+    (c .before .before .if1 .left) (c .before .before .before .before .before .before .pre .1 .1 .1) (c .before .if2 .taken)
+    (c .give-set .ensures)
 
 returns-3 : tie.Need-returns-3
 returns-3 c =
     let p = c .before .before .before .before .before .before .before .pre in
     let other = c .before .before .if2 .left in
     set-sheet _ _ _ _ _ _ _ (p .0 .checked .sized .few) other
-    (first-turn _ _ _ _ _ _ (p .0) (p .1 .1 .1) (sym (c .before .before .before .before .may-stand .ensures) ∙ not-false _ (c .before .before .before .if1 .left)) other _ _ _ _ (p .1 .0) (p .1 .1 .0) (c .before .candidates .ensures) refl _ (none-next _ _ (c .if3 .taken)))
+    (first-turn _ _ _ _ _ _ (p .0) (p .1 .1 .1) (sym (c .before .before .before .before .may-stand .ensures) ∙ not-false _
+    (c .before .before .before .if1 .left)) other _ _ _ _ (p .1 .0) (p .1 .1 .0) (c .before .candidates .ensures) refl _
+    (none-next _ _ (c .if3 .taken)))
 
 sheet-set-requires : tie.Need-sheet-set-requires
 sheet-set-requires c κs =

@@ -16,18 +16,63 @@ abbrev μ-loop : tie.MeasureT-loop
 μ-loop sheet setup sight actor kind to position n c found₀ t₀ found t = n - t
 
 loop-holds : tie.Need-loop-holds Inv-loop μ-loop
-loop-holds c = (c .next .ensures .high, first-turn _ _ _ _ _ _ (c .before .before .before .before .before .pre .0) (c .before .before .before .before .before .pre .1 .1 .1 .1 .1) (c .before .before .before .before .before .pre .1 .1 .1 .0) (c .before .before .before .before .before .pre .1 .1 .1 .1 .0) _ _ _ _ (c .before .before .before .before .before .pre .1 .0) (c .before .before .before .before .before .pre .1 .1 .0) (c .before .candidates .ensures) (c .before .before .count .ensures .is) _ (c .next .ensures), c .next .ensures .here)
+loop-holds c = (
+  c .next .ensures .high,
+  first-turn _ _ _ _ _ _ (c .before .before .before .before .before .pre .0)
+      (c .before .before .before .before .before .pre .1 .1 .1 .1 .1) (c .before .before .before .before .before .pre .1 .1 .1 .0)
+      (c .before .before .before .before .before .pre .1 .1 .1 .1 .0) _ _ _ _ (c .before .before .before .before .before .pre .1 .0)
+      (c .before .before .before .before .before .pre .1 .1 .0) (c .before .candidates .ensures) (c .before .before .count .ensures .is) _
+      (c .next .ensures),
+  c .next .ensures .here,
+)
 
 accepted-as-requires : tie.Need-accepted-as-requires Inv-loop μ-loop
-accepted-as-requires c κs = (c .before .before .before .before .before .before .before .before .before .before .before .pre .0, (omega (arith, c .before .before .before .before .loop-test .taken, c .before .before .before .before .before .before .before .before .count .ensures .is), c .before .before .before .before .before .before .before .before .before .before .before .pre .1 .1 .1 .1 .1))
+accepted-as-requires c κs = (
+  c .before .before .before .before .before .before .before .before .before .before .before .pre .0,
+  (
+    omega (
+      arith,
+      c .before .before .before .before .loop-test .taken,
+      c .before .before .before .before .before .before .before .before
+          .count .ensures .is,
+    ),
+    c .before .before .before .before .before .before .before .before .before .before .before .pre .1 .1 .1 .1 .1,
+  ),
+)
 
 loop-again : tie.Need-loop-again Inv-loop μ-loop
 unfolding slot
 loop-again c =
-    let l : length (c .before .before .before .before .before .before .before .before .before .before .before .before .before .before .args .t1 .slots) ≡ 32 = search (length-of-map, c .before .before .before .before .before .before .before .before .before .before .before .before .before .before .good) in (
+    let l : length (c .before .before .before .before .before .before .before .before .before .before .before .before .before .before .args
+    .t1 .slots) ≡ 32 = search (
+      length-of-map,
+      c .before .before .before .before .before .before .before .before .before .before .before
+          .before .before .before .good,
+    ) in (
       c .next2 .ensures .high,
-      next-turn _ _ _ _ _ _ (c .before .before .before .before .before .before .before .before .before .before .before .before .before .before .pre .0) (c .before .before .before .before .before .before .before .before .before .before .before .before .before .before .pre .1 .1 .1 .1 .1) (c .before .before .before .before .before .before .before .before .before .before .before .before .before .before .pre .1 .1 .1 .0) (c .before .before .before .before .before .before .before .before .before .before .before .before .before .before .pre .1 .1 .1 .1 .0) _ _ _ _ (c .before .before .before .before .before .before .before .before .before .before .before .before .before .before .pre .1 .0) (c .before .before .before .before .before .before .before .before .before .before .before .before .before .before .pre .1 .1 .0) (c .before .before .before .before .before .before .before .before .before .before .candidates .ensures) (c .before .before .before .before .before .before .before .before .before .before .before .count .ensures .is) _ _ _ _ _ (c .next2 .ensures) (c .before .before .before .before .before .before .before .before .loop .inv .1) (c .before .join .ensures)
-          (turn-open _ _ _ _ _ _ (c .before .before .before .before .before .before .before .before .before .before .before .before .before .before .pre .0) (c .before .before .before .before .before .before .before .before .before .before .before .before .before .before .pre .1 .1 .1 .1 .1) (c .before .before .before .before .before .before .before .before .before .before .before .before .before .before .pre .1 .1 .1 .0) (c .before .before .before .before .before .before .before .before .before .before .before .before .before .before .pre .1 .1 .1 .1 .0) _ _ _ _ (c .before .before .before .before .before .before .before .before .before .before .before .before .before .before .pre .1 .0) (c .before .before .before .before .before .before .before .before .before .before .before .before .before .before .pre .1 .1 .0) (c .before .before .before .before .before .before .before .before .before .before .candidates .ensures) (c .before .before .before .before .before .before .before .before .before .before .before .count .ensures .is) _ (c .before .before .before .before .before .before .before .loop-test .taken) (c .before .before .before .before .before .before .before .before .loop .inv .2 (c .before .before .before .before .before .before .before .loop-test .taken)) _ _ _ l (c .before .before .before .before .before .slot-above .ensures .0) (c .before .before .before .block-above .ensures) (c .before .before .accepted-as .ensures)),
+      next-turn _ _ _ _ _ _ (c .before .before .before .before .before .before .before .before .before .before .before .before .before
+          .before .pre .0) (c .before .before .before .before .before .before .before .before .before .before .before .before .before .before
+          .pre .1 .1 .1 .1 .1) (c .before .before .before .before .before .before .before .before .before .before .before .before .before
+          .before .pre .1 .1 .1 .0) (c .before .before .before .before .before .before .before .before .before .before .before .before
+          .before .before .pre .1 .1 .1 .1 .0) _ _ _ _ (c .before .before .before .before .before .before .before .before .before .before
+          .before .before .before .before .pre .1 .0) (c .before .before .before .before .before .before .before .before .before .before
+          .before .before .before .before .pre .1 .1 .0) (c .before .before .before .before .before .before .before .before .before .before
+          .candidates .ensures) (c .before .before .before .before .before .before .before .before .before .before .before .count .ensures
+          .is) _ _ _ _ _ (c .next2 .ensures) (c .before .before .before .before .before .before .before .before .loop .inv .1)
+          (c .before .join .ensures)
+          (turn-open _ _ _ _ _ _ (c .before .before .before .before .before .before .before .before .before .before .before .before .before
+          .before .pre .0) (c .before .before .before .before .before .before .before .before .before .before .before .before .before
+          .before .pre .1 .1 .1 .1 .1) (c .before .before .before .before .before .before .before .before .before .before .before .before
+          .before .before .pre .1 .1 .1 .0) (c .before .before .before .before .before .before .before .before .before .before .before
+          .before .before .before .pre .1 .1 .1 .1 .0) _ _ _ _ (c .before .before .before .before .before .before .before .before .before
+          .before .before .before .before .before .pre .1 .0) (c .before .before .before .before .before .before .before .before .before
+          .before .before .before .before .before .pre .1 .1 .0) (c .before .before .before .before .before .before .before .before
+          .before .before .candidates .ensures) (c .before .before .before .before .before .before .before .before .before .before
+          .before .count .ensures .is) _ (c .before .before .before .before .before .before .before .loop-test .taken)
+          (c .before .before .before .before .before .before .before .before .loop .inv .2
+          (c .before .before .before .before .before .before .before .loop-test .taken)) _ _ _ l
+          (c .before .before .before .before .before .slot-above .ensures .0) (c .before .before .before .block-above .ensures)
+          (c .before .before .accepted-as .ensures)),
       c .next2 .ensures .here,
     )
 

@@ -33,7 +33,13 @@ part-write-row-start c = omega (arith, c .before .before .before .before .before
 
 array-read-write-row : tie.Need-array-read-write-row Inv-loop μ-loop
 array-read-write-row c =
-    omega (arith, c .before .before .before .before .before .before .loop-test .taken, c .before .before .before .before .before .before .before .before .before .before .count .ensures .is, c .before .before .before .before .before .before .before .before .before .before .before .before .before .before .pre .0 .checked .sized .few)
+    omega (
+      arith,
+      c .before .before .before .before .before .before .loop-test .taken,
+      c .before .before .before .before .before .before .before .before .before .before .count .ensures .is,
+      c .before .before .before .before .before .before .before .before .before .before .before .before .before .before .pre .0 .checked
+          .sized .few,
+    )
 
 write-row-requires : tie.Need-write-row-requires Inv-loop μ-loop
 unfolding rowBytes bytesOf
@@ -46,7 +52,11 @@ add-at : tie.Need-add-at Inv-loop μ-loop
 add-at c =
     let k = c .before .before .before .before .before .before .before .before .before .before .before .before .before .before .before .before .before in
     let i = c .before .before .before .before .before .before .before .before .before .before .loop in
-    omega (arith, turn-end _ _ _ _ _ _ rowWidth (i .inv) (c .before .before .before .before .before .before .before .before .before .loop-test .taken) (sym (row-length (k .args .sheet .now) (k .args .setup .now) (k .args .t1) (k .args .t3) (i .t))))
+    omega (
+      arith,
+      turn-end _ _ _ _ _ _ rowWidth (i .inv) (c .before .before .before .before .before .before .before .before .before
+          .loop-test .taken) (sym (row-length (k .args .sheet .now) (k .args .setup .now) (k .args .t1) (k .args .t3) (i .t))),
+    )
 
 loop-again : tie.Need-loop-again Inv-loop μ-loop
 unfolding sinceIn slot
@@ -59,7 +69,10 @@ loop-again c =
     let o : length (k .args .t3) ≡ 32 = search (k .good) in
     let wrote =
     row-written (k .args .sheet .now) (k .args .setup .now) (k .args .t1) (k .args .t3) (i .t) _ _ _ _ _ _ (getD (k .args .t3) (i .t) 0) (k .pre .0 .checked .sized .few) l (omega (arith, m, n .ensures .is))
-    (c .before .before .before .before .before .before .before .before .before .before .before .before .per-day .ensures) (k .pre .1 .0) (c .before .before .before .before .before .before .before .before .before .before .before .conflicts-of .ensures) refl (rw (← (c .before .before .before .before .before .before .before .slot-above .ensures .0)) (c .before .before .before .before .before .block-above .ensures)) (c .before .before .before .before .row .ensures) refl o in
+    (c .before .before .before .before .before .before .before .before .before .before .before .before .per-day .ensures) (k .pre .1 .0)
+    (c .before .before .before .before .before .before .before .before .before .before .before .conflicts-of .ensures) refl
+    (rw (← (c .before .before .before .before .before .before .before .slot-above .ensures .0))
+    (c .before .before .before .before .before .block-above .ensures)) (c .before .before .before .before .row .ensures) refl o in
     turn-more _ _ _ _ _ _ _ rowWidth (i .inv) m (sym (row-length (k .args .sheet .now) (k .args .setup .now) (k .args .t1) (k .args .t3) (i .t))) (rw wrote at (c .before .before .write-row .ensures))
 
 same-length : tie.Need-same-length Inv-loop μ-loop

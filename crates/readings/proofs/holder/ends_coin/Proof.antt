@@ -15,7 +15,9 @@ returns-2 c = simp (tests, ← (c .before .before .before .coin-of .ensures), c 
 
 returns-3 : tie.Need-returns-3
 unfolding endsCoin
-returns-3 c = simp (tests, ← (c .before .before .before .before .coin-of .ensures), c .before .before .before .if1 .left, ← (c .before .before .has .ensures), not-false (c .before .before .has .result) (c .before .if2 .left), ← (c .confirmed-child .ensures))
+returns-3 c =
+    let c3 = c .before .before .before in let c4 = c3 .before in
+    simp (tests, ← (c4 .coin-of .ensures), c3 .if1 .left, ← (c .before .before .has .ensures), not-false (c .before .before .has .result) (c .before .if2 .left), ← (c .confirmed-child .ensures))
 
 pub ends-coin-spec : {M : Type 1} → statement M
 ends-coin-spec =

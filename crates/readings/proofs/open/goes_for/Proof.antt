@@ -10,7 +10,9 @@ returns c = rw (← (c .before .is-party .ensures), not-true (c .before .is-part
 
 returns-2 : tie.Need-returns-2
 unfolding goesFor
-returns-2 c = rw (← (c .before .before .before .before .before .is-party .ensures), not-false (c .before .before .before .before .before .is-party .result) (c .before .before .before .before .if1 .left), c .before .before .before .goes-set .ensures, c .before .before .goes-set2 .ensures, c .before .goes-set3 .ensures, c .goes-set4 .ensures)
+returns-2 c =
+    let c3 = c .before .before .before in let c4 = c3 .before in let c5 = c4 .before in
+    rw (← (c5 .is-party .ensures), not-false (c5 .is-party .result) (c4 .if1 .left), c3 .goes-set .ensures, c .before .before .goes-set2 .ensures, c .before .goes-set3 .ensures, c .goes-set4 .ensures)
 
 pub goes-for-spec : {M : Type 1} → statement M
 goes-for-spec =

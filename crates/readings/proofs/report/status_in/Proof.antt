@@ -6,7 +6,9 @@ use Rattle.readings.proofs.report.status_in.Tie as tie
 
 returns : tie.Need-returns
 unfolding statusIn
-returns c = rw (c .part4 .ensures .0, c .before .dead-in .ensures, c .before .before .part3 .ensures .0, c .before .before .before .has3 .ensures, c .before .before .before .before .part2 .ensures .0, c .before .before .before .before .before .has2 .ensures, c .before .before .before .before .before .before .part .ensures .0, c .before .before .before .before .before .before .before .has .ensures)
+returns c =
+    let c3 = c .before .before .before in let c4 = c3 .before in let c5 = c4 .before in let c6 = c5 .before in let c7 = c6 .before in
+    rw (c .part4 .ensures .0, c .before .dead-in .ensures, c .before .before .part3 .ensures .0, c3 .has3 .ensures, c4 .part2 .ensures .0, c5 .has2 .ensures, c6 .part .ensures .0, c7 .has .ensures)
 
 pub status-in-spec : {M : Type 1} → statement M
 status-in-spec =

@@ -7,15 +7,30 @@ use Rattle.readings.proofs.reported.reported_holder.Statement.{statemen
 use Rattle.readings.proofs.reported.reported_holder.Tie as tie
 
 shared-slice-read-result : tie.Need-shared-slice-read-result
-shared-slice-read-result c = search (needs, held-in (now (c .before .before .before .before .before .before .args .sheet)) (reportedConfirmed (now (c .before .before .before .before .before .before .args .report))) (reportedPayee (now (c .before .before .before .before .before .before .args .report))) (c .before .before .before .before .before .before .args .coin) (c .before .before .before .confirmed-set .result) (c .before .before .coin-end .result) (search needs) (c .before .before .before .confirmed-set .ensures) (c .before .before .coin-end .ensures) (c .before .if1 .taken))
+shared-slice-read-result c =
+    let c3 = c .before .before .before in let c6 = c3 .before .before .before in
+    search (
+      needs,
+      held-in (now (c6 .args .sheet)) (reportedConfirmed (now (c6 .args .report))) (reportedPayee (now (c6 .args .report)))
+          (c6 .args .coin) (c3 .confirmed-set .result) (c .before .before .coin-end .result) (search needs) (c3 .confirmed-set .ensures)
+          (c .before .before .coin-end .ensures) (c .before .if1 .taken),
+    )
 
 returns : tie.Need-returns
 unfolding reportedHolder reportedPayee
-returns c = held-by (now (c .before .before .before .before .before .before .args .sheet)) (reportedConfirmed (now (c .before .before .before .before .before .before .args .report))) (reportedPayee (now (c .before .before .before .before .before .before .args .report))) (c .before .before .before .before .before .before .args .coin) (c .before .before .before .confirmed-set .result) (c .before .before .coin-end .result) (search needs) (c .before .before .before .confirmed-set .ensures) (c .before .before .coin-end .ensures) (c .before .if1 .taken)
+returns c =
+    let c3 = c .before .before .before in let c6 = c3 .before .before .before in
+    held-by (now (c6 .args .sheet)) (reportedConfirmed (now (c6 .args .report))) (reportedPayee (now (c6 .args .report))) (c6 .args .coin)
+    (c3 .confirmed-set .result) (c .before .before .coin-end .result) (search needs) (c3 .confirmed-set .ensures)
+    (c .before .before .coin-end .ensures) (c .before .if1 .taken)
 
 returns-2 : tie.Need-returns-2
 unfolding reportedHolder
-returns-2 c = held-none (now (c .before .before .before .before .before .args .sheet)) (reportedConfirmed (now (c .before .before .before .before .before .args .report))) (reportedPayee (now (c .before .before .before .before .before .args .report))) (c .before .before .before .before .before .args .coin) (c .before .before .confirmed-set .result) (c .before .coin-end .result) (search needs) (c .before .before .confirmed-set .ensures) (c .before .coin-end .ensures) (c .if1 .left)
+returns-2 c =
+    let c5 = c .before .before .before .before .before in
+    held-none (now (c5 .args .sheet)) (reportedConfirmed (now (c5 .args .report))) (reportedPayee (now (c5 .args .report)))
+    (c5 .args .coin) (c .before .before .confirmed-set .result) (c .before .coin-end .result) (search needs)
+    (c .before .before .confirmed-set .ensures) (c .before .coin-end .ensures) (c .if1 .left)
 
 pub reported-holder-spec : {M : Type 1} → statement M
 reported-holder-spec =

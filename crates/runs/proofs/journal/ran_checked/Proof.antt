@@ -9,7 +9,9 @@ returns : tie.Need-returns
 returns c = c .without-step .ensures ∙ ran-refused _ _ _ _ _ (c .before .before .before .call-refusal .ensures) (c .before .if1 .taken) (c .before .before .start .ensures)
 
 returns-2 : tie.Need-returns-2
-returns-2 c = ran-allowed _ _ _ _ _ _ (c .before .before .before .before .call-refusal .ensures) (c .before .before .if1 .left) (c .before .before .before .start .ensures) (c .without-step2 .ensures ∙ run-none _ _ _ _ (c .before .if2 .taken))
+returns-2 c =
+    let c3 = c .before .before .before in let c4 = c3 .before in
+    ran-allowed _ _ _ _ _ _ (c4 .call-refusal .ensures) (c .before .before .if1 .left) (c3 .start .ensures) (c .without-step2 .ensures ∙ run-none _ _ _ _ (c .before .if2 .taken))
 
 start-view-requires : tie.Need-start-view-requires
 start-view-requires c κs = let h = sym (c .before .before .before .call-refusal .ensures) ∙ c .before .if1 .left in call-fit _ _ _ h .checked

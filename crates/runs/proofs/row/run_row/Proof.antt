@@ -34,36 +34,59 @@ decode-requires c κs = c .before .before .before .before .before .before .befor
 returns : tie.Need-returns Inv-loop μ-loop
 unfolding decodeBytes stepAt
 returns c =
-    let l = c .before .before .before .before .before .before .before .before in
+    let c3 = c .before .before .before in let c8 = c3 .before .before .before .before .before in
+    let l = c8 in
     c .stopped .ensures
-    ∙ left-stopped _ _ _ _ _ _ _ _ (l .before .loop .inv .1) (omega (arith, l .loop-test .taken)) _ (unread _ _ _ _ _ (c .before .before .before .decode .ensures) (c .before .enum-told .given .1)) _ (l .before .loop .inv .2) (λ z. absurd (omega (arith, z)))
+    ∙ left-stopped _ _ _ _ _ _ _ _ (l .before .loop .inv .1) (omega (arith, l .loop-test .taken)) _ (unread _ _ _ _ _ (c3 .decode .ensures) (c .before .enum-told .given .1)) _ (l .before .loop .inv .2) (λ z. absurd (omega (arith, z)))
 
 -- what the methods ask for
 share-requires : tie.Need-share-requires Inv-loop μ-loop
-share-requires c κs = (c .before .before .before .before .before .before .before .before .before .before .before .before .before .before .before .before .pre .0, (c .before .before .before .before .before .before .before .before .before .before .before .before .loop .inv .2, share-fields _ _ _ _ _ _ (c .before .step .given .1) (c .before .before .before .before .before .before .before .before .before .before .before .before .before .before .before .before .pre .0) (decodes _ _ _ _ _ _ _ (sym (c .before .before .before .before .before .before .decode .ensures) ∙ c .before .before .before .before .x .given .1) .fields)))
+share-requires c κs =
+    let c4 = c .before .before .before .before in let c6 = c4 .before .before in
+    let c12 = c6 .before .before .before .before .before .before in let c16 = c12 .before .before .before .before in
+    (c16 .pre .0, (c12 .loop .inv .2, share-fields _ _ _ _ _ _ (c .before .step .given .1) (c16 .pre .0) (decodes _ _ _ _ _ _ _ (sym (c6 .decode .ensures) ∙ c4 .x .given .1) .fields)))
 
 give-requires : tie.Need-give-requires Inv-loop μ-loop
-give-requires c κs = (c .before .before .before .before .before .before .before .before .before .before .before .before .before .before .before .before .pre .0, (c .before .before .before .before .before .before .before .before .before .before .before .before .loop .inv .2, give-listed _ _ _ _ _ _ (c .before .step2 .given .1) (c .before .before .before .before .before .before .before .before .before .before .before .before .before .before .before .before .pre .0 .checked .signatures-few) (decodes _ _ _ _ _ _ _ (sym (c .before .before .before .before .before .before .decode .ensures) ∙ c .before .before .before .before .x .given .1) .fields)))
+give-requires c κs =
+    let c4 = c .before .before .before .before in let c6 = c4 .before .before in
+    let c12 = c6 .before .before .before .before .before .before in let c16 = c12 .before .before .before .before in
+    (c16 .pre .0, (c12 .loop .inv .2, give-listed _ _ _ _ _ _ (c .before .step2 .given .1) (c16 .pre .0 .checked .signatures-few) (decodes _ _ _ _ _ _ _ (sym (c6 .decode .ensures) ∙ c4 .x .given .1) .fields)))
 
 send-to-pool-requires : tie.Need-send-to-pool-requires Inv-loop μ-loop
-send-to-pool-requires c κs = (c .before .before .before .before .before .before .before .before .before .before .before .before .before .before .before .before .pre .0, (c .before .before .before .before .before .before .before .before .before .before .before .before .loop .inv .2, pool-listed _ _ _ _ _ _ (c .before .step3 .given .1) (decodes _ _ _ _ _ _ _ (sym (c .before .before .before .before .before .before .decode .ensures) ∙ c .before .before .before .before .x .given .1) .fields)))
+send-to-pool-requires c κs =
+    let c4 = c .before .before .before .before in let c6 = c4 .before .before in
+    let c12 = c6 .before .before .before .before .before .before in let c16 = c12 .before .before .before .before in
+    (c16 .pre .0, (c12 .loop .inv .2, pool-listed _ _ _ _ _ _ (c .before .step3 .given .1) (decodes _ _ _ _ _ _ _ (sym (c6 .decode .ensures) ∙ c4 .x .given .1) .fields)))
 
 hand-to-miner-requires : tie.Need-hand-to-miner-requires Inv-loop μ-loop
-hand-to-miner-requires c κs = (c .before .before .before .before .before .before .before .before .before .before .before .before .before .before .before .before .pre .0, (c .before .before .before .before .before .before .before .before .before .before .before .before .loop .inv .2, miner-listed _ _ _ _ _ _ (c .before .step4 .given .1) (decodes _ _ _ _ _ _ _ (sym (c .before .before .before .before .before .before .decode .ensures) ∙ c .before .before .before .before .x .given .1) .fields)))
+hand-to-miner-requires c κs =
+    let c4 = c .before .before .before .before in let c6 = c4 .before .before in
+    let c12 = c6 .before .before .before .before .before .before in let c16 = c12 .before .before .before .before in
+    (c16 .pre .0, (c12 .loop .inv .2, miner-listed _ _ _ _ _ _ (c .before .step4 .given .1) (decodes _ _ _ _ _ _ _ (sym (c6 .decode .ensures) ∙ c4 .x .given .1) .fields)))
 
 include-requires : tie.Need-include-requires Inv-loop μ-loop
-include-requires c κs = (c .before .before .before .before .before .before .before .before .before .before .before .before .before .before .before .before .pre .0, (c .before .before .before .before .before .before .before .before .before .before .before .before .loop .inv .2, include-listed _ _ _ _ _ _ (c .before .step5 .given .1) (decodes _ _ _ _ _ _ _ (sym (c .before .before .before .before .before .before .decode .ensures) ∙ c .before .before .before .before .x .given .1) .fields)))
+include-requires c κs =
+    let c4 = c .before .before .before .before in let c6 = c4 .before .before in
+    let c12 = c6 .before .before .before .before .before .before in let c16 = c12 .before .before .before .before in
+    (c16 .pre .0, (c12 .loop .inv .2, include-listed _ _ _ _ _ _ (c .before .step5 .given .1) (decodes _ _ _ _ _ _ _ (sym (c6 .decode .ensures) ∙ c4 .x .given .1) .fields)))
 
 mine-requires : tie.Need-mine-requires Inv-loop μ-loop
-mine-requires c κs = (c .before .before .before .before .before .before .before .before .before .before .before .before .before .before .before .before .pre .0, c .before .before .before .before .before .before .before .before .before .before .before .before .loop .inv .2)
+mine-requires c κs =
+    let c12 = c .before .before .before .before .before .before .before .before .before .before .before .before in
+    let c16 = c12 .before .before .before .before in
+    (c16 .pre .0, c12 .loop .inv .2)
 
 bump-requires : tie.Need-bump-requires Inv-loop μ-loop
-bump-requires c κs = (c .before .before .before .before .before .before .before .before .before .before .before .before .before .before .before .before .pre .0, (c .before .before .before .before .before .before .before .before .before .before .before .before .loop .inv .2, bump-listed _ _ _ _ _ _ (c .before .step7 .given .1) (decodes _ _ _ _ _ _ _ (sym (c .before .before .before .before .before .before .decode .ensures) ∙ c .before .before .before .before .x .given .1) .fields)))
+bump-requires c κs =
+    let c4 = c .before .before .before .before in let c6 = c4 .before .before in
+    let c12 = c6 .before .before .before .before .before .before in let c16 = c12 .before .before .before .before in
+    (c16 .pre .0, (c12 .loop .inv .2, bump-listed _ _ _ _ _ _ (c .before .step7 .given .1) (decodes _ _ _ _ _ _ _ (sym (c6 .decode .ensures) ∙ c4 .x .given .1) .fields)))
 
 -- what came back, whichever the kind
 taken : (c : tie.At-match2-came Inv-loop μ-loop)
-    → _≡_ {A = Stepped} (record { refusal = c .match2 .refused; position = c .match2 .position })
-    (step (now (c .before .before .before .before .before .before .before .before .before .before .before .before .before .before .args .sheet)) (now (c .before .before .before .before .before .before .before .before .before .before .before .before .before .before .args .setup)) (c .before .before .before .before .before .before .before .before .before .before .loop .position) (stepAt (now (c .before .before .before .before .before .before .before .before .before .before .before .before .before .before .args .journal)) (4 * c .before .before .before .before .before .before .before .before .before .before .loop .k)))
+    → let l = c .before .before .before .before .before .before .before .before .before .before in let a = l .before .before .before .before .args in
+    _≡_ {A = Stepped} (record { refusal = c .match2 .refused; position = c .match2 .position })
+    (step (now (a .sheet)) (now (a .setup)) (l .loop .position) (stepAt (now (a .journal)) (4 * l .loop .k)))
 unfolding decodeBytes stepAt
 taken c =
     let f = c .before .before .before .before .decode .ensures in
@@ -90,7 +113,8 @@ returns-2 c =
 
 -- the view of the position after an accepted step
 seen : (c : tie.Joined2 Inv-loop μ-loop)
-    → c .if2 .view ≡ viewBelow (now (c .before .before .before .before .before .before .before .before .before .before .before .before .before .before .before .before .before .before .before .args .sheet)) (count (now (c .before .before .before .before .before .before .before .before .before .before .before .before .before .before .before .before .before .before .before .args .sheet))) (c .before .before .before .before .before .match2 .position)
+    → let s = now (c .before .before .before .before .before .before .before .before .before .before .before .before .before .before .before .before .before .before .before .args .sheet) in
+    c .if2 .view ≡ viewBelow s (count s) (c .before .before .before .before .before .match2 .position)
 unfolding slot stepAt
 seen c =
     let m = c .before .before .before .before .before in
@@ -108,7 +132,8 @@ noted-requires c κs = (c .before .before .before .before .before .before .befor
 
 -- the counts, where they are asked for
 counted : (c : tie.Joined3 Inv-loop μ-loop)
-    → c .if3 .opened ≡ notedIf (c .before .before .before .before .before .before .before .before .before .before .before .before .before .before .before .before .before .before .before .before .args .asked) (now (c .before .before .before .before .before .before .before .before .before .before .before .before .before .before .before .before .before .before .before .before .args .sheet)) (now (c .before .before .before .before .before .before .before .before .before .before .before .before .before .before .before .before .before .before .before .before .args .setup)) (c .before .before .before .before .before .before .match2 .position) (c .before .before .before .before .before .before .before .before .before .before .before .before .before .before .before .before .loop .opened)
+    → let m = c .before .before .before .before .before .before in let l = m .before .before .before .before .before .before .before .before .before .before in let a = l .before .before .before .before .args in
+    c .if3 .opened ≡ notedIf (a .asked) (now (a .sheet)) (now (a .setup)) (m .match2 .position) (l .loop .opened)
 unfolding notedIf
 counted c = either (c .if3 .came) (λ w. rw (w .0 .taken) (w .2 ∙ w .1 .ensures)) (λ w. rw (w .0 .left) (w .1))
 

@@ -15,11 +15,15 @@ returns-2 c = simp (tests, ← (c .before .before .before .lock-type .ensures), 
 
 returns-3 : tie.Need-returns-3
 unfolding lockRight
-returns-3 c = simp (tests, ← (c .before .before .before .before .before .lock-type .ensures), ← (c .before .before .before .days-right .ensures), not-false (c .before .before .before .days-right .result) (c .before .before .if2 .left), c .before .if3 .taken, ← (c .opening .ensures))
+returns-3 c =
+    let c3 = c .before .before .before in let c5 = c3 .before .before in
+    simp (tests, ← (c5 .lock-type .ensures), ← (c3 .days-right .ensures), not-false (c3 .days-right .result) (c .before .before .if2 .left), c .before .if3 .taken, ← (c .opening .ensures))
 
 returns-4 : tie.Need-returns-4
 unfolding lockRight
-returns-4 c = simp (tests, ← (c .before .before .before .before .lock-type .ensures), c .before .before .before .if1 .left, ← (c .before .before .days-right .ensures), not-false (c .before .before .days-right .result) (c .before .if2 .left), c .if3 .left)
+returns-4 c =
+    let c3 = c .before .before .before in let c4 = c3 .before in
+    simp (tests, ← (c4 .lock-type .ensures), c3 .if1 .left, ← (c .before .before .days-right .ensures), not-false (c .before .before .days-right .result) (c .before .if2 .left), c .if3 .left)
 
 pub lock-right-spec : {M : Type 1} → statement M
 lock-right-spec =

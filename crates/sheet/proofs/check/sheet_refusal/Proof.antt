@@ -29,7 +29,9 @@ returns-3 c = passes _ _ _ _ _ (c .before .before .before .before .before .head-
     (fails _ _ _ _ (c .before .signatures-right .ensures) (c .if3 .taken)))
 
 length-right-requires : tie.Need-length-right-requires
-length-right-requires c κs = (head-there _ (held _ _ (c .before .before .before .before .before .head-right .ensures) (c .before .before .before .before .if1 .left)), count-few _ (held _ _ (c .before .before .before .count-right .ensures) (c .before .before .if2 .left)))
+length-right-requires c κs =
+    let c3 = c .before .before .before in let c4 = c3 .before in let c5 = c4 .before in
+    (head-there _ (held _ _ (c5 .head-right .ensures) (c4 .if1 .left)), count-few _ (held _ _ (c3 .count-right .ensures) (c .before .before .if2 .left)))
 
 returns-4 : tie.Need-returns-4
 unfolding sheetRefusal sheetTests
@@ -39,7 +41,9 @@ returns-4 c = passes _ _ _ _ _ (c .before .before .before .before .before .befor
     (fails _ _ _ _ (c .before .length-right .ensures) (c .if4 .taken))))
 
 array-refusal-requires : tie.Need-array-refusal-requires
-array-refusal-requires c κs = (sized _ (held _ _ (c .before .before .before .before .before .count-right .ensures) (c .before .before .before .before .if2 .left)) (held _ _ (c .before .length-right .ensures) (c .if4 .left)), signatures-few _ (held _ _ (c .before .before .before .signatures-right .ensures) (c .before .before .if3 .left)))
+array-refusal-requires c κs =
+    let c3 = c .before .before .before in let c4 = c3 .before in let c5 = c4 .before in
+    (sized _ (held _ _ (c5 .count-right .ensures) (c4 .if2 .left)) (held _ _ (c .before .length-right .ensures) (c .if4 .left)), signatures-few _ (held _ _ (c3 .signatures-right .ensures) (c .before .before .if3 .left)))
 
 returns-5 : tie.Need-returns-5
 unfolding sheetRefusal sheetTests

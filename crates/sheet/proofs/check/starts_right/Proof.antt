@@ -19,7 +19,9 @@ start-mask-requires : tie.Need-start-mask-requires Inv-loop μ-loop
 start-mask-requires c κs = (search needs, rw (← (c .before .before .parties .ensures .is)) (c .loop-test .taken))
 
 returns : tie.Need-returns Inv-loop μ-loop
-returns c = rw (← (c .before .before .before .before .before .parties .ensures .is)) (sym (all-broken _ _ _ (c .before .before .before .loop-test .taken) (rw (← (c .before .before .start-mask .ensures), ← (c .before .within .ensures)) (not-true _ (c .if1 .taken)))))
+returns c =
+    let c3 = c .before .before .before in let c5 = c3 .before .before in
+    rw (← (c5 .parties .ensures .is)) (sym (all-broken _ _ _ (c3 .loop-test .taken) (rw (← (c .before .before .start-mask .ensures), ← (c .before .within .ensures)) (not-true _ (c .if1 .taken)))))
 
 loop-again : tie.Need-loop-again Inv-loop μ-loop
 loop-again c = (search needs, all-more _ _ (c .before .before .before .before .loop .inv .1) (rw (← (c .before .before .start-mask .ensures), ← (c .before .within .ensures)) (not-false _ (c .if1 .left))))

@@ -12,7 +12,11 @@ returns-2 : tie.Need-returns-2
 returns-2 c = added-far _ _ _ _ (omega (arith, c .if2 .taken, c .before .parent .ensures .is))
 
 returns-3 : tie.Need-returns-3
-returns-3 c = added-one _ _ _ _ _ (sym (c .before .before .before .before .has .ensures) ∙ not-false (c .before .before .before .before .has .result) (c .before .before .before .if1 .left)) (omega (arith, c .before .if2 .left, c .before .before .parent .ensures .is)) (c .join .ensures ∙ ap (λ u. joined (c .before .before .before .before .before .before .args .parents) true u) (c .before .before .parent .ensures .is))
+returns-3 c =
+    let c3 = c .before .before .before in let c4 = c3 .before in let c6 = c4 .before .before in
+    added-one _ _ _ _ _ (sym (c4 .has .ensures) ∙ not-false (c4 .has .result) (c3 .if1 .left))
+    (omega (arith, c .before .if2 .left, c .before .before .parent .ensures .is))
+    (c .join .ensures ∙ ap (λ u. joined (c6 .args .parents) true u) (c .before .before .parent .ensures .is))
 
 pub with-parent-spec : {M : Type 1} → statement M
 with-parent-spec =

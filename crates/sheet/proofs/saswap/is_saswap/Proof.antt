@@ -23,14 +23,18 @@ loop-holds c = (search needs, all-start _)
 
 returns-2 : tie.Need-returns-2 Inv-loop μ-loop
 unfolding isSaswap same
-returns-2 c = rw (saswap-length (c .before .before .before .before .before .before .before .args .per-day), c .before .before .before .before .before .if1 .left, ← (c .before .before .before .before .saswap-sheet .ensures)) (sym (all-broken _ _ _ (c .before .before .loop-test .taken) (ne-eqb _ _ (c .if2 .taken))))
+returns-2 c =
+    let c4 = c .before .before .before .before in let c5 = c4 .before in let c7 = c5 .before .before in
+    rw (saswap-length (c7 .args .per-day), c5 .if1 .left, ← (c4 .saswap-sheet .ensures)) (sym (all-broken _ _ _ (c .before .before .loop-test .taken) (ne-eqb _ _ (c .if2 .taken))))
 
 loop-again : tie.Need-loop-again Inv-loop μ-loop
 loop-again c = (search needs, all-more _ _ (c .before .before .before .loop .inv .1) (eq-eqb _ _ (c .if2 .left)))
 
 returns-3 : tie.Need-returns-3 Inv-loop μ-loop
 unfolding isSaswap same
-returns-3 c = rw (saswap-length (c .before .before .before .before .before .args .per-day), c .before .before .before .if1 .left, ← (c .before .before .saswap-sheet .ensures)) (all-done _ _ _ _ (c .before .loop .inv .0) (c .loop-test .left) (c .before .loop .inv .1))
+returns-3 c =
+    let c3 = c .before .before .before in let c5 = c3 .before .before in
+    rw (saswap-length (c5 .args .per-day), c3 .if1 .left, ← (c .before .before .saswap-sheet .ensures)) (all-done _ _ _ _ (c .before .loop .inv .0) (c .loop-test .left) (c .before .loop .inv .1))
 
 pub is-saswap-spec : {M : Type 1} → statement M
 is-saswap-spec =

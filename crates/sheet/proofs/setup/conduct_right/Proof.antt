@@ -19,7 +19,9 @@ returns-3 c = simp (tests, ← (c .before .before .before .before .conduct .ensu
 
 returns-4 : tie.Need-returns-4
 unfolding conductRight
-returns-4 c = simp (tests, ← (c .before .before .before .before .before .before .conduct .ensures), c .before .before .before .before .before .if1 .left, ← (c .before .before .before .before .stealth .ensures), c .before .before .before .if2 .left, c .before .before .if3 .left, ← (c .before .per-day .ensures), ← (c .is-saswap .ensures))
+returns-4 c =
+    let c3 = c .before .before .before in let c4 = c3 .before in let c5 = c4 .before in let c6 = c5 .before in
+    simp (tests, ← (c6 .conduct .ensures), c5 .if1 .left, ← (c4 .stealth .ensures), c3 .if2 .left, c .before .before .if3 .left, ← (c .before .per-day .ensures), ← (c .is-saswap .ensures))
 
 pub conduct-right-spec : {M : Type 1} → statement M
 conduct-right-spec =

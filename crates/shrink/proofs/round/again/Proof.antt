@@ -18,11 +18,17 @@ returns-3 c = rw (c .before .before .before .before .before .before .if1 .left, 
 
 returns-4 : tie.Need-returns-4
 unfolding sameStep stepAt
-returns-4 c = rw (c .before .before .before .before .before .before .before .before .before .if1 .left, eq-eqb _ _ (c .before .before .before .before .before .before .if2 .left), eq-eqb _ _ (c .before .before .before .if3 .left), ne-eqb _ _ (c .if4 .taken))
+returns-4 c =
+    let c3 = c .before .before .before in let c6 = c .before .before .before .before .before .before in
+    let c9 = c .before .before .before .before .before .before .before .before .before in
+    rw (c9 .if1 .left, eq-eqb _ _ (c6 .if2 .left), eq-eqb _ _ (c3 .if3 .left), ne-eqb _ _ (c .if4 .taken))
 
 returns-5 : tie.Need-returns-5
 unfolding sameStep stepAt
-returns-5 c = rw (c .before .before .before .before .before .before .before .before .before .before .before .if1 .left, eq-eqb _ _ (c .before .before .before .before .before .before .before .before .if2 .left), eq-eqb _ _ (c .before .before .before .before .before .if3 .left), eq-eqb _ _ (c .before .before .if4 .left))
+returns-5 c =
+    let c5 = c .before .before .before .before .before in let c8 = c .before .before .before .before .before .before .before .before in
+    let c11 = c .before .before .before .before .before .before .before .before .before .before .before in
+    rw (c11 .if1 .left, eq-eqb _ _ (c8 .if2 .left), eq-eqb _ _ (c5 .if3 .left), eq-eqb _ _ (c .before .before .if4 .left))
 
 pub again-spec : {M : Type 1} → statement M
 again-spec =

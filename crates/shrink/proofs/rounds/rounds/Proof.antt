@@ -26,23 +26,40 @@ returns : tie.Need-returns Inv-loop μ-loop
 returns c = going-done _ _ _ _ _ _ _ _ _ (c .before .before .before .before .before .before .loop .inv) _ _ (c .before .before .before .write-round .ensures .0) (c .before .before .before .write-round .ensures .1) (c .if1 .taken)
 
 mul-size : tie.Need-mul-size Inv-loop μ-loop
-mul-size c = record { fits = omega (arith, c .before .before .before .before .before .before .loop .inv .few, going-less _ _ _ _ _ _ _ _ _ (c .before .before .before .before .before .before .loop .inv) _ _ (c .before .before .before .write-round .ensures .0) (c .before .before .before .write-round .ensures .1) (c .if1 .left)) }
+mul-size c =
+    let c3 = c .before .before .before in let c6 = c .before .before .before .before .before .before in
+    record { fits = omega (arith, c6 .loop .inv .few, going-less _ _ _ _ _ _ _ _ _ (c6 .loop .inv) _ _ (c3 .write-round .ensures .0) (c3 .write-round .ensures .1) (c .if1 .left)) }
 
 slice-reshare-prefix-copy : tie.Need-slice-reshare-prefix-copy Inv-loop μ-loop
 slice-reshare-prefix-copy c = kept-fits _ _ _ _ _ _ _ _ _ (c .before .before .before .before .before .before .loop .inv) _ _ (c .before .before .before .write-round .ensures .0) (c .before .before .before .write-round .ensures .1)
 
 slice-aggregate-copy : tie.Need-slice-aggregate-copy Inv-loop μ-loop
-slice-aggregate-copy c = sym (kept-length _ _ _ _ _ _ _ _ _ (c .before .before .before .before .before .before .before .loop .inv) _ _ (c .before .before .before .before .write-round .ensures .0) (c .before .before .before .before .write-round .ensures .1))
+slice-aggregate-copy c =
+    let c4 = c .before .before .before .before in let c7 = c .before .before .before .before .before .before .before in
+    sym (kept-length _ _ _ _ _ _ _ _ _ (c7 .loop .inv) _ _ (c4 .write-round .ensures .0) (c4 .write-round .ensures .1))
 
 copy-requires : tie.Need-copy-requires Inv-loop μ-loop
 copy-requires c κs =
-    omega (arith, kept-length _ _ _ _ _ _ _ _ _ (c .before .before .before .before .before .before .before .before .loop .inv) _ _ (c .before .before .before .before .before .write-round .ensures .0) (c .before .before .before .before .before .write-round .ensures .1), going-less _ _ _ _ _ _ _ _ _ (c .before .before .before .before .before .before .before .before .loop .inv) _ _ (c .before .before .before .before .before .write-round .ensures .0) (c .before .before .before .before .before .write-round .ensures .1) (c .before .before .if1 .left), c .before .before .before .before .before .before .before .before .loop .inv .fits)
+    let c5 = c .before .before .before .before .before in let c8 = c .before .before .before .before .before .before .before .before in
+    omega (
+      arith,
+      kept-length _ _ _ _ _ _ _ _ _ (c8 .loop .inv) _ _ (c5 .write-round .ensures .0) (c5 .write-round .ensures .1),
+      going-less
+          _ _ _ _ _ _ _ _ _ (c8 .loop .inv) _ _ (c5 .write-round .ensures .0) (c5 .write-round .ensures .1) (c .before .before .if1 .left),
+      c8 .loop .inv .fits,
+    )
 
 loop-less : tie.Need-loop-less Inv-loop μ-loop
-loop-less c = going-less _ _ _ _ _ _ _ _ _ (c .before .before .before .before .before .before .before .before .before .before .before .loop .inv) _ _ (c .before .before .before .before .before .before .before .before .write-round .ensures .0) (c .before .before .before .before .before .before .before .before .write-round .ensures .1) (c .before .before .before .before .before .if1 .left)
+loop-less c =
+    let c5 = c .before .before .before .before .before in let c8 = c .before .before .before .before .before .before .before .before in
+    let c11 = c .before .before .before .before .before .before .before .before .before .before .before in
+    going-less _ _ _ _ _ _ _ _ _ (c11 .loop .inv) _ _ (c8 .write-round .ensures .0) (c8 .write-round .ensures .1) (c5 .if1 .left)
 
 loop-again : tie.Need-loop-again Inv-loop μ-loop
-loop-again c = going-on _ _ _ _ _ _ _ _ _ (c .before .before .before .before .before .before .before .before .before .before .before .loop .inv) _ _ (c .before .before .before .before .before .before .before .before .write-round .ensures .0) (c .before .before .before .before .before .before .before .before .write-round .ensures .1) _ (c .before .before .copy .ensures) (c .before .before .before .before .before .if1 .left)
+loop-again c =
+    let c5 = c .before .before .before .before .before in let c8 = c .before .before .before .before .before .before .before .before in
+    let c11 = c .before .before .before .before .before .before .before .before .before .before .before in
+    going-on _ _ _ _ _ _ _ _ _ (c11 .loop .inv) _ _ (c8 .write-round .ensures .0) (c8 .write-round .ensures .1) _ (c .before .before .copy .ensures) (c5 .if1 .left)
 
 pub rounds-spec : {M : Type 1} → statement M
 rounds-spec =

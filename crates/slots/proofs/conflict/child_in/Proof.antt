@@ -17,7 +17,9 @@ loop-holds : tie.Need-loop-holds Inv-loop μ-loop
 loop-holds c = (c .next .ensures .high, c .next .ensures .here, child-first _ _ _ _ _ (search needs) (search needs) (c .next .ensures))
 
 returns : tie.Need-returns Inv-loop μ-loop
-returns c = rw (← (c .before .before .before .before .before .count .ensures .is)) (child-found _ _ _ _ _ _ (c .before .before .loop-test .taken) (c .before .before .before .loop .inv .1 (c .before .before .loop-test .taken)) (c .before .parent .ensures .is) (c .if1 .taken))
+returns c =
+    let c3 = c .before .before .before in let c5 = c3 .before .before in
+    rw (← (c5 .count .ensures .is)) (child-found _ _ _ _ _ _ (c .before .before .loop-test .taken) (c3 .loop .inv .1 (c .before .before .loop-test .taken)) (c .before .parent .ensures .is) (c .if1 .taken))
 
 loop-again : tie.Need-loop-again Inv-loop μ-loop
 loop-again c = (c .next2 .ensures .high, c .next2 .ensures .here, child-next _ _ _ _ _ _ _ (c .next2 .ensures) (c .before .before .before .before .loop .inv .2) (c .before .before .parent .ensures .is) (c .before .if1 .left))

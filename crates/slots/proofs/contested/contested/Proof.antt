@@ -19,7 +19,9 @@ loop-holds c = (c .next .ensures .high, c .next .ensures .here, any-first _ _ _ 
 
 returns : tie.Need-returns Inv-loop μ-loop
 unfolding contestedIn
-returns c = rw (← (c .before .before .before .before .before .count .ensures .is)) (any-member _ _ _ _ (c .before .before .loop-test .taken) (c .before .before .before .loop .inv .1 (c .before .before .loop-test .taken)) (sym (c .before .has-rival .ensures) ∙ c .if1 .taken))
+returns c =
+    let c3 = c .before .before .before in let c5 = c3 .before .before in
+    rw (← (c5 .count .ensures .is)) (any-member _ _ _ _ (c .before .before .loop-test .taken) (c3 .loop .inv .1 (c .before .before .loop-test .taken)) (sym (c .before .has-rival .ensures) ∙ c .if1 .taken))
 
 loop-again : tie.Need-loop-again Inv-loop μ-loop
 loop-again c = (c .next2 .ensures .high, c .next2 .ensures .here, any-next-member _ _ _ _ _ (c .next2 .ensures) (c .before .before .before .before .loop .inv .2) (sym (c .before .before .has-rival .ensures) ∙ c .before .if1 .left))

@@ -18,7 +18,9 @@ loop-again : tie.Need-loop-again Inv-loop μ-loop
 loop-again c = (search needs, any-more _ _ (c .before .before .loop .inv .1) (other-itself _ _ _ (c .if1 .taken)))
 
 returns : tie.Need-returns Inv-loop μ-loop
-returns c = other-found _ _ _ (c .before .before .before .before .before .parent .ensures .is) _ _ (c .before .before .before .before .before .before .before .before .pre .0 .sized .few) (search needs) (c .before .before .before .before .loop .inv .0) (c .before .before .if1 .left) (c .before .parent2 .ensures .is) (c .if2 .taken)
+returns c =
+    let c4 = c .before .before .before .before in let c5 = c4 .before in let c8 = c5 .before .before .before in
+    other-found _ _ _ (c5 .parent .ensures .is) _ _ (c8 .pre .0 .sized .few) (search needs) (c4 .loop .inv .0) (c .before .before .if1 .left) (c .before .parent2 .ensures .is) (c .if2 .taken)
 
 loop-again-2 : tie.Need-loop-again-2 Inv-loop μ-loop
 loop-again-2 c = (search needs, any-more _ _ (c .before .before .before .before .loop .inv .1) (other-stranger _ _ _ (c .before .before .before .before .before .parent .ensures .is) _ _ (c .before .parent2 .ensures .is) (c .if2 .left)))

@@ -19,11 +19,20 @@ loop-holds : tie.Need-loop-holds Inv-loop μ-loop
 loop-holds c = (search needs, least-start _ _ _, search needs)
 
 loop-again : tie.Need-loop-again Inv-loop μ-loop
-loop-again c = (search needs, least-more _ _ _ _ _ _ _ (c .before .before .before .loop .inv .1) (rival-turn _ _ _ _ _ _ _ _ (c .before .before .before .before .before .before .before .before .pre .1 .1) (c .before .before .before .before .parent .ensures .is) (c .before .rival-height .ensures .is)) (c .lower .ensures), omega (arith, c .before .before .before .loop .inv .2, c .lower .ensures, min-le-left (c .before .before .before .loop .best) (c .before .rival-height .result)))
+loop-again c =
+    let c3 = c .before .before .before in let c4 = c3 .before in let c8 = c4 .before .before .before .before in (
+      search needs,
+      least-more _ _ _ _ _ _ _ (c3 .loop .inv .1) (rival-turn _ _ _ _ _ _ _ _ (c8 .pre .1 .1) (c4 .parent .ensures .is)
+          (c .before .rival-height .ensures .is)) (c .lower .ensures),
+      omega
+          (arith, c3 .loop .inv .2, c .lower .ensures, min-le-left (c3 .loop .best) (c .before .rival-height .result)),
+    )
 
 returns : tie.Need-returns Inv-loop μ-loop
 unfolding deadline
-returns c = record { is = rw (← (c .before .before .before .count .ensures .is), ← (c .before .before .before .before .lock-height .ensures .is)) (least-done _ _ _ _ _ _ (c .before .loop .inv .0) (c .loop-test .left) (c .before .loop .inv .1)); small = c .before .loop .inv .2 }
+returns c =
+    let c3 = c .before .before .before in let c4 = c3 .before in
+    record { is = rw (← (c3 .count .ensures .is), ← (c4 .lock-height .ensures .is)) (least-done _ _ _ _ _ _ (c .before .loop .inv .0) (c .loop-test .left) (c .before .loop .inv .1)); small = c .before .loop .inv .2 }
 
 pub deadline-among-spec : {M : Type 1} → statement M
 deadline-among-spec =

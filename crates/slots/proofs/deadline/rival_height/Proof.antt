@@ -8,7 +8,9 @@ returns : tie.Need-returns
 returns c = record { is = simp (ne-eqb _ _ (λ e. c .if1 .taken (c .before .parent .ensures .is ∙ sym e))); small = search needs }
 
 returns-2 : tie.Need-returns-2
-returns-2 c = record { is = simp (tests, eq-eqb _ _ (sym (c .before .before .if1 .left) ∙ c .before .before .before .parent .ensures .is), ← (c .before .lock-height .ensures .is), c .if2 .taken); small = c .before .lock-height .ensures .small }
+returns-2 c =
+    let c3 = c .before .before .before in
+    record { is = simp (tests, eq-eqb _ _ (sym (c .before .before .if1 .left) ∙ c3 .parent .ensures .is), ← (c .before .lock-height .ensures .is), c .if2 .taken); small = c .before .lock-height .ensures .small }
 
 returns-3 : tie.Need-returns-3
 returns-3 c = record { is = simp (tests, eq-eqb _ _ (sym (c .before .before .if1 .left) ∙ c .before .before .before .parent .ensures .is), ← (c .before .lock-height .ensures .is), c .if2 .left); small = search needs }

@@ -13,11 +13,15 @@ unfolding isPayee
 returns c = simp (← (c .before .is-party .ensures), not-true (c .before .is-party .result) (c .if1 .taken))
 
 has-requires : tie.Need-has-requires
-has-requires c κs = let h = place-below _ _ (held _ _ (c .before .before .before .is-party .ensures) (c .before .before .if1 .left)) in rw (c .place .ensures) (omega (arith, h, parties-few (now (c .before .before .before .before .before .args .sheet))))
+has-requires c κs =
+    let c3 = c .before .before .before in let c5 = c3 .before .before in
+    let h = place-below _ _ (held _ _ (c3 .is-party .ensures) (c .before .before .if1 .left)) in rw (c .place .ensures) (omega (arith, h, parties-few (now (c5 .args .sheet))))
 
 returns-2 : tie.Need-returns-2
 unfolding isPayee
-returns-2 c = simp (← (c .before .before .before .before .is-party .ensures), not-false (c .before .before .before .before .is-party .result) (c .before .before .before .if1 .left), ← (c .before .before .payees .ensures), ← (c .before .place .ensures)) (c .has .ensures)
+returns-2 c =
+    let c3 = c .before .before .before in let c4 = c3 .before in
+    simp (← (c4 .is-party .ensures), not-false (c4 .is-party .result) (c3 .if1 .left), ← (c .before .before .payees .ensures), ← (c .before .place .ensures)) (c .has .ensures)
 
 pub is-payee-spec : {M : Type 1} → statement M
 is-payee-spec =

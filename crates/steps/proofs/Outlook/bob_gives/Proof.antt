@@ -19,11 +19,15 @@ returns-3 c = simp (tests, c .before .before .before .if1 .left, c .before .befo
 
 returns-4 : tie.Need-returns-4
 unfolding bobGivesIn
-returns-4 c = simp (tests, c .before .before .before .before .before .if1 .left, c .before .before .before .before .if2 .left, ← (c .before .before .before .has .ensures), not-false (c .before .before .before .has .result) (c .before .before .if3 .left), ← (c .before .has2 .ensures), c .if4 .taken)
+returns-4 c =
+    let c3 = c .before .before .before in let c4 = c3 .before in let c5 = c4 .before in
+    simp (tests, c5 .if1 .left, c4 .if2 .left, ← (c3 .has .ensures), not-false (c3 .has .result) (c .before .before .if3 .left), ← (c .before .has2 .ensures), c .if4 .taken)
 
 returns-5 : tie.Need-returns-5
 unfolding bobGivesIn
-returns-5 c = simp (tests, c .before .before .before .before .before .before .if1 .left, c .before .before .before .before .before .if2 .left, ← (c .before .before .before .before .has .ensures), not-false (c .before .before .before .before .has .result) (c .before .before .before .if3 .left), ← (c .before .before .has2 .ensures), c .before .if4 .left)
+returns-5 c =
+    let c3 = c .before .before .before in let c4 = c3 .before in let c5 = c4 .before in let c6 = c5 .before in
+    simp (tests, c6 .if1 .left, c5 .if2 .left, ← (c4 .has .ensures), not-false (c4 .has .result) (c3 .if3 .left), ← (c .before .before .has2 .ensures), c .before .if4 .left)
 
 pub bob-gives-spec : {M : Type 1} → statement M
 bob-gives-spec =

@@ -18,7 +18,9 @@ returns-3 c = rw (c .before .before .before .before .if1 .left, ← (c .before .
 
 returns-4 : tie.Need-returns-4
 unfolding sendAllowedIn
-returns-4 c = rw (c .safe-to-send .ensures, ← (c .before .before .before .before .may-send .ensures), not-false (c .before .before .before .before .may-send .result) (c .before .before .before .if2 .left), c .before .if3 .left, c .before .before .before .before .before .if1 .left)
+returns-4 c =
+    let c3 = c .before .before .before in let c4 = c3 .before in let c5 = c4 .before in
+    rw (c .safe-to-send .ensures, ← (c4 .may-send .ensures), not-false (c4 .may-send .result) (c3 .if2 .left), c .before .if3 .left, c5 .if1 .left)
 
 pub send-allowed-spec : {M : Type 1} → statement M
 send-allowed-spec =

@@ -14,7 +14,9 @@ returns-2 c = rw (← (c .before .before .send-allowed .ensures), not-false (c .
 
 returns-3 : tie.Need-returns-3
 unfolding sendHeldIn
-returns-3 c = rw (← (c .before .before .before .send-allowed .ensures), not-false (c .before .before .before .send-allowed .result) (c .before .before .if1 .left), not-false (c .before .before .before .before .before .args .back) (c .before .if2 .left), c .is-contract .ensures)
+returns-3 c =
+    let c3 = c .before .before .before in let c5 = c3 .before .before in
+    rw (← (c3 .send-allowed .ensures), not-false (c3 .send-allowed .result) (c .before .before .if1 .left), not-false (c5 .args .back) (c .before .if2 .left), c .is-contract .ensures)
 
 pub send-held-spec : {M : Type 1} → statement M
 send-held-spec =

@@ -8,7 +8,8 @@ use Rattle.steps.proofs.View.after.Tie as tie
 returns : tie.Need-returns
 unfolding viewAfter standing
 returns c =
-    rw (c .before .shared-any .ensures, c .before .before .join3 .ensures, c .before .before .before .before .join2 .ensures, c .before .before .before .before .before .before .join .ensures, c .before .before .before .before .before .before .before .before .remove2 .ensures, c .before .before .before .before .before .before .before .before .before .remove .ensures)
+    let c4 = c .before .before .before .before in let c6 = c4 .before .before in let c8 = c6 .before .before in let c9 = c8 .before in
+    rw (c .before .shared-any .ensures, c .before .before .join3 .ensures, c4 .join2 .ensures, c6 .join .ensures, c8 .remove2 .ensures, c9 .remove .ensures)
 
 pub after-spec : {M : Type 1} → statement M
 after-spec =

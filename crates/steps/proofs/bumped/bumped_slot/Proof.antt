@@ -14,7 +14,9 @@ returns c = rw (← (c .before .before .has .ensures), c .before .if1 .taken) (c
 
 returns-2 : tie.Need-returns-2
 unfolding bumpedSlot
-returns-2 c = rw (← (c .before .before .before .has .ensures), c .before .before .if1 .left) (block-out (inAncestry (now (c .before .before .before .before .before .args .sheet)) (bit (c .before .before .before .before .before .args .leaving)) (c .before .before .before .before .before .args .t)) (c .before .before .before .before .before .args .x) (c .if2 .taken))
+returns-2 c =
+    let c3 = c .before .before .before in let c5 = c3 .before .before in
+    rw (← (c3 .has .ensures), c .before .before .if1 .left) (block-out (inAncestry (now (c5 .args .sheet)) (bit (c5 .args .leaving)) (c5 .args .t)) (c5 .args .x) (c .if2 .taken))
 
 returns-3 : tie.Need-returns-3
 unfolding bumpedSlot

@@ -14,7 +14,9 @@ returns-2 c = rw (← (c .before .before .before .has .ensures), not-false (c .b
 
 returns-3 : tie.Need-returns-3
 unfolding entersIn
-returns-3 c = rw (← (c .before .before .before .before .has .ensures), not-false (c .before .before .before .before .has .result) (c .before .before .before .if1 .left), ← (c .before .before .has2 .ensures), c .before .if2 .left) (c .has3 .ensures)
+returns-3 c =
+    let c3 = c .before .before .before in let c4 = c3 .before in
+    rw (← (c4 .has .ensures), not-false (c4 .has .result) (c3 .if1 .left), ← (c .before .before .has2 .ensures), c .before .if2 .left) (c .has3 .ensures)
 
 pub enters-in-spec : {M : Type 1} → statement M
 enters-in-spec =

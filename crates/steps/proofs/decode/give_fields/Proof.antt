@@ -8,7 +8,9 @@ returns : tie.Need-returns
 returns c = simp (← (c .before .is-party .ensures), not-true (c .before .is-party .result) (c .if1 .taken))
 
 returns-2 : tie.Need-returns-2
-returns-2 c = simp (tests, ← (c .before .before .before .before .is-party .ensures), not-false (c .before .before .before .before .is-party .result) (c .before .before .before .if1 .left), ← (c .before .before .signatures .ensures), c .before .if2 .taken, ← (c .is-other .ensures))
+returns-2 c =
+    let c3 = c .before .before .before in let c4 = c3 .before in
+    simp (tests, ← (c4 .is-party .ensures), not-false (c4 .is-party .result) (c3 .if1 .left), ← (c .before .before .signatures .ensures), c .before .if2 .taken, ← (c .is-other .ensures))
 
 returns-3 : tie.Need-returns-3
 returns-3 c = simp (tests, ← (c .before .before .before .is-party .ensures), not-false (c .before .before .before .is-party .result) (c .before .before .if1 .left), ← (c .before .signatures .ensures), c .if2 .left)

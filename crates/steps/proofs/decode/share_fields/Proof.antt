@@ -10,7 +10,9 @@ returns-2 : tie.Need-returns-2
 returns-2 c = simp (← (c .before .before .before .is-party .ensures), not-false (c .before .before .before .is-party .result) (c .before .before .if1 .left), ← (c .before .listed-share .ensures), c .if2 .taken)
 
 returns-3 : tie.Need-returns-3
-returns-3 c = simp (← (c .before .before .before .before .is-party .ensures), not-false (c .before .before .before .before .is-party .result) (c .before .before .before .if1 .left), ← (c .before .before .listed-share .ensures), c .before .if2 .left, ← (c .first-share-fields .ensures))
+returns-3 c =
+    let c3 = c .before .before .before in let c4 = c3 .before in
+    simp (← (c4 .is-party .ensures), not-false (c4 .is-party .result) (c3 .if1 .left), ← (c .before .before .listed-share .ensures), c .before .if2 .left, ← (c .first-share-fields .ensures))
 
 pub share-fields-spec : {M : Type 1} → statement M
 share-fields-spec =

@@ -11,7 +11,9 @@ returns c = rw (c .if1 .taken)
 
 returns-2 : tie.Need-returns-2
 unfolding confirmEntry standing entryTo
-returns-2 c = rw (lt-ltb 0 (c .before .before .before .before .before .before .args .x .block) (omega (arith, c .before .before .before .before .if1 .left)), c .with-block .ensures, c .before .with-confirmed .ensures, c .before .before .with-shared .ensures, c .before .before .before .exposed-mask .ensures)
+returns-2 c =
+    let c3 = c .before .before .before in let c4 = c3 .before in let c6 = c4 .before .before in
+    rw (lt-ltb 0 (c6 .args .x .block) (omega (arith, c4 .if1 .left)), c .with-block .ensures, c .before .with-confirmed .ensures, c .before .before .with-shared .ensures, c3 .exposed-mask .ensures)
 
 pub confirm-entry-spec : {M : Type 1} → statement M
 confirm-entry-spec =

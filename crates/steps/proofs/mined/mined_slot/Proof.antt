@@ -11,7 +11,10 @@ use Rattle.steps.proofs.mined.mined_slot.Tie as tie
 
 returns : tie.Need-returns
 unfolding minedSlot
-returns c = rw (← (c .before .before .confirm-entry .ensures)) (pool-out (bit (c .before .before .before .before .args .entering) (c .before .before .before .before .args .t) || inAncestry (now (c .before .before .before .before .args .sheet)) (bit (c .before .before .before .before .args .leaving)) (c .before .before .before .before .args .t)) (c .before .before .confirm-entry .result) (c .if1 .taken))
+returns c =
+    let c4 = c .before .before .before .before in
+    rw (← (c .before .before .confirm-entry .ensures)) (pool-out (bit (c4 .args .entering) (c4 .args .t) || inAncestry
+    (now (c4 .args .sheet)) (bit (c4 .args .leaving)) (c4 .args .t)) (c .before .before .confirm-entry .result) (c .if1 .taken))
 
 returns-2 : tie.Need-returns-2
 unfolding minedSlot

@@ -16,11 +16,18 @@ returns-2 c = passes-not _ _ _ _ _ refl (c .before .before .if1 .left) (fails _ 
 
 returns-3 : tie.Need-returns-3
 unfolding mineTestsIn
-returns-3 c = passes-not _ _ _ _ _ refl (c .before .before .before .before .if1 .left) (passes _ _ _ _ _ (c .before .before .before .block-met .ensures) (c .before .before .if2 .left) (fails stepBlocks (ltb (c .before .before .before .before .before .args .view .mined) 10000) (ltb (c .before .before .before .before .before .args .view .mined) 10000) [] refl (rw (le-ltb _ _ (c .if3 .taken)))))
+returns-3 c =
+    let c3 = c .before .before .before in let c4 = c3 .before in let c5 = c4 .before in
+    passes-not _ _ _ _ _ refl (c4 .if1 .left) (passes _ _ _ _ _ (c3 .block-met .ensures) (c .before .before .if2 .left)
+    (fails stepBlocks (ltb (c5 .args .view .mined) 10000) (ltb (c5 .args .view .mined) 10000) [] refl (rw (le-ltb _ _ (c .if3 .taken)))))
 
 returns-4 : tie.Need-returns-4
 unfolding mineTestsIn
-returns-4 c = passes-not _ _ _ _ _ refl (c .before .before .before .before .if1 .left) (passes _ _ _ _ _ (c .before .before .before .block-met .ensures) (c .before .before .if2 .left) (passes stepBlocks 0 (ltb (c .before .before .before .before .before .args .view .mined) 10000) (ltb (c .before .before .before .before .before .args .view .mined) 10000) [] refl (rw (lt-ltb _ _ (c .if3 .left))) none-left))
+returns-4 c =
+    let c3 = c .before .before .before in let c4 = c3 .before in let c5 = c4 .before in
+    passes-not _ _ _ _ _ refl (c4 .if1 .left) (passes _ _ _ _ _ (c3 .block-met .ensures) (c .before .before .if2 .left)
+    (passes stepBlocks 0 (ltb (c5 .args .view .mined) 10000) (ltb (c5 .args .view .mined) 10000) [] refl (rw (lt-ltb _ _ (c .if3 .left)))
+    none-left))
 
 pub mine-refusal-spec : {M : Type 1} → statement M
 mine-refusal-spec = tie.close (tie.spec returns (λ c κs. search needs) returns-2 returns-3 returns-4)

@@ -14,7 +14,9 @@ returns-2 c = rw (← (c .before .before .before .has .ensures), not-false (c .b
 
 returns-3 : tie.Need-returns-3
 unfolding owedIn
-returns-3 c = rw (← (c .before .before .before .before .before .has .ensures), not-false (c .before .before .before .before .before .has .result) (c .before .before .before .before .if1 .left), ← (c .before .before .before .has2 .ensures), c .before .before .if2 .left, ← (c .deadline .ensures .is), ← (c .before .wide .ensures .0))
+returns-3 c =
+    let c3 = c .before .before .before in let c4 = c3 .before in let c5 = c4 .before in
+    rw (← (c5 .has .ensures), not-false (c5 .has .result) (c4 .if1 .left), ← (c3 .has2 .ensures), c .before .before .if2 .left, ← (c .deadline .ensures .is), ← (c .before .wide .ensures .0))
 
 pub owed-at-spec : {M : Type 1} → statement M
 owed-at-spec =

@@ -12,7 +12,9 @@ returns c = simp (tests, ← (c .before .stealth .ensures), c .if1 .taken)
 
 returns-2 : tie.Need-returns-2
 unfolding minerTestsIn firstFailing
-returns-2 c = simp (tests, ← (c .before .before .before .before .before .stealth .ensures), c .before .before .before .before .if1 .left, c .send-refusal .ensures, c .before .placed .ensures, c .before .before .per-day .ensures, c .before .before .before .sender .ensures)
+returns-2 c =
+    let c3 = c .before .before .before in let c4 = c3 .before in let c5 = c4 .before in
+    simp (tests, ← (c5 .stealth .ensures), c4 .if1 .left, c .send-refusal .ensures, c .before .placed .ensures, c .before .before .per-day .ensures, c3 .sender .ensures)
 
 pub miner-refusal-spec : {M : Type 1} → statement M
 miner-refusal-spec =

@@ -18,11 +18,15 @@ returns-2 c =
 
 returns-3 : tie.Need-returns-3
 unfolding paysIn
-returns-3 c = rw (← (c .before .before .before .before .before .before .before .before .is-payee .ensures), not-false (c .before .before .before .before .before .before .before .before .is-payee .result) (c .before .before .before .before .before .before .before .if1 .left), ← (c .before .before .send-allowed .ensures), ← (c .before .pool-refusal .ensures), c .if3 .taken)
+returns-3 c =
+    let c7 = c .before .before .before .before .before .before .before in let c8 = c7 .before in
+    rw (← (c8 .is-payee .ensures), not-false (c8 .is-payee .result) (c7 .if1 .left), ← (c .before .before .send-allowed .ensures), ← (c .before .pool-refusal .ensures), c .if3 .taken)
 
 returns-4 : tie.Need-returns-4
 unfolding paysIn
-returns-4 c = simp (tests, ← (c .before .before .before .before .before .before .before .before .before .is-payee .ensures), not-false (c .before .before .before .before .before .before .before .before .before .is-payee .result) (c .before .before .before .before .before .before .before .before .if1 .left), ← (c .before .before .before .send-allowed .ensures), ← (c .before .before .pool-refusal .ensures), c .before .if3 .left, ← (c .miner-refusal .ensures))
+returns-4 c =
+    let c3 = c .before .before .before in let c8 = c3 .before .before .before .before .before in let c9 = c8 .before in
+    simp (tests, ← (c9 .is-payee .ensures), not-false (c9 .is-payee .result) (c8 .if1 .left), ← (c3 .send-allowed .ensures), ← (c .before .before .pool-refusal .ensures), c .before .if3 .left, ← (c .miner-refusal .ensures))
 
 pub pays-spec : {M : Type 1} → statement M
 pays-spec =

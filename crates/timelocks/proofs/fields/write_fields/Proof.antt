@@ -51,10 +51,12 @@ add-at c =
 
 loop-again : tie.Need-loop-again Inv-loop μ-loop
 loop-again c =
-    let k = c .before .before .before .before .before .before .before .before .before .before .before in
-    let i = c .before .before .before .before .before .before .before .loop in
-    let wrote = pair-written (k .args .sheet .now) (k .args .per-day) (k .args .base) (i .t) _ _ (c .before .before .before .before .before .lock-time .ensures) (c .before .before .before .before .sequence .ensures) in
-    turn-more _ _ _ _ _ _ _ 8 (i .inv) (c .before .before .before .before .before .before .loop-test .taken) (sym (field-length (k .args .sheet .now) (k .args .per-day) (k .args .base) (i .t))) (rw wrote at (c .before .before .write-pair .ensures))
+    let c4 = c .before .before .before .before in let c5 = c4 .before in let c6 = c5 .before in let c7 = c6 .before in
+    let c11 = c7 .before .before .before .before in
+    let k = c11 in
+    let i = c7 .loop in
+    let wrote = pair-written (k .args .sheet .now) (k .args .per-day) (k .args .base) (i .t) _ _ (c5 .lock-time .ensures) (c4 .sequence .ensures) in
+    turn-more _ _ _ _ _ _ _ 8 (i .inv) (c6 .loop-test .taken) (sym (field-length (k .args .sheet .now) (k .args .per-day) (k .args .base) (i .t))) (rw wrote at (c .before .before .write-pair .ensures))
 
 same-length : tie.Need-same-length Inv-loop μ-loop
 same-length c = c .before .loop .inv .wrote .long
