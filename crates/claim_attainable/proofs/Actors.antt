@@ -10,7 +10,7 @@ use Rattle.slots.specs.Destination.{destinations, isParty}
 use Rattle.slots.specs.Signatures.{shareMask, exposedMask}
 use Rattle.position.specs.declared.Position.{Position}
 use Rattle.position.specs.Position.{inPool, poolTo, inBlock, blockTo, blockOf, isConfirmed, confirmedTo, shared, keys, holds, deadlineIn}
-use Rattle.moves.proofs.Sending.{Sent}
+use Rattle.step_laws.proofs.Sending.{Sent}
 
 -- the party is not X, or it sends one of those that X may
 abbrev pub Apart : ℕ → (ℕ → Bool) → ℕ → ℕ → Type 0

@@ -12,9 +12,9 @@ use Rattle.slots.proofs.Ancestors.{Above, here, up, above-le, other-find}
 use Rattle.slots.proofs.Parents.{parent-has}
 use Rattle.position.specs.declared.Position.{Position}
 use Rattle.position.specs.Position.{inPool, inBlock, blockOf, isConfirmed}
-use Rattle.agreement.proofs.Sound.{Waits, Sound}
-use Rattle.agreement.proofs.BumpedBlock.{settled-up, waits-up}
-use Rattle.outage.proofs.Play.{LaterIn}
+use Rattle.claim_ledger.proofs.Sound.{Waits, Sound}
+use Rattle.claim_ledger.proofs.BumpedBlock.{settled-up, waits-up}
+use Rattle.claim_outage.proofs.Play.{LaterIn}
 use Rattle.claim_attainable.specs.Attainable.{gone}
 use Rattle.claim_attainable.proofs.Actors.{There, pool, block, chain}
 

@@ -20,12 +20,12 @@ use Rattle.position.specs.declared.Position.{Position}
 use Rattle.position.specs.Position.{slot, inPool, poolTo, inBlock, blockTo, blockOf, isConfirmed, confirmedTo, shared, holds, deadlineIn}
 use Rattle.position.specs.Position as at
 use Rattle.steps.specs.Decode.{sendsTo, sharesTo}
-use Rattle.moves.proofs.AfterBlocks.{out-pool, out-block}
-use Rattle.agreement.proofs.Sound.{Waits, Sound}
-use Rattle.agreement.proofs.EachKind.{right-to, wide}
-use Rattle.careful.proofs.Has.{Has, held, shown, secret, has-by}
-use Rattle.outage.proofs.Between.{between}
-use Rattle.outage.proofs.Play.{LaterIn, later-same}
+use Rattle.step_laws.proofs.AfterBlocks.{out-pool, out-block}
+use Rattle.claim_ledger.proofs.Sound.{Waits, Sound}
+use Rattle.claim_ledger.proofs.EachKind.{right-to, wide}
+use Rattle.claim_careful.proofs.Has.{Has, held, shown, secret, has-by}
+use Rattle.claim_outage.proofs.Between.{between}
+use Rattle.claim_outage.proofs.Play.{LaterIn, later-same}
 use Rattle.claim_attainable.specs.Attainable.{secretsOf, otherKeys, othersKeys, knownFrom, neverSent, waitsFor, comes, Closed}
 use Rattle.claim_attainable.proofs.Masks.{union-has, subset-else}
 use Rattle.claim_attainable.proofs.Parts.{othersHave, Way, waits, lent, signs, Parent, comes-from, known-shared, known-member, have-keys, have-known, have-shared}

@@ -21,11 +21,11 @@ use Rattle.position.specs.Conduct.{conductAllows}
 use Rattle.position.specs.StepRefusal.{tests, stepRefusal}
 use Rattle.position.specs.Effect.{afterShare, afterGive, afterSend, afterHandIn, afterInclude}
 use Rattle.position.specs.Effect.{leavesPool, afterMine, afterBump, effect}
-use Rattle.moves.proofs.Untouched.{SamePool, SameBlock, SameConfirmed}
-use Rattle.moves.proofs.AfterShares.{share-pool, share-block, share-confirmed, give-pool, give-block, give-confirmed}
-use Rattle.moves.proofs.AfterSends.{send-pool, send-to, send-block, send-confirmed, hand-block, hand-to, hand-pool, hand-confirmed, include-block, include-to, include-pool, include-confirmed}
-use Rattle.moves.proofs.AfterBlocks.{mine-blocks, mine-to, mine-block, mine-pool, mine-pool-to, bump-block, bump-to-entered, bump-to-kept, bump-pool, bump-confirmed, enters-in}
-use Rattle.moves.proofs.Sending.{sent-to-pool, before-deadline, handed-in}
+use Rattle.step_laws.proofs.Untouched.{SamePool, SameBlock, SameConfirmed}
+use Rattle.step_laws.proofs.AfterShares.{share-pool, share-block, share-confirmed, give-pool, give-block, give-confirmed}
+use Rattle.step_laws.proofs.AfterSends.{send-pool, send-to, send-block, send-confirmed, hand-block, hand-to, hand-pool, hand-confirmed, include-block, include-to, include-pool, include-confirmed}
+use Rattle.step_laws.proofs.AfterBlocks.{mine-blocks, mine-to, mine-block, mine-pool, mine-pool-to, bump-block, bump-to-entered, bump-to-kept, bump-pool, bump-confirmed, enters-in}
+use Rattle.step_laws.proofs.Sending.{sent-to-pool, before-deadline, handed-in}
 use Rattle.claim_attainable.proofs.Actors.{Apart, Idle, Place, in-pool, in-block, in-chain, There, pool, block, chain, SentBy, by-share, by-send, by-block, MovedBy}
 use Rattle.claim_attainable.proofs.Shown.{share-shown, shared-keys, give-shared, key-from, send-shown, send-keys, block-shown, hand-keys, include-keys, mine-keys, bump-keys, bumped-shown, mined-shown}
 

@@ -16,10 +16,10 @@ use Rattle.position.proofs.StepCases.{StepCase, taken, turned-down, step-case}
 use Rattle.position.proofs.Decoding.{decodes}
 use Rattle.steps.specs.declared.Decoded.the-variants.{Read}
 use Rattle.steps.specs.Decode.{stepBytes}
-use Rattle.moves.proofs.Rises.{fourOf}
-use Rattle.agreement.proofs.EachKind.{wide}
-use Rattle.agreement.proofs.SoundSteps.{sound-step}
-use Rattle.outage.proofs.Play.{later-step, later-then}
+use Rattle.step_laws.proofs.Rises.{fourOf}
+use Rattle.claim_ledger.proofs.EachKind.{wide}
+use Rattle.claim_ledger.proofs.SoundSteps.{sound-step}
+use Rattle.claim_outage.proofs.Play.{later-step, later-then}
 use Rattle.claim_attainable.specs.Attainable.{Closed}
 use Rattle.claim_attainable.specs.Words.{stepOf, sendOf, sendsOnly}
 use Rattle.claim_attainable.proofs.Actors.{Apart, Idle}

@@ -19,9 +19,9 @@ use Rattle.slots.proofs.Ancestors.{other-find, other-met}
 use Rattle.slots.proofs.Parents.{parent-below}
 use Rattle.position.specs.declared.Position.{Position}
 use Rattle.position.specs.Position.{slot, inPool, poolTo, inBlock, blockTo, blockOf, isConfirmed, shared, keys, holds, deadlineIn}
-use Rattle.careful.proofs.Has.{somewhere}
-use Rattle.outage.proofs.Between.{between}
-use Rattle.outage.proofs.Play.{LaterIn}
+use Rattle.claim_careful.proofs.Has.{somewhere}
+use Rattle.claim_outage.proofs.Between.{between}
+use Rattle.claim_outage.proofs.Play.{LaterIn}
 use Rattle.claim_attainable.specs.Attainable.{gone, secretsOf, otherKeys, othersKeys, shownBy, knownFrom, neverSent, waitsFor, comes, Closed}
 use Rattle.claim_attainable.proofs.Masks.{subset-else}
 use Rattle.claim_attainable.proofs.Parts.{othersHave, Way, waits, lent, signs, Parent, Comes, comes-parts, comes-from, known-member, have-keys, have-known, picked-bit}

@@ -13,8 +13,8 @@ use Rattle.slots.specs.Destination.{destinations, isParty}
 use Rattle.position.specs.declared.Position.{Position}
 use Rattle.position.specs.Position.{start, isConfirmed, confirmedTo}
 use Rattle.position.specs.Play.{FourBytes, play}
-use Rattle.agreement.proofs.Sound.{Sound}
-use Rattle.agreement.proofs.SoundSteps.{sound-start, sound-play}
+use Rattle.claim_ledger.proofs.Sound.{Sound}
+use Rattle.claim_ledger.proofs.SoundSteps.{sound-start, sound-play}
 use Rattle.claim_attainable.specs.Attainable.{comes, attainable, attainableElsewhere, Closed}
 use Rattle.claim_attainable.specs.Words.{stepOf, without, sendsOnly}
 use Rattle.claim_attainable.specs.Claim.{Foreseen, Attainability}

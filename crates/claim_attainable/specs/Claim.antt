@@ -14,7 +14,7 @@ use Rattle.slots.specs.Destination.{isParty}
 use Rattle.position.specs.declared.Position.{Position}
 use Rattle.position.specs.Position.{isConfirmed, confirmedTo}
 use Rattle.position.specs.Play.{FourBytes, play}
-use Rattle.agreement.specs.Claim.{positionOf}
+use Rattle.claim_ledger.specs.Claim.{positionOf}
 use Rattle.claim_attainable.specs.Attainable.{attainable, attainableElsewhere, Closed}
 use Rattle.claim_attainable.specs.Words.{without, sendsOnly}
 

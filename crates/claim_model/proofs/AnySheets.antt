@@ -7,9 +7,9 @@ use Rattle.sheet.specs.Setup.{perDay}
 use Rattle.slots.proofs.Conflicts.{conflict-self, conflict-sym}
 use Rattle.position.specs.declared.Position.{Position}
 use Rattle.position.specs.Position.{inPool, inBlock, blockOf, isConfirmed, sent, placed, lockHeightIn}
-use Rattle.moves.specs.Wellformed.{Wellformed}
-use Rattle.agreement.proofs.Sound.{Waits, Sound}
-use Rattle.careful.proofs.Places.{pool-anywhere, block-anywhere, confirmed-anywhere, in-sheet}
+use Rattle.step_laws.specs.Wellformed.{Wellformed}
+use Rattle.claim_ledger.proofs.Sound.{Waits, Sound}
+use Rattle.claim_careful.proofs.Places.{pool-anywhere, block-anywhere, confirmed-anywhere, in-sheet}
 use Rattle.claim_model.specs.Claim.{ConflictFree, Kept}
 
 module _ (s u : List ℕ) (p : Position) (g : Sound s u p) where

@@ -18,13 +18,13 @@ use Rattle.steps.specs.Names.{secretBob, lockA, lockB, success, timeout, spendA
 use Rattle.position.specs.declared.Position.{Position}
 use Rattle.position.specs.Position.{inPool, inBlock, blockOf, isConfirmed, confirmedTo, holds}
 use Rattle.position.proofs.Opened.{opened}
-use Rattle.agreement.proofs.Sound.{Sound}
-use Rattle.careful.specs.Claim.{inShared}
-use Rattle.careful.proofs.Places.{Anywhere, pool-anywhere, block-anywhere, confirmed-anywhere, confirmed-stands, rightful, payee-to}
-use Rattle.careful.proofs.Setting.{sheet, two-parties}
-use Rattle.careful.proofs.Table.{fifteen, pays-alice, pays-bob, pays-from-B, spendB-pays, below}
-use Rattle.careful.proofs.Invariant.{SecretBobOut, SecretAliceOut, Invariant}
-use Rattle.careful.proofs.Payouts.{Paid, stands, pays, above, alice-once, bob-once, after-timeout}
+use Rattle.claim_ledger.proofs.Sound.{Sound}
+use Rattle.claim_careful.specs.Claim.{inShared}
+use Rattle.claim_careful.proofs.Places.{Anywhere, pool-anywhere, block-anywhere, confirmed-anywhere, confirmed-stands, rightful, payee-to}
+use Rattle.claim_careful.proofs.Setting.{sheet, two-parties}
+use Rattle.claim_careful.proofs.Table.{fifteen, pays-alice, pays-bob, pays-from-B, spendB-pays, below}
+use Rattle.claim_careful.proofs.Invariant.{SecretBobOut, SecretAliceOut, Invariant}
+use Rattle.claim_careful.proofs.Payouts.{Paid, stands, pays, above, alice-once, bob-once, after-timeout}
 use Rattle.claim_model.specs.Words.{remains, noneRemains, hasCustody, swapSuccessful, swapAborted, swapTimedOut, contractFinished}
 use Rattle.claim_model.proofs.AnySheets.{pool-low, block-low, has-block}
 use Rattle.claim_model.proofs.Shared.{shown-in}

@@ -17,7 +17,7 @@ use Rattle.position.specs.Effect.{changeSlot}
 use Rattle.position.specs.Holder.{holderIn}
 use Rattle.position.specs.Play.{run}
 use Rattle.position.proofs.Opened.{opened}
-use Rattle.careful.specs.Claim.{inShared}
+use Rattle.claim_careful.specs.Claim.{inShared}
 use Rattle.claim_model.specs.Words.{allShared, bothShared, phases, cardinality, remains, noneRemains, hasCustody, swapSuccessful, swapAborted, swapTimedOut, contractFinished}
 use Rattle.claim_model.specs.Claim.{Kept, Expected, Takes, Fair, Final}
 

@@ -26,19 +26,19 @@ use Rattle.position.specs.Effect.{leavesPool, mineSlot, withMined, afterMine, e
 use Rattle.position.proofs.Changed.{all-slot}
 use Rattle.position.proofs.Opened.{opened}
 use Rattle.position.proofs.Starts.{start-slot}
-use Rattle.moves.proofs.AfterBlocks.{mine-blocks}
-use Rattle.moves.proofs.Moved.{moved}
-use Rattle.moves.proofs.Provenance.{Shown, byFirstShares, byShare, bySend, byBlock, Moved}
-use Rattle.moves.proofs.Quiet.{lasting}
-use Rattle.agreement.proofs.Sound.{Sound}
-use Rattle.careful.proofs.Came.{first-range}
-use Rattle.careful.proofs.Fate.{Lasts, lasts, stays-confirmed}
-use Rattle.careful.proofs.Invariant.{Shows, SuccessShared, Invariant}
-use Rattle.careful.proofs.Places.{block-anywhere, contract-to}
-use Rattle.careful.proofs.Setting.{sheet, allowed}
-use Rattle.careful.proofs.Start.{none-shared}
-use Rattle.careful.proofs.Table.{fifteen}
-use Rattle.careful.proofs.Traced.{stays-shown, sent-success}
+use Rattle.step_laws.proofs.AfterBlocks.{mine-blocks}
+use Rattle.step_laws.proofs.Moved.{moved}
+use Rattle.step_laws.proofs.Provenance.{Shown, byFirstShares, byShare, bySend, byBlock, Moved}
+use Rattle.step_laws.proofs.Quiet.{lasting}
+use Rattle.claim_ledger.proofs.Sound.{Sound}
+use Rattle.claim_careful.proofs.Came.{first-range}
+use Rattle.claim_careful.proofs.Fate.{Lasts, lasts, stays-confirmed}
+use Rattle.claim_careful.proofs.Invariant.{Shows, SuccessShared, Invariant}
+use Rattle.claim_careful.proofs.Places.{block-anywhere, contract-to}
+use Rattle.claim_careful.proofs.Setting.{sheet, allowed}
+use Rattle.claim_careful.proofs.Start.{none-shared}
+use Rattle.claim_careful.proofs.Table.{fifteen}
+use Rattle.claim_careful.proofs.Traced.{stays-shown, sent-success}
 
 pub record Exposed (u : List ℕ) (p : Position) : Type 0 where
   pub exposed : (t i : ℕ) → t < 15 → isContract (sheet u) t ≡ true → 0 < blockOf p t → bit (exposedMask (sheet u) t) i ≡ true → Shows p t i

@@ -15,14 +15,14 @@ use Rattle.position.specs.Conduct.{phase, successUnshared}
 use Rattle.readings.specs.Holder.{isPayout, isPayoutTo}
 use Rattle.position.specs.Holder.{holderIn}
 use Rattle.position.proofs.Opened.{opened}
-use Rattle.moves.specs.Wellformed.{Wellformed}
-use Rattle.agreement.proofs.Sound.{Sound}
-use Rattle.careful.specs.Claim.{inShared}
-use Rattle.careful.proofs.Apart.{secretAlice-shown, secretBob-shown, bob-out, secrets-apart}
-use Rattle.careful.proofs.Invariant.{SecretBobOut, SecretAliceOut, Invariant}
-use Rattle.careful.proofs.Payouts.{Paid, paid, stands, pays, above, not-both-paid}
-use Rattle.careful.proofs.Setting.{sheet}
-use Rattle.careful.proofs.Table.{needs, pays-alice, pays-bob, contracts, below}
+use Rattle.step_laws.specs.Wellformed.{Wellformed}
+use Rattle.claim_ledger.proofs.Sound.{Sound}
+use Rattle.claim_careful.specs.Claim.{inShared}
+use Rattle.claim_careful.proofs.Apart.{secretAlice-shown, secretBob-shown, bob-out, secrets-apart}
+use Rattle.claim_careful.proofs.Invariant.{SecretBobOut, SecretAliceOut, Invariant}
+use Rattle.claim_careful.proofs.Payouts.{Paid, paid, stands, pays, above, not-both-paid}
+use Rattle.claim_careful.proofs.Setting.{sheet}
+use Rattle.claim_careful.proofs.Table.{needs, pays-alice, pays-bob, contracts, below}
 use Rattle.claim_model.specs.Words.{swapTimedOut}
 use Rattle.claim_model.specs.Claim.{Takes, Fair}
 use Rattle.claim_model.proofs.Shared.{shown-in, held-has, shared-has, signs-spendB, some-bit, shared-shown}

@@ -18,28 +18,28 @@ use Rattle.position.specs.StepRefusal.{stepRefusal}
 use Rattle.position.specs.Effect.{effect}
 use Rattle.position.specs.Play.{FourBytes, step, play}
 use Rattle.position.proofs.StepCases.{StepCase, taken, turned-down, step-case}
-use Rattle.moves.proofs.AfterShares.{share-confirmed, give-confirmed}
-use Rattle.moves.proofs.AfterSends.{send-confirmed, hand-confirmed, include-confirmed}
-use Rattle.moves.proofs.AfterBlocks.{mine-to, bump-confirmed}
-use Rattle.moves.proofs.Moved.{moved}
-use Rattle.agreement.proofs.Sound.{Sound}
-use Rattle.careful.specs.Claim.{inShared}
-use Rattle.careful.proofs.Apart.{revoke-late, secretBob-shown, revoked-unshown}
-use Rattle.careful.proofs.Fate.{Lasts, lasts, stays-confirmed}
-use Rattle.careful.proofs.Invariant.{Invariant}
-use Rattle.careful.proofs.Payouts.{above}
-use Rattle.careful.proofs.Places.{confirmed-anywhere}
-use Rattle.careful.proofs.Setting.{sheet}
-use Rattle.careful.proofs.Table.{below}
-use Rattle.careful.proofs.Traced.{given-early}
-use Rattle.known.specs.Heights.{heights-rise}
+use Rattle.step_laws.proofs.AfterShares.{share-confirmed, give-confirmed}
+use Rattle.step_laws.proofs.AfterSends.{send-confirmed, hand-confirmed, include-confirmed}
+use Rattle.step_laws.proofs.AfterBlocks.{mine-to, bump-confirmed}
+use Rattle.step_laws.proofs.Moved.{moved}
+use Rattle.claim_ledger.proofs.Sound.{Sound}
+use Rattle.claim_careful.specs.Claim.{inShared}
+use Rattle.claim_careful.proofs.Apart.{revoke-late, secretBob-shown, revoked-unshown}
+use Rattle.claim_careful.proofs.Fate.{Lasts, lasts, stays-confirmed}
+use Rattle.claim_careful.proofs.Invariant.{Invariant}
+use Rattle.claim_careful.proofs.Payouts.{above}
+use Rattle.claim_careful.proofs.Places.{confirmed-anywhere}
+use Rattle.claim_careful.proofs.Setting.{sheet}
+use Rattle.claim_careful.proofs.Table.{below}
+use Rattle.claim_careful.proofs.Traced.{given-early}
+use Rattle.claim_known.specs.Heights.{heights-rise}
 use Rattle.claim_model.specs.Words.{hasCustody, swapSuccessful, swapAborted, swapTimedOut}
 use Rattle.claim_model.specs.Claim.{Final}
 use Rattle.claim_model.proofs.AnySheets.{has-block, chain-low}
 use Rattle.claim_model.proofs.Shared.{shared-shown}
 use Rattle.claim_model.proofs.Taking.{confirmed-at}
 use Rattle.claim_model.proofs.Watched.{Watched, watched-case}
-use Rattle.agreement.proofs.EachKind.{wide}
+use Rattle.claim_ledger.proofs.EachKind.{wide}
 
 -- ---- destinations stay
 module _ (s u : List ℕ) (ok : Checked s) (p : Position) (g : Sound s u p) where

@@ -34,14 +34,14 @@ use Rattle.position.specs.Effect.{shareOne, shareEach, afterShare, effect}
 use Rattle.position.proofs.Changed.{one-other}
 use Rattle.position.proofs.Opened.{opened}
 use Rattle.position.proofs.Starts.{start-slot}
-use Rattle.moves.proofs.Moved.{moved}
-use Rattle.moves.proofs.Provenance.{Moved}
-use Rattle.moves.proofs.Sending.{sent-to-pool, handed-in}
-use Rattle.agreement.proofs.Sound.{Sound}
-use Rattle.careful.proofs.Invariant.{Invariant}
-use Rattle.careful.proofs.Places.{Anywhere, pool-anywhere, block-anywhere, confirmed-anywhere, nothing-entered}
-use Rattle.careful.proofs.Setting.{sheet, allowed, two-parties}
-use Rattle.careful.proofs.Traced.{stays-shown}
+use Rattle.step_laws.proofs.Moved.{moved}
+use Rattle.step_laws.proofs.Provenance.{Moved}
+use Rattle.step_laws.proofs.Sending.{sent-to-pool, handed-in}
+use Rattle.claim_ledger.proofs.Sound.{Sound}
+use Rattle.claim_careful.proofs.Invariant.{Invariant}
+use Rattle.claim_careful.proofs.Places.{Anywhere, pool-anywhere, block-anywhere, confirmed-anywhere, nothing-entered}
+use Rattle.claim_careful.proofs.Setting.{sheet, allowed, two-parties}
+use Rattle.claim_careful.proofs.Traced.{stays-shown}
 use Rattle.claim_model.specs.Words.{allShared, bothShared}
 use Rattle.claim_model.proofs.Exposed.{Exposed}
 use Rattle.claim_model.proofs.Marks.{mark-set, mark-kept, mark-other, shared-marks, each-makes, each-same, each-from, isShare, other-marks}

@@ -17,9 +17,9 @@ use Rattle.steps.specs.Names.{lockA, lockB, spendB, spendTimeout}
 use Rattle.position.specs.declared.Position.{Position}
 use Rattle.position.specs.Position.{isConfirmed}
 use Rattle.position.proofs.Opened.{opened}
-use Rattle.agreement.proofs.Sound.{Sound}
-use Rattle.careful.proofs.Setting.{sheet}
-use Rattle.careful.proofs.Table.{fifteen, two}
+use Rattle.claim_ledger.proofs.Sound.{Sound}
+use Rattle.claim_careful.proofs.Setting.{sheet}
+use Rattle.claim_careful.proofs.Table.{fifteen, two}
 use Rattle.claim_model.specs.Words.{remains, noneRemains}
 use Rattle.claim_model.proofs.States.{fits, allStates, confirmed-pass}
 

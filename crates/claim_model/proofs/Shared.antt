@@ -16,11 +16,11 @@ use Rattle.steps.specs.Names.{sigAlice, sigBob, secretAlice, secretBob, spendB}
 use Rattle.position.specs.declared.Position.{Position}
 use Rattle.position.specs.Position.{slot, shared, keys, holds, senderHas}
 use Rattle.position.proofs.Opened.{opened}
-use Rattle.careful.specs.Claim.{inShared}
-use Rattle.careful.proofs.Has.{SharedSomewhere, somewhere}
-use Rattle.careful.proofs.Setting.{sheet}
-use Rattle.careful.proofs.Table.{fifteen}
-use Rattle.careful.proofs.Invariant.{Shows}
+use Rattle.claim_careful.specs.Claim.{inShared}
+use Rattle.claim_careful.proofs.Has.{SharedSomewhere, somewhere}
+use Rattle.claim_careful.proofs.Setting.{sheet}
+use Rattle.claim_careful.proofs.Table.{fifteen}
+use Rattle.claim_careful.proofs.Invariant.{Shows}
 
 -- a bit of a union is a bit of some member
 pub union-any : (n : ℕ) (f : ℕ → ℕ) (i : ℕ) → bit (unionBelow n f) i ≡ anyBelow n (λ k. bit (f k) i)

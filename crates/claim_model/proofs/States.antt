@@ -15,7 +15,7 @@ use Rattle.slots.specs.Ancestry.{hasParent}
 use Rattle.slots.proofs.Parents.{parent-lower}
 use Rattle.position.specs.declared.Position.{Position}
 use Rattle.position.specs.Position.{blockOf, isConfirmed}
-use Rattle.agreement.proofs.Sound.{Sound}
+use Rattle.claim_ledger.proofs.Sound.{Sound}
 use Rattle.claim_model.proofs.AnySheets.{has-block, chain-low}
 
 -- transaction n can be confirmed beside the set m

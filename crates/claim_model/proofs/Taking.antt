@@ -34,11 +34,11 @@ use Rattle.position.specs.Effect.{effect}
 use Rattle.position.specs.Play.{FourBytes, decodeBytes, takeDecoded, step}
 use Rattle.position.proofs.Opened.{opened}
 use Rattle.position.proofs.StepCases.{accepts}
-use Rattle.moves.proofs.Provenance.{Stands}
-use Rattle.agreement.proofs.Sound.{Sound}
-use Rattle.careful.proofs.Places.{block-stands, confirmed-stands, rightful, payee-to}
-use Rattle.careful.proofs.Setting.{sheet, two-parties}
-use Rattle.careful.proofs.Table.{rule, spendB-pays}
+use Rattle.step_laws.proofs.Provenance.{Stands}
+use Rattle.claim_ledger.proofs.Sound.{Sound}
+use Rattle.claim_careful.proofs.Places.{block-stands, confirmed-stands, rightful, payee-to}
+use Rattle.claim_careful.proofs.Setting.{sheet, two-parties}
+use Rattle.claim_careful.proofs.Table.{rule, spendB-pays}
 use Rattle.claim_model.specs.Claim.{Takes}
 use Rattle.claim_model.proofs.AnySheets.{has-block}
 

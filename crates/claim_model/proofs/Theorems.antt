@@ -6,10 +6,10 @@ use Rattle.sheet.specs.Saswap.{saswap}
 use Rattle.sheet.specs.Setup.{perDay}
 use Rattle.sheet.proofs.Theorems.{saswap-passes, setup-checked}
 use Rattle.position.specs.Position.{start, inPool, inBlock}
-use Rattle.moves.proofs.Theorems.{wellformed-start, wellformed-play}
-use Rattle.agreement.specs.Claim.{positionOf}
-use Rattle.agreement.proofs.SoundSteps.{sound-start, sound-play}
-use Rattle.careful.proofs.Along.{guarded}
+use Rattle.step_laws.proofs.Theorems.{wellformed-start, wellformed-play}
+use Rattle.claim_ledger.specs.Claim.{positionOf}
+use Rattle.claim_ledger.proofs.SoundSteps.{sound-start, sound-play}
+use Rattle.claim_careful.proofs.Along.{guarded}
 use Rattle.claim_model.specs.Words.{noneRemains}
 use Rattle.claim_model.specs.Claim.{ModelKept, ModelExpected, FairEnding, EndingsFinal}
 use Rattle.claim_model.proofs.AnySheets.{kept}

@@ -9,13 +9,13 @@ use Rattle.steps.specs.Names.{refund1, spendRefund1Bob}
 use Rattle.position.specs.declared.Position.{Position}
 use Rattle.position.specs.Position.{inPool, inBlock, blockOf, isConfirmed, sent, placed}
 use Rattle.position.proofs.Opened.{opened}
-use Rattle.moves.proofs.Provenance.{Stands}
-use Rattle.agreement.proofs.Sound.{Sound}
-use Rattle.careful.proofs.Places.{Anywhere, pool-anywhere, block-anywhere, confirmed-anywhere}
-use Rattle.careful.proofs.Setting.{sheet}
-use Rattle.careful.proofs.Table.{Below}
-use Rattle.careful.proofs.Invariant.{Invariant}
-use Rattle.careful.proofs.NextPool.{both-held}
+use Rattle.step_laws.proofs.Provenance.{Stands}
+use Rattle.claim_ledger.proofs.Sound.{Sound}
+use Rattle.claim_careful.proofs.Places.{Anywhere, pool-anywhere, block-anywhere, confirmed-anywhere}
+use Rattle.claim_careful.proofs.Setting.{sheet}
+use Rattle.claim_careful.proofs.Table.{Below}
+use Rattle.claim_careful.proofs.Invariant.{Invariant}
+use Rattle.claim_careful.proofs.NextPool.{both-held}
 
 -- what stands somewhere has a parent that does
 module _ (s u : List ℕ) (p : Position) (g : Sound s u p) where

@@ -11,8 +11,8 @@ use Rattle.slots.proofs.Ancestors.{above-le, other-find}
 use Rattle.slots.proofs.Conflicts.{conflict-self}
 use Rattle.position.specs.declared.Position.{Position}
 use Rattle.position.specs.Position.{inPool, inBlock, blockOf, isConfirmed}
-use Rattle.agreement.proofs.Sound.{Waits, Sound}
-use Rattle.agreement.proofs.BumpedBlock.{waits-up}
+use Rattle.claim_ledger.proofs.Sound.{Waits, Sound}
+use Rattle.claim_ledger.proofs.BumpedBlock.{waits-up}
 use Rattle.claim_model.specs.Words.{remains}
 use Rattle.claim_model.proofs.AnySheets.{pool-low, block-low, has-block}
 

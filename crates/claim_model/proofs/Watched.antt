@@ -8,10 +8,10 @@ use Rattle.position.specs.declared.Position.{Position}
 use Rattle.position.specs.Position.{start}
 use Rattle.position.specs.Play.{FourBytes, step, play}
 use Rattle.position.proofs.StepCases.{StepCase, taken, turned-down, step-case}
-use Rattle.agreement.proofs.SoundSteps.{sound-start}
-use Rattle.careful.proofs.Along.{Guarded, guarded-effect}
-use Rattle.careful.proofs.Setting.{sheet}
-use Rattle.careful.proofs.Start.{invariant-start}
+use Rattle.claim_ledger.proofs.SoundSteps.{sound-start}
+use Rattle.claim_careful.proofs.Along.{Guarded, guarded-effect}
+use Rattle.claim_careful.proofs.Setting.{sheet}
+use Rattle.claim_careful.proofs.Start.{invariant-start}
 use Rattle.claim_model.proofs.Exposed.{Exposed, exposed-effect, exposed-start}
 use Rattle.claim_model.proofs.FirstPhases.{Marked, next-marked, marked-start}
 

@@ -1,5 +1,5 @@
 -- What document 001's model checks, each claim under 001's name, after every list of four-byte groups from the empty journal's position,
--- refused ones passed over. NoConcurrentSecretKnowledge and NoSingleParticipantTakesAll are claimed in crate careful. The cases for
+-- refused ones passed over. NoConcurrentSecretKnowledge and NoSingleParticipantTakesAll are claimed in crate claim_careful. The cases for
 -- PARTICIPANTS_IRRATIONAL are left out, and so is ENABLED; ContractEventuallyFinished is about fairness and time, which the rules have not.
 -- Assumes nothing.
 use Prim.Native.Nat.{ℕ, _≤_, _<_}
@@ -25,9 +25,9 @@ use Rattle.position.specs.Conduct.{phase, successUnshared}
 use Rattle.readings.specs.Holder.{isPayout, isPayoutTo}
 use Rattle.position.specs.Holder.{holderIn}
 use Rattle.position.specs.Play.{FourBytes, step, play}
-use Rattle.moves.specs.Wellformed.{Wellformed}
-use Rattle.agreement.specs.Claim.{positionOf}
-use Rattle.careful.specs.Claim.{inShared}
+use Rattle.step_laws.specs.Wellformed.{Wellformed}
+use Rattle.claim_ledger.specs.Claim.{positionOf}
+use Rattle.claim_careful.specs.Claim.{inShared}
 use Rattle.claim_model.specs.Words.{phases, cardinality, remains, noneRemains, swapSuccessful, swapAborted, swapTimedOut, contractFinished}
 
 -- ---- on any sheet

@@ -15,7 +15,7 @@ use Rattle.steps.specs.Names.{sigAlice, sigBob, secretBob, lockA, lockB, spendA
 use Rattle.position.specs.declared.Position.{Position}
 use Rattle.position.specs.Position.{isConfirmed, confirmedTo, shared, holds}
 use Rattle.position.specs.FirstShares.{firstShares}
-use Rattle.careful.specs.Claim.{inShared}
+use Rattle.claim_careful.specs.Claim.{inShared}
 
 -- ---- phases
 -- signature i is in shared knowledge for each of these transactions, which go to the contract

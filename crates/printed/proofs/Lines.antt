@@ -8,7 +8,7 @@ use Rattle.sheet.specs.Field.{count}
 use Rattle.position.specs.declared.Ran.{Ran}
 use Rattle.position.specs.Play.{run}
 use Rattle.position.specs.Printed.{printedLine, printedLines, printed}
-use Rattle.runs.proofs.Runs.{ran-fit}
+use Rattle.call_run.proofs.Runs.{ran-fit}
 
 module _ (s u j : List ℕ) where
   pub printed-accepted : eqb (run s u j .refusal) accepted ≡ true

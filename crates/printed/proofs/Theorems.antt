@@ -9,7 +9,7 @@ use Rattle.position.specs.Play.{run}
 use Rattle.position.specs.Printed.{printedLine, printedLines, printed}
 use Rattle.dated.specs.Report.{reportAnswer}
 use Rattle.dated.proofs.ReportAnswers.{countsAfter, report-run, report-buffer}
-use Rattle.moves.proofs.Reports.{line-read}
+use Rattle.step_laws.proofs.Reports.{line-read}
 use Rattle.printed.proofs.Lines.{printed-accepted}
 
 module _ (s u j : List ℕ) where

@@ -1,6 +1,6 @@
 // The numbers that the program swapreport prints.
+use call_run::journal;
 use readings::reported::ROW_WIDTH;
-use runs::journal;
 use sheet::little::u32_at;
 ghost use Prim.Native.Nat.{suc, _+_, _*_, _≤_};
 ghost use mathlib.Core.Path.{_≡_};

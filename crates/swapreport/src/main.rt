@@ -55,7 +55,7 @@ fn print_report(sheet: &[u8], setup: &[u8], journal: &[u8]) {
     let n = first.lines;
     print_first(first);
     let mut report = [0u8; REPORT_SIZE];
-    reports::report(sheet, setup, journal, &mut report);
+    call_report::report(sheet, setup, journal, &mut report);
     print_lines(&report, n);
 }
 
@@ -70,7 +70,7 @@ fn print_front(text: &[u8], end: usize)
 fn print_page(sheet: &[u8], setup: &[u8], journal: &[u8]) {
     let first = printed::first_line(sheet, setup, journal);
     let mut page = [0u8; 2409];
-    let number = pages::page(sheet, setup, journal, &mut page);
+    let number = call_page::page(sheet, setup, journal, &mut page);
     if number != 0 {
         io::write_all(STDERR_FILENO, b"no page: refused with ");
         io::print_decimal(STDERR_FILENO, number as u64);

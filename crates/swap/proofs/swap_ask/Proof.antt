@@ -1,7 +1,7 @@
 -- The answer fits the number that C gets.
 use Rattle.laws.proofs.Prelude.{needs, arith}
 use Rattle.position.specs.Answers.{packed}
-use Rattle.asks.proofs.Asks.{asked-bounds}
+use Rattle.call_ask.proofs.Asks.{asked-bounds}
 use Rattle.swap.proofs.swap_ask.Statement.{statement}
 use Rattle.swap.proofs.swap_ask.Tie as tie
 

@@ -1,7 +1,7 @@
 -- The refusal is small, so the product fits.
 use Rattle.laws.proofs.Prelude.{needs, arith}
 use Rattle.position.specs.Answers.{packed}
-use Rattle.blocks.proofs.Tested.{refusal-below}
+use Rattle.call_blocks.proofs.Tested.{refusal-below}
 use Rattle.swap.proofs.swap_blocks.Statement.{statement}
 use Rattle.swap.proofs.swap_blocks.Tie as tie
 

@@ -1,6 +1,6 @@
 -- The answer fits the number that C gets.
 use Rattle.position.specs.Answers.{packed}
-use Rattle.asks.proofs.Commits.{commit-below}
+use Rattle.call_ask.proofs.Commits.{commit-below}
 use Rattle.laws.proofs.Prelude.{needs, arith}
 use Rattle.swap.proofs.swap_commit.Statement.{statement}
 use Rattle.swap.proofs.swap_commit.Tie as tie

@@ -1,6 +1,6 @@
 -- The answer fits the number that C gets.
 use Rattle.position.specs.Answers.{packed}
-use Rattle.desk.proofs.Desks.{desk-below}
+use Rattle.call_desk.proofs.Desks.{desk-below}
 use Rattle.laws.proofs.Prelude.{needs, arith}
 use Rattle.swap.proofs.swap_desk.Statement.{statement}
 use Rattle.swap.proofs.swap_desk.Tie as tie

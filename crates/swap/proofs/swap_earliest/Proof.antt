@@ -1,7 +1,7 @@
 -- The answer fits the number that C gets.
 use Rattle.laws.proofs.Prelude.{needs, arith}
 use Rattle.position.specs.Answers.{packed}
-use Rattle.earliest.proofs.Answers.{planned-bounds}
+use Rattle.call_earliest.proofs.Answers.{planned-bounds}
 use Rattle.swap.proofs.swap_earliest.Statement.{statement}
 use Rattle.swap.proofs.swap_earliest.Tie as tie
 

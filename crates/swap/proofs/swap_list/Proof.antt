@@ -1,7 +1,7 @@
 -- The answer fits the number that C gets.
 use Rattle.laws.proofs.Prelude.{needs, arith}
 use Rattle.position.specs.Answers.{packed}
-use Rattle.lists.proofs.Lists.{listed-bounds}
+use Rattle.call_list.proofs.Lists.{listed-bounds}
 use Rattle.swap.proofs.swap_list.Statement.{statement}
 use Rattle.swap.proofs.swap_list.Tie as tie
 

@@ -1,6 +1,6 @@
 -- The answer fits the number that C gets.
 use Rattle.position.specs.Answers.{packed}
-use Rattle.outages.proofs.OutageAnswers.{outage-below}
+use Rattle.call_outage.proofs.OutageAnswers.{outage-below}
 use Rattle.laws.proofs.Prelude.{needs, arith}
 use Rattle.swap.proofs.swap_outage.Statement.{statement}
 use Rattle.swap.proofs.swap_outage.Tie as tie

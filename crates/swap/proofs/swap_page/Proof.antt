@@ -1,6 +1,6 @@
 -- The answer fits the number that C gets.
 use Rattle.position.specs.Answers.{packed}
-use Rattle.pages.proofs.Pages.{page-below}
+use Rattle.call_page.proofs.Pages.{page-below}
 use Rattle.laws.proofs.Prelude.{needs, arith}
 use Rattle.swap.proofs.swap_page.Statement.{statement}
 use Rattle.swap.proofs.swap_page.Tie as tie

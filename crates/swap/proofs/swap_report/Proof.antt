@@ -1,6 +1,6 @@
 -- The answer fits the number that C gets.
 use Rattle.position.specs.Answers.{packed}
-use Rattle.reports.proofs.Reports.{report-below}
+use Rattle.call_report.proofs.Reports.{report-below}
 use Rattle.laws.proofs.Prelude.{needs, arith}
 use Rattle.swap.proofs.swap_report.Statement.{statement}
 use Rattle.swap.proofs.swap_report.Tie as tie

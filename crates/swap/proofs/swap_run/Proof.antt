@@ -2,7 +2,7 @@
 use Rattle.laws.proofs.Prelude.{ℕ, _+_, _*_, _%_, _≤_, _≡_, List, drop, needs, arith}
 use Rattle.position.specs.Play.{run}
 use Rattle.position.specs.Answers.{packed, runPart}
-use Rattle.runs.proofs.Bounds.{run-bounds}
+use Rattle.call_run.proofs.Bounds.{run-bounds}
 use Rattle.swap.proofs.swap_run.Statement.{statement}
 use Rattle.swap.proofs.swap_run.Tie as tie
 

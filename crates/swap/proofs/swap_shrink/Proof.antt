@@ -1,7 +1,7 @@
 -- The answer fits the number that C gets.
 use Rattle.laws.proofs.Prelude.{needs, arith}
 use Rattle.position.specs.Answers.{packed}
-use Rattle.shrink.proofs.Answering.{shrunk-bounds}
+use Rattle.call_shrink.proofs.Answering.{shrunk-bounds}
 use Rattle.swap.proofs.swap_shrink.Statement.{statement}
 use Rattle.swap.proofs.swap_shrink.Tie as tie
 

@@ -1,6 +1,6 @@
 -- The answer fits the number that C gets.
 use Rattle.position.specs.Answers.{packed}
-use Rattle.timelocks.proofs.Answers.{timelocks-below}
+use Rattle.call_timelocks.proofs.Answers.{timelocks-below}
 use Rattle.laws.proofs.Prelude.{needs, arith}
 use Rattle.swap.proofs.swap_timelocks.Statement.{statement}
 use Rattle.swap.proofs.swap_timelocks.Tie as tie

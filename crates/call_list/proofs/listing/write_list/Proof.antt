@@ -1,0 +1,53 @@
+-- The actors' sets make the list.
+use Rattle.call_list.proofs.Lists.{gives-sets}
+use borrow.Author.Needs.{needs}
+use Rattle.call_list.proofs.listing.write_list.Statement.{statement}
+use Rattle.call_list.proofs.listing.write_list.Tie as tie
+
+view-requires : tie.Need-view-requires
+view-requires c κs = c .before .before .before .pre .checked
+
+outlook-requires : tie.Need-outlook-requires
+outlook-requires c κs = let q = c .before .before .before .before .pre in (q, c .view .ensures)
+
+any-owed-requires : tie.Need-any-owed-requires
+any-owed-requires c κs = let q = c .before .before .before .before .before .pre in (q, c .before .view .ensures)
+
+open-sets-requires : tie.Need-open-sets-requires
+open-sets-requires c κs =
+    let q = c .before .before .before .before .before .before .pre in
+    (q, (c .before .before .view .ensures, (c .before .outlook .ensures, c .any-owed .ensures)))
+
+open-sets-requires-2 : tie.Need-open-sets-requires-2
+open-sets-requires-2 c κs =
+    let q = c .before .before .before .before .before .before .before .pre in
+    (q, (c .before .before .before .view .ensures, (c .before .before .outlook .ensures, c .before .any-owed .ensures)))
+
+open-sets-requires-3 : tie.Need-open-sets-requires-3
+open-sets-requires-3 c κs =
+    let q = c .before .before .before .before .before .before .before .before .pre in
+    (q, (c .before .before .before .before .view .ensures, (c .before .before .before .outlook .ensures, c .before .before .any-owed .ensures)))
+
+open-sets-requires-4 : tie.Need-open-sets-requires-4
+open-sets-requires-4 c κs =
+    let q = c .before .before .before .before .before .before .before .before .before .pre in
+    (q, (c .before .before .before .before .before .view .ensures, (c .before .before .before .before .outlook .ensures, c .before .before .before .any-owed .ensures)))
+
+returns : tie.Need-returns
+returns c = gives-sets _ _ _ _ _ _ _ _ _ _ _ (c .before .before .before .before .before .before .before .open-sets .ensures)
+    (c .before .before .before .before .before .before .open-sets2 .ensures) (c .before .before .before .before .before .open-sets3 .ensures)
+    (c .before .before .before .before .open-sets4 .ensures) (c .before .before .write-fitting .ensures)
+
+pub write-list-spec : {M : Type 1} → statement M
+write-list-spec =
+    tie.close
+    (tie.spec
+    view-requires
+    outlook-requires
+    any-owed-requires
+    open-sets-requires
+    open-sets-requires-2
+    open-sets-requires-3
+    open-sets-requires-4
+    (λ c κs. search needs) (λ c. search needs)
+    returns)

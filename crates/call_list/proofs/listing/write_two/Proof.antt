@@ -1,0 +1,71 @@
+-- One actor's steps, then the other's.
+use Rattle.laws.proofs.Prelude.{ℕ, _+_, _-_, _≤_, List, _++_, length, needs, arith}
+use borrow.Rule.Slice.PartMut.{putMid}
+use Rattle.laws.specs.Wrote.{Wrote, wrote-first, wrote-room, wrote-more, front-fits}
+use Rattle.output.specs.Forms.Emitted.{actorBytes}
+use Rattle.call_list.specs.Forms.SetsBytes.{twoBytes}
+use Rattle.call_list.proofs.listing.write_two.Statement.{statement}
+use Rattle.call_list.proofs.listing.write_two.Tie as tie
+
+-- the two parts, and that they fit
+abbrev start : tie.Start → List ℕ
+start s = actorBytes (s .args .x .below) (s .args .x .last) (s .args .a)
+
+abbrev rest : tie.Start → List ℕ
+rest s = actorBytes (s .args .y .below) (s .args .y .last) (s .args .b)
+
+fits : (s : tie.Start) → length (start s ++ rest s) ≤ length (s .args .out .now)
+unfolding twoBytes
+fits s = s .pre
+
+-- the buffer after the first part, and after both
+one : (c : tie.After-slice-known2) → let s = c .before .before .before .before .before in
+    let w = c .before .before .write-actor in Wrote (start s) (s .args .out .now) (w .last .1 .1 .0) (w .result)
+one c =
+    let s = c .before .before .before .before .before in
+    let w = c .before .before .write-actor in
+    wrote-first _ _ _ _ (front-fits (start s) (rest s) _ (fits s)) (w .ensures .0) (w .ensures .1)
+
+two : (c : tie.After-slice-known3) → let s = c .before .before .before .before .before .before .before .before .before in
+    let b = c .before .before .before .before .before .before .write-actor in
+    let w = c .before .before .write-actor2 in
+    Wrote (start s ++ rest s) (s .args .out .now) (putMid (b .result) (length (b .last .1 .1 .0) - b .result) (b .last .1 .1 .0) (w .last .1 .1 .0)) (b .result + w .result)
+two c =
+    let s = c .before .before .before .before .before .before .before .before .before in
+    let w = c .before .before .write-actor2 in
+    wrote-more _ _ _ _ _ _ _ (one (c .before .before .before .before)) (fits s) (w .ensures .0) (w .ensures .1)
+
+write-actor-requires : tie.Need-write-actor-requires
+write-actor-requires c κs = let s = c .before .before in front-fits (start s) (rest s) _ (fits s)
+
+sub-write-actor : tie.Need-sub-write-actor
+sub-write-actor c = omega (arith, one c)
+
+part-write-actor-start : tie.Need-part-write-actor-start
+part-write-actor-start c = omega (arith, one c)
+
+write-actor-requires-2 : tie.Need-write-actor-requires-2
+write-actor-requires-2 c κs = let s = c .before .before .before .before .before .before in wrote-room _ _ _ (rest s) _ (one (c .before)) (fits s)
+
+add-result : tie.Need-add-result
+add-result c = omega (arith, two c)
+
+same-length : tie.Need-same-length
+same-length c = two c .long
+
+returns : tie.Need-returns
+unfolding twoBytes
+returns c = (two c .at, two c .is)
+
+pub write-two-spec : {M : Type 1} → statement M
+write-two-spec =
+    tie.close
+    (tie.spec
+    write-actor-requires
+    sub-write-actor
+    part-write-actor-start
+    (λ c. search needs)
+    write-actor-requires-2
+    add-result
+    same-length
+    returns)

@@ -1,0 +1,66 @@
+-- Two stores, then two numbers after them.
+use Rattle.laws.specs.Little.{bytesOf, length-pair}
+use Rattle.laws.specs.Over.{stores-over}
+use Rattle.laws.specs.Wrote.{Wrote, wrote-first, wrote-room, wrote-more}
+use borrow.Rule.Slice.PartMut.{putMid}
+use Rattle.laws.proofs.Prelude.{ℕ, _-_, _≤_, _≡_, refl, sym, List, [], _∷_, _++_, length, set, length-set, needs, arith}
+use Rattle.call_outage.proofs.row.write_row.Statement.{statement}
+use Rattle.call_outage.proofs.row.write_row.Tie as tie
+
+-- what the stores write, and the call after them
+abbrev head : tie.Start → List ℕ
+head s = s .args .verdict ∷ s .args .payees ∷ []
+
+abbrev pair : tie.Start → List ℕ
+pair s = bytesOf 4 (s .args .block) ++ bytesOf 4 (s .args .deadline)
+
+eight : (s : tie.Start) → length (pair s) ≡ 8
+eight s = length-pair 4 (λ t. s .args .block) (λ t. s .args .deadline) 0
+
+fits : (s : tie.Start) → length (head s ++ pair s) ≤ length (s .args .out .now)
+fits s = omega (arith, eight s, s .pre)
+
+-- the buffer there
+abbrev stored : tie.Start → List ℕ
+stored s = set (set (s .args .out .now) 0 (s .args .verdict)) 1 (s .args .payees)
+
+one : (s : tie.Start) → Wrote (head s) (s .args .out .now) (stored s) 2
+one s = wrote-first (head s) _ _ 2 (omega (arith, s .pre)) refl (stores-over (head s) (s .args .out .now))
+
+two : (c : tie.After-slice-known2) → let s = c .before .before .before .before .before in
+    Wrote (head s ++ pair s) (s .args .out .now) (putMid 2 (length (stored s) - 2) (stored s) (c .before .before .write-pair .last .0)) 10
+two c =
+    let s = c .before .before .before .before .before in
+    wrote-more (head s) _ (stored s) (pair s) _ 2 8 (one s) (fits s) (sym (eight s)) (c .before .before .write-pair .ensures)
+
+slice-write-out-2 : tie.Need-slice-write-out-2
+slice-write-out-2 c = simp length-set (omega arith)
+
+sub-write-pair : tie.Need-sub-write-pair
+sub-write-pair c = omega (arith, one (c .before))
+
+part-write-pair-start : tie.Need-part-write-pair-start
+part-write-pair-start c = omega (arith, one (c .before))
+
+write-pair-requires : tie.Need-write-pair-requires
+write-pair-requires c κs =
+    let s = c .before .before in omega (arith, eight s, wrote-room (head s) _ (stored s) (pair s) 2 (one s) (fits s))
+
+same-length : tie.Need-same-length
+same-length c = two c .long
+
+returns : tie.Need-returns
+returns c = two c .is
+
+pub write-row-spec : {M : Type 1} → statement M
+write-row-spec =
+    tie.close
+    (tie.spec
+    (λ c. search needs)
+    slice-write-out-2
+    sub-write-pair
+    part-write-pair-start
+    (λ c. search needs)
+    write-pair-requires
+    same-length
+    returns)

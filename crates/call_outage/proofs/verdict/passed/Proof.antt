@@ -1,0 +1,12 @@
+-- By its definition.
+use Rattle.call_outage.specs.Verdict.{isPassed}
+use mathlib.Core.Path.{refl}
+use Rattle.call_outage.proofs.verdict.passed.Statement.{statement}
+use Rattle.call_outage.proofs.verdict.passed.Tie as tie
+
+returns : tie.Need-returns
+unfolding isPassed
+returns c = refl
+
+pub passed-spec : {M : Type 1} → statement M
+passed-spec = tie.close (tie.spec returns)

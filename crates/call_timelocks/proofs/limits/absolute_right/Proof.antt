@@ -1,0 +1,19 @@
+-- By the lock type; the sum cannot wrap.
+use Rattle.call_timelocks.specs.Fields.{nLockTime}
+use Rattle.call_timelocks.specs.Limits.{absoluteRight}
+use Rattle.laws.specs.Booleans.{tests}
+use borrow.Author.Needs.{needs}
+use Rattle.call_timelocks.proofs.limits.absolute_right.Statement.{statement}
+use Rattle.call_timelocks.proofs.limits.absolute_right.Tie as tie
+
+returns : tie.Need-returns
+unfolding absoluteRight
+returns c = simp (tests, ← (c .before .lock-type .ensures), c .if1 .taken)
+
+returns-2 : tie.Need-returns-2
+unfolding absoluteRight nLockTime
+returns-2 c = simp (tests, ← (c .before .before .before .lock-type .ensures), c .before .before .if1 .left, c .sum .ensures, c .before .lock-blocks .ensures .is)
+
+pub absolute-right-spec : {M : Type 1} → statement M
+absolute-right-spec =
+    tie.close (tie.spec (λ c κs. search needs) returns (λ c κs. search needs) (λ c κs. search needs) returns-2)
