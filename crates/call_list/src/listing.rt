@@ -97,7 +97,7 @@ pub fn write_list(position: Position, sheet: &[u8], setup: &[u8], out: &mut [u8]
     ensures { λ r. ⌜ now (out .exit) ≡ fitted (listBytes (now (sheet .entry)) (now (setup .entry)) position) (length (openSteps (now (sheet .entry)) (now (setup .entry)) position)) (now (out .entry)) .buffer ⌝ }
 {
     let view = position.view(sheet);
-    let o = position.outlook(sheet, setup, view);
+    let o = position.guards(sheet, setup, view);
     let owed = position.any_owed(sheet, setup, view);
     let alice = queries::open::open_sets(position, sheet, setup, view, o, owed, 0);
     let bob = queries::open::open_sets(position, sheet, setup, view, o, owed, 1);

@@ -82,11 +82,11 @@ module _ (s u : List ℕ) (p : Position) (ok : Checked s) (t : ℕ) (l : t < cou
     deadline-right since e = rw (← day, e, above .is) (sym (deadline-over s d (blockOf p) (p .mined) t))
 
     -- what a loop over the transactions writes: the parts that it read are those of the position
-    pub row-right : (v : View) (struck : ℕ) (lines : List ℕ) (since blocks : ℕ) → length (p .slots) ≡ 32 → v ≡ seen
-        → struck ≡ setBelow (count s) (foundIn s (bit (v .confirmed)) true) → Filled (λ k x. x ≡ lineSet s k) (count s) lines → since ≡ sinceIn s p t
-        → rowIn s u v struck soonest lines since blocks t ≡ outageRow s u p blocks t
+    pub row-right : (v : View) (conflicted : ℕ) (lines : List ℕ) (since blocks : ℕ) → length (p .slots) ≡ 32 → v ≡ seen
+        → conflicted ≡ setBelow (count s) (foundIn s (bit (v .confirmed)) true) → Filled (λ k x. x ≡ lineSet s k) (count s) lines → since ≡ sinceIn s p t
+        → rowIn s u v conflicted soonest lines since blocks t ≡ outageRow s u p blocks t
     unfolding rowIn outageRow blockFrom soonestBlockIn
-    row-right v struck lines since blocks n ev es h ec =
+    row-right v conflicted lines since blocks n ev es h ec =
         let e = deadline-right since (ec ∙ since-parent s p n t) in
-        let w : deadIn s (v .confirmed) struck t ≡ invalidated s (isConfirmed p) t = rw (es, ev) dead-right in
+        let w : deadIn s (v .confirmed) conflicted t ≡ invalidated s (isConfirmed p) t = rw (es, ev) dead-right in
         rw (w, e, ev, verdict-right (invalidated s (isConfirmed p) t) blocks (soonestDeadlineIn s u p t) refl refl, payees-right lines h, full .each t l .is, day) refl

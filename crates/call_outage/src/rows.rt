@@ -38,7 +38,7 @@ fn write_at(
     sheet: &[u8],
     setup: &[u8],
     view: View,
-    struck: u32,
+    conflicted: u32,
     soonest: [u32; 32],
     lines: [u32; 32],
     since: u16,
@@ -50,10 +50,10 @@ fn write_at(
     requires { ⌜ t < count (now sheet) ⌝ }
     requires { ⌜ tableAbove (now sheet) soonest t < 3000000000 ⌝ }
     requires { ⌜ 10 ≤ length (now out) ⌝ }
-    ensures { λ _. ⌜ now (out .exit) ≡ over (rowIn (now (sheet .entry)) (now (setup .entry)) view struck soonest lines since blocks t) (now (out .entry)) ⌝ }
+    ensures { λ _. ⌜ now (out .exit) ≡ over (rowIn (now (sheet .entry)) (now (setup .entry)) view conflicted soonest lines since blocks t) (now (out .entry)) ⌝ }
 {
     let per_day = sheet::setup::per_day(setup);
-    let dead = report::dead_in(sheet, view.confirmed, struck, t);
+    let dead = report::dead_in(sheet, view.confirmed, conflicted, t);
     let from = block_from(dead, soonest[t]);
     let e = table::above(soonest, sheet, t);
     let until = deadline::soonest_deadline(sheet, per_day, since, e, t);
@@ -71,7 +71,7 @@ pub fn write_rows(position: Position, sheet: &[u8], setup: &[u8], blocks: u32, o
     let n = sheet::field::count(sheet);
     let per_day = sheet::setup::per_day(setup);
     let view = position.view(sheet);
-    let struck = conflict::conflicts_of(sheet, view.confirmed, true);
+    let conflicted = conflict::conflicts_of(sheet, view.confirmed, true);
     let soonest = block::soonest_blocks(position, sheet, per_day);
     let lines = payees::lines(sheet);
     let mut at: usize = 0;
@@ -84,7 +84,7 @@ pub fn write_rows(position: Position, sheet: &[u8], setup: &[u8], blocks: u32, o
             sheet,
             setup,
             view,
-            struck,
+            conflicted,
             soonest,
             lines,
             since,

@@ -141,9 +141,9 @@ module _ (s u : List ℕ) (p : Position) (b : FourBytes) (d : Decoded) (f : d �
 
 -- the view after an accepted step that changed one slot or none
 pub seen-few : (s u : List ℕ) (p : Position) (v : View) → Fit s u → v ≡ viewBelow s (count s) p → (b : FourBytes) (r : Stepped) → r ≡ step s u p b → r .refusal ≡ 0
-    → (there at : ℕ) → there ≡ changedSet v (b .kind) (b .transaction) → at ≡ lowest there → removed there at ≡ 0
-    → pick (eqb there 0) (viewPassed v (r .position .mined) (r .position .keys)) (viewAfter v at (slot (r .position) at) (r .position .mined) (r .position .keys)) ≡ viewBelow s (count s) (r .position)
-seen-few s u p v fit e b r f z there at d i h =
-    split (eqb there 0)
-    (λ y. rw y (seen-none s u p v fit e b r f z there d (eqb-true there 0 y)))
-    (λ y. rw y (seen-one s u p v fit e b r f z there d at i h))
+    → (members at : ℕ) → members ≡ changedSet v (b .kind) (b .transaction) → at ≡ lowest members → removed members at ≡ 0
+    → pick (eqb members 0) (viewPassed v (r .position .mined) (r .position .keys)) (viewAfter v at (slot (r .position) at) (r .position .mined) (r .position .keys)) ≡ viewBelow s (count s) (r .position)
+seen-few s u p v fit e b r f z members at d i h =
+    split (eqb members 0)
+    (λ y. rw y (seen-none s u p v fit e b r f z members d (eqb-true members 0 y)))
+    (λ y. rw y (seen-one s u p v fit e b r f z members d at i h))

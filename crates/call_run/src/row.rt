@@ -45,11 +45,11 @@ fn stopped(refusal: u32, k: usize, position: Position, opened: [u32; 32], view: 
 }
 
 // The view after a step that may have changed the slots of this set: none of them, or the one at its least member, which is x then.
-fn seen_one(view: View, there: u32, at: usize, x: Slot, mined: u16, keys: [u8; 6]) -> View
+fn seen_one(view: View, members: u32, at: usize, x: Slot, mined: u16, keys: [u8; 6]) -> View
     requires { ⌜ at < 32 ⌝ }
-    ensures { λ r. ⌜ r ≡ pick (eqb there 0) (viewPassed view mined keys) (viewAfter view at x mined keys) ⌝ }
+    ensures { λ r. ⌜ r ≡ pick (eqb members 0) (viewPassed view mined keys) (viewAfter view at x mined keys) ⌝ }
 {
-    if there == 0 {
+    if members == 0 {
         return view.passed(mined, keys);
     }
     view.after(at, x, mined, keys)
@@ -128,15 +128,15 @@ pub fn run_row(
         if refused != 0 {
             return stopped(refused, k, position, opened, view);
         }
-        let there = seen::changed_set(view, kind, byte);
-        let at = seen::lowest(there);
-        if sheet::set::remove(there, at) != 0 {
-            let over = position.view_over(sheet, view, seen::narrowed(sheet, view, kind, there));
+        let members = seen::changed_set(view, kind, byte);
+        let at = seen::lowest(members);
+        if sheet::set::remove(members, at) != 0 {
+            let over = position.view_over(sheet, view, seen::refined(sheet, view, kind, members));
             view = over;
         } else {
             let x = position.slots[at];
             let keys = position.keys;
-            let one = seen_one(view, there, at, x, position.mined, keys);
+            let one = seen_one(view, members, at, x, position.mined, keys);
             view = one;
         }
         if asked {

@@ -28,9 +28,9 @@ stays s p q later t l h = either (later .blocks t l) (λ e. rw e h) (λ y. omega
 
 module _ (s u : List ℕ) (ok : Checked s) (q : Position) (g : Sound s u q) where
   -- no other rival of what is above one that waits, or is confirmed, is confirmed
-  waits-free : (there : ℕ → Bool) → Waits s (perDay u) there (blockOf q) (q .mined) → {y t : ℕ} → Above s y t → t < count s → there t ≡ true
+  waits-free : (members : ℕ → Bool) → Waits s (perDay u) members (blockOf q) (q .mined) → {y t : ℕ} → Above s y t → t < count s → members t ≡ true
       → (k : ℕ) → k < count s → conflict s k y ≡ true → 0 < blockOf q k → k ≡ y
-  waits-free there w {y} {t} r l h k n c b =
+  waits-free members w {y} {t} r l h k n c b =
       let low : y < count s = omega (arith, above-le r, l) in
       either (waits-up ok (g .settled) w r l h)
       (λ z. absurd (omega (arith, w .free y k low n z c, b)))

@@ -229,10 +229,10 @@ module _ (s u : List ℕ) (ok : Checked s) (p : Position) (x : ℕ) (who : isPar
     p-few : count s ≤ length (p .slots)
     p-few = wide s u ok p g
 
-    module _ (there : ℕ → Bool) (to : ℕ → ℕ) (w : Waits s (perDay u) there (blockOf p) (p .mined)) (small : (t : ℕ) → t < count s → there t ≡ true → to t < destinations)
-        (stands : (t : ℕ) → there t ≡ true → There p t) (for : (t : ℕ) → there t ≡ true → waitsFor p t (to t) ≡ true) where
+    module _ (entered : ℕ → Bool) (to : ℕ → ℕ) (w : Waits s (perDay u) entered (blockOf p) (p .mined)) (small : (t : ℕ) → t < count s → entered t ≡ true → to t < destinations)
+        (stands : (t : ℕ) → entered t ≡ true → There p t) (for : (t : ℕ) → entered t ≡ true → waitsFor p t (to t) ≡ true) where
       -- by falling number: the parent waits there too, or is confirmed
-      waits-come : (n t : ℕ) → t < n → t < count s → there t ≡ true → comes s u p x also members t (to t) ≡ true
+      waits-come : (n t : ℕ) → t < n → t < count s → entered t ≡ true → comes s u p x also members t (to t) ≡ true
       unfolding isConfirmed
       waits-come zero t k l h = absurd (not-suc-le-zero k)
       waits-come (suc n) t k l h =

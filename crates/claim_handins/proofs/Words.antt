@@ -82,7 +82,7 @@ shared-told = told (λ p. shared p 2 contract) (played []) (played shares) refl
 
 marks-told : BlockApart (played []) (played shares) → ⊥
 unfolding opened emptied
-marks-told = told (λ p. slot p 2 .madea) (played []) (played shares) refl
+marks-told = told (λ p. slot p 2 .«alice_made») (played []) (played shares) refl
 
 keys-told : BlockApart (played []) (played gives) → ⊥
 unfolding opened emptied

@@ -30,10 +30,10 @@ use Rattle.claim_known.specs.Heights.{refund1Height, revokeHeight, succe
 
 -- P6 and P7's place, of any sheet and transaction: conduct allows the step, "no rival .., parent there, signatures", against the
 -- transactions that are there. The table's rows for P6 and P7 are such places, and follow from the laws below: `SendRows`.
-pub record Ready (s : List ℕ) (p : Position) (allowed : Bool) (there : ℕ → Bool) (party t destination : ℕ) : Type 0 where
+pub record Ready (s : List ℕ) (p : Position) (allowed : Bool) (members : ℕ → Bool) (party t destination : ℕ) : Type 0 where
   pub conduct : allowed ≡ true
-  pub rivals : noConflict s there t ≡ true
-  pub parent : hasParent s there t ≡ true
+  pub rivals : noConflict s members t ≡ true
+  pub parent : hasParent s members t ≡ true
   pub signatures : signed s (senderHas s p party t destination) t ≡ true
 
 abbrev pub ReadyForPool : List ℕ → List ℕ → Position → ℕ → ℕ → Destination → Type 0

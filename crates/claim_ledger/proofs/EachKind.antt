@@ -57,8 +57,8 @@ module _ (s u : List ℕ) (ok : Checked s) (p : Position) (g : Sound s u p) wher
     same-settled : Settled s (perDay u) (blockOf q) (q .mined)
     same-settled = rw (c .blocks, c .mined) (g .settled)
 
-    same-blocks : (there : ℕ → Bool) → Waits s (perDay u) there (blockOf p) (p .mined) → Waits s (perDay u) there (blockOf q) (q .mined)
-    same-blocks there w = rw (c .blocks, c .mined) w
+    same-blocks : (members : ℕ → Bool) → Waits s (perDay u) members (blockOf p) (p .mined) → Waits s (perDay u) members (blockOf q) (q .mined)
+    same-blocks members w = rw (c .blocks, c .mined) w
 
     same-pool : SamePool p q → Waits s (perDay u) (inPool q) (blockOf q) (q .mined)
     same-pool a = rw (a .there) (same-blocks (inPool p) (g .pool))

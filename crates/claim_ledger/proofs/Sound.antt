@@ -21,11 +21,11 @@ pub record Settled (s : List ℕ) (perDay : ℕ) (block : ℕ → ℕ) (mined : 
   pub alone : (t k : ℕ) → t < count s → k < count s → 0 < block t → 0 < block k → conflict s k t ≡ true → k ≡ t
 
 -- those that wait, in the pool or in the block being filled
-pub record Waits (s : List ℕ) (perDay : ℕ) (there : ℕ → Bool) (block : ℕ → ℕ) (mined : ℕ) : Type 0 where
-  pub free : (t k : ℕ) → t < count s → k < count s → there t ≡ true → conflict s k t ≡ true → block k ≡ 0
-  pub alone : (t k : ℕ) → t < count s → k < count s → there t ≡ true → there k ≡ true → conflict s k t ≡ true → k ≡ t
-  pub parents : (t : ℕ) → t < count s → there t ≡ true → opening s t ≡ false → (there (parent s t) ≡ true) ⊎ (0 < block (parent s t))
-  pub locks : (t : ℕ) → t < count s → there t ≡ true → lockHeight s perDay block t ≤ mined
+pub record Waits (s : List ℕ) (perDay : ℕ) (members : ℕ → Bool) (block : ℕ → ℕ) (mined : ℕ) : Type 0 where
+  pub free : (t k : ℕ) → t < count s → k < count s → members t ≡ true → conflict s k t ≡ true → block k ≡ 0
+  pub alone : (t k : ℕ) → t < count s → k < count s → members t ≡ true → members k ≡ true → conflict s k t ≡ true → k ≡ t
+  pub parents : (t : ℕ) → t < count s → members t ≡ true → opening s t ≡ false → (members (parent s t) ≡ true) ⊎ (0 < block (parent s t))
+  pub locks : (t : ℕ) → t < count s → members t ≡ true → lockHeight s perDay block t ≤ mined
 
 pub record Sound (s u : List ℕ) (p : Position) : Type 0 where
   pub sized : length (p .slots) ≡ slotCount

@@ -44,51 +44,51 @@ ltb-next k n y =
     (λ h. le-ltb k (suc n) (omega (arith, ltb-false k n h)) ∙ sym h)
 
 -- the block being filled, with its destinations, over what is confirmed
-module _ (s : List ℕ) (perDay : ℕ) (ok : Checked s) (block to : ℕ → ℕ) (there : ℕ → Bool) (goes : ℕ → ℕ) (m : ℕ) (st : Settled s perDay block m) (w : Waits s perDay there block m) where
+module _ (s : List ℕ) (perDay : ℕ) (ok : Checked s) (block to : ℕ → ℕ) (members : ℕ → Bool) (goes : ℕ → ℕ) (m : ℕ) (st : Settled s perDay block m) (w : Waits s perDay members block m) where
   abbrev entryAt : ℕ → Entry
   entryAt k = record { transaction = k; destination = goes k; block = m + 1 }
 
   abbrev rows : ℕ → List Entry
-  rows k = pick (there k) (entryAt k ∷ []) []
+  rows k = pick (members k) (entryAt k ∷ []) []
 
   -- the entries below n are confirmed
   abbrev blockUpTo : ℕ → ℕ → ℕ
-  blockUpTo n k = pick (there k && ltb k n) (m + 1) (block k)
+  blockUpTo n k = pick (members k && ltb k n) (m + 1) (block k)
 
   abbrev toUpTo : ℕ → ℕ → ℕ
-  toUpTo n k = pick (there k && ltb k n) (goes k) (to k)
+  toUpTo n k = pick (members k && ltb k n) (goes k) (to k)
 
-  block-more : (n : ℕ) → there n ≡ true → blockUpTo (suc n) ≡ (λ k. pick (eqb k n) (m + 1) (blockUpTo n k))
+  block-more : (n : ℕ) → members n ≡ true → blockUpTo (suc n) ≡ (λ k. pick (eqb k n) (m + 1) (blockUpTo n k))
   block-more n b =
       fun-ext (λ k. split (eqb k n) (λ y. rw (y, eqb-true k n y, b, lt-ltb n (suc n) (omega arith))) (λ y. rw (y, ltb-next k n y)))
 
-  to-more : (n : ℕ) → there n ≡ true → toUpTo (suc n) ≡ (λ k. pick (eqb k n) (goes n) (toUpTo n k))
+  to-more : (n : ℕ) → members n ≡ true → toUpTo (suc n) ≡ (λ k. pick (eqb k n) (goes n) (toUpTo n k))
   to-more n b =
       fun-ext (λ k. split (eqb k n) (λ y. rw (y, eqb-true k n y, b, lt-ltb n (suc n) (omega arith))) (λ y. rw (y, ltb-next k n y)))
 
-  both-same : (n k : ℕ) → there n ≡ false → (there k && ltb k (suc n)) ≡ (there k && ltb k n)
+  both-same : (n k : ℕ) → members n ≡ false → (members k && ltb k (suc n)) ≡ (members k && ltb k n)
   both-same n k b = split (eqb k n) (λ y. rw (eqb-true k n y, b)) (λ y. rw (ltb-next k n y))
 
   -- the next entry is one that the ledger takes
-  module _ (n : ℕ) (l : n < count s) (b : there n ≡ true) where
+  module _ (n : ℕ) (l : n < count s) (b : members n ≡ true) where
     free : (k : ℕ) → k < count s → conflict s k n ≡ true → blockUpTo n k ≡ 0
     free k lk h =
-        split (there k && ltb k n)
-        (λ y. let g = and-parts (there k) (ltb k n) y in absurd (omega (arith, ltb-true k n (g .1), w .alone n k l lk b (g .0) h)))
+        split (members k && ltb k n)
+        (λ y. let g = and-parts (members k) (ltb k n) y in absurd (omega (arith, ltb-true k n (g .1), w .alone n k l lk b (g .0) h)))
         (λ y. rw y (w .free n k l lk b h))
 
     stands : opening s n ≡ false → 0 < blockUpTo n (parent s n)
     stands o =
         either (w .parents n l b o)
         (λ y. rw (y, lt-ltb (parent s n) n (parent-lower ok n l o)) (omega arith))
-        (λ c. split (there (parent s n) && ltb (parent s n) n) (λ y. rw y (omega arith)) (λ y. rw y c))
+        (λ c. split (members (parent s n) && ltb (parent s n) n) (λ y. rw y (omega arith)) (λ y. rw y c))
 
     parent-same : opening s n ≡ false → 0 < block (parent s n) → blockUpTo n (parent s n) ≡ block (parent s n)
     parent-same o c =
         let lp = parent-below ok n l o in
-        split (there (parent s n) && ltb (parent s n) n)
+        split (members (parent s n) && ltb (parent s n) n)
         (λ y.
-        let g = and-parts (there (parent s n)) (ltb (parent s n) n) y in
+        let g = and-parts (members (parent s n)) (ltb (parent s n) n) y in
         absurd (omega (arith, w .free (parent s n) (parent s n) lp lp (g .0) (conflict-self s (parent s n)))))
         (λ y. rw y)
 
@@ -113,11 +113,11 @@ module _ (s : List ℕ) (perDay : ℕ) (ok : Checked s) (block to : ℕ → ℕ)
   unfolding gather
   takes zero h kept lk = (kept, linked-by ok (λ k l. at k (block k) (m + 1)) (λ k l. at k (to k) (goes k)) lk, λ es. refl)
     where
-      at : (k x y : ℕ) → x ≡ pick (there k && ltb k 0) y x
-      at k x y = split (there k) (λ b. rw (b, le-ltb k 0 (omega arith))) (λ b. rw b)
+      at : (k x y : ℕ) → x ≡ pick (members k && ltb k 0) y x
+      at k x y = split (members k) (λ b. rw (b, le-ltb k 0 (omega arith))) (λ b. rw b)
   takes (suc n) h kept lk =
       let r = takes n (omega arith) kept lk in
-      split (there n)
+      split (members n)
       (λ b. (
         keep s (entryAt n) (r .0),
         next-linked n h b (r .0) (r .1),
@@ -131,11 +131,11 @@ module _ (s : List ℕ) (perDay : ℕ) (ok : Checked s) (block to : ℕ → ℕ)
 
   pub block-taken : (kept : Kept) → Linked s block to kept
       → (after : Kept)
-      × Linked s (λ k. pick (there k) (m + 1) (block k)) (λ k. pick (there k) (goes k) (to k)) after
+      × Linked s (λ k. pick (members k) (m + 1) (block k)) (λ k. pick (members k) (goes k) (to k)) after
       × ((es : List Entry) → enter s perDay (gather (count s) rows ++ es) kept ≡ enter s perDay es after)
   block-taken kept lk =
       let r = takes (count s) (omega arith) kept lk in
       (r .0, linked-by ok (λ k l. whole k l (block k) (m + 1)) (λ k l. whole k l (to k) (goes k)) (r .1), r .2)
     where
-      whole : (k : ℕ) → k < count s → (x y : ℕ) → pick (there k && ltb k (count s)) y x ≡ pick (there k) y x
-      whole k l x y = split (there k) (λ b. rw (b, lt-ltb k (count s) l)) (λ b. rw b)
+      whole : (k : ℕ) → k < count s → (x y : ℕ) → pick (members k && ltb k (count s)) y x ≡ pick (members k) y x
+      whole k l x y = split (members k) (λ b. rw (b, lt-ltb k (count s) l)) (λ b. rw b)

@@ -20,38 +20,38 @@ waits-none s perDay block mined =
     }
 
 -- a send to the pool, a hand-in to the block, an inclusion
-module _ (s : List ℕ) (perDay : ℕ) (there : ℕ → Bool) (block : ℕ → ℕ) (mined : ℕ) (w : Waits s perDay there block mined) (t : ℕ) (l : t < count s)
-    (alone : noConflict s (λ k. there k || ltb 0 (block k)) t ≡ true) (stands : hasParent s (λ k. there k || ltb 0 (block k)) t ≡ true)
+module _ (s : List ℕ) (perDay : ℕ) (members : ℕ → Bool) (block : ℕ → ℕ) (mined : ℕ) (w : Waits s perDay members block mined) (t : ℕ) (l : t < count s)
+    (alone : noConflict s (λ k. members k || ltb 0 (block k)) t ≡ true) (stands : hasParent s (λ k. members k || ltb 0 (block k)) t ≡ true)
     (lock : lockHeight s perDay block t ≤ mined) where
-  clear : (k : ℕ) → k < count s → conflict s k t ≡ true → (there k ≡ false) × (block k ≡ 0)
+  clear : (k : ℕ) → k < count s → conflict s k t ≡ true → (members k ≡ false) × (block k ≡ 0)
   clear k lk c =
-      let g = or-neither (there k) (ltb 0 (block k)) (no-conflict s (λ j. there j || ltb 0 (block j)) t alone k lk c) in
+      let g = or-neither (members k) (ltb 0 (block k)) (no-conflict s (λ j. members j || ltb 0 (block j)) t alone k lk c) in
       (g .0, omega (arith, ltb-false 0 (block k) (g .1)))
 
-  stands-here : opening s t ≡ false → ((eqb (parent s t) t || there (parent s t)) ≡ true) ⊎ (0 < block (parent s t))
+  stands-here : opening s t ≡ false → ((eqb (parent s t) t || members (parent s t)) ≡ true) ⊎ (0 < block (parent s t))
   stands-here o =
-      either (or-parts (there (parent s t)) (ltb 0 (block (parent s t))) (parent-member s (λ j. there j || ltb 0 (block j)) t stands o))
-      (λ y. inl (or-right (eqb (parent s t) t) (there (parent s t)) y))
+      either (or-parts (members (parent s t)) (ltb 0 (block (parent s t))) (parent-member s (λ j. members j || ltb 0 (block j)) t stands o))
+      (λ y. inl (or-right (eqb (parent s t) t) (members (parent s t)) y))
       (λ y. inr (ltb-true 0 (block (parent s t)) y))
 
-  pub waits-more : Waits s perDay (λ k. eqb k t || there k) block mined
+  pub waits-more : Waits s perDay (λ k. eqb k t || members k) block mined
   waits-more =
       record {
         free = λ a k la lk x c.
-            either (or-parts (eqb a t) (there a) x) (λ e. clear k lk (rw (eqb-true a t e) at c) .1) (λ e. w .free a k la lk e c);
+            either (or-parts (eqb a t) (members a) x) (λ e. clear k lk (rw (eqb-true a t e) at c) .1) (λ e. w .free a k la lk e c);
         alone = λ a k la lk x y c.
-            either (or-parts (eqb a t) (there a) x)
+            either (or-parts (eqb a t) (members a) x)
             (λ e.
-            either (or-parts (eqb k t) (there k) y)
+            either (or-parts (eqb k t) (members k) y)
             (λ f. eqb-true k t f ∙ sym (eqb-true a t e))
             (λ f. clash f (clear k lk (rw (eqb-true a t e) at c) .0)))
             (λ e.
-            either (or-parts (eqb k t) (there k) y)
+            either (or-parts (eqb k t) (members k) y)
             (λ f. clash e (clear a la (rw (eqb-true k t f) at (conflict-sym s k a c)) .0))
             (λ f. w .alone a k la lk e f c));
         parents = λ a la x o.
-            either (or-parts (eqb a t) (there a) x)
+            either (or-parts (eqb a t) (members a) x)
             (λ e. let q = eqb-true a t e in rw q (stands-here (rw q at o)))
-            (λ e. either (w .parents a la e o) (λ y. inl (or-right (eqb (parent s a) t) (there (parent s a)) y)) inr);
-        locks = λ a la x. either (or-parts (eqb a t) (there a) x) (λ e. rw (eqb-true a t e) lock) (λ e. w .locks a la e);
+            (λ e. either (w .parents a la e o) (λ y. inl (or-right (eqb (parent s a) t) (members (parent s a)) y)) inr);
+        locks = λ a la x. either (or-parts (eqb a t) (members a) x) (λ e. rw (eqb-true a t e) lock) (λ e. w .locks a la e);
       }

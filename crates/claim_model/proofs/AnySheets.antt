@@ -28,22 +28,22 @@ module _ (s u : List ℕ) (p : Position) (g : Sound s u p) where
   chain-low t h = let w = confirmed-anywhere p t (has-block t h) in in-sheet s u p g t (w .0) (w .1)
 
   -- those that wait, in the pool or in the block, beside the chain
-  module _ (there : ℕ → Bool) (low : (t : ℕ) → there t ≡ true → t < count s) (w : Waits s (perDay u) there (blockOf p) (p .mined)) where
-    beside : ConflictFree s (λ t. there t || isConfirmed p t)
+  module _ (members : ℕ → Bool) (low : (t : ℕ) → members t ≡ true → t < count s) (w : Waits s (perDay u) members (blockOf p) (p .mined)) where
+    beside : ConflictFree s (λ t. members t || isConfirmed p t)
     beside t k a b c =
-        either (or-parts (there t) (isConfirmed p t) a)
+        either (or-parts (members t) (isConfirmed p t) a)
         (λ x.
-        either (or-parts (there k) (isConfirmed p k) b)
+        either (or-parts (members k) (isConfirmed p k) b)
         (λ y. w .alone t k (low t x) (low k y) x y c)
         (λ y. absurd (omega (arith, w .free t k (low t x) (chain-low k y) x c, has-block k y))))
         (λ x.
-        either (or-parts (there k) (isConfirmed p k) b)
+        either (or-parts (members k) (isConfirmed p k) b)
         (λ y. absurd (omega (arith, w .free k t (low k y) (chain-low t x) y (conflict-sym s k t c), has-block t x)))
         (λ y. g .settled .alone t k (chain-low t x) (chain-low k y) (has-block t x) (has-block k y) c))
 
-    not-again : (t : ℕ) → isConfirmed p t ≡ true → there t ≡ false
+    not-again : (t : ℕ) → isConfirmed p t ≡ true → members t ≡ false
     not-again t h =
-        fails-by (there t) (λ y. omega (arith, w .free t t (low t y) (low t y) y (conflict-self s t), has-block t h))
+        fails-by (members t) (λ y. omega (arith, w .free t t (low t y) (low t y) y (conflict-self s t), has-block t h))
 
   pub kept : Wellformed s p → Kept s u p
   unfolding sent placed lockHeightIn

@@ -29,15 +29,15 @@ pub mark-set : (party : ℕ) → party < 2 → (x : Slot) → markedFor (withMar
 unfolding markedFor marksOf withMark bit
 mark-set party l x =
     either (zero-or-one party l)
-    (λ e. rw e (bit-or (x .madea) 4 2 ∙ or-right (bit (x .madea) 2) true refl))
-    (λ e. rw e (bit-or (x .madeb) 4 2 ∙ or-right (bit (x .madeb) 2) true refl))
+    (λ e. rw e (bit-or (x .«alice_made») 4 2 ∙ or-right (bit (x .«alice_made») 2) true refl))
+    (λ e. rw e (bit-or (x .«bob_made») 4 2 ∙ or-right (bit (x .«bob_made») 2) true refl))
 
 pub mark-kept : (party q : ℕ) → q < 2 → (x : Slot) → markedFor x q contract ≡ true → markedFor (withMark party contract x) q contract ≡ true
 unfolding markedFor marksOf withMark
 mark-kept party q l x h =
     either (zero-or-one q l)
-    (λ e. rw e (kept (eqb party alice) (x .madea) 4 contract (rw e at h)))
-    (λ e. rw e (kept (eqb party 1) (x .madeb) 4 contract (rw e at h)))
+    (λ e. rw e (kept (eqb party alice) (x .«alice_made») 4 contract (rw e at h)))
+    (λ e. rw e (kept (eqb party 1) (x .«bob_made») 4 contract (rw e at h)))
 
 pub mark-other : (party q : ℕ) → q < 2 → (q ≡ party → ⊥) → (x : Slot) → markedFor (withMark party contract x) q contract ≡ markedFor x q contract
 unfolding markedFor marksOf withMark

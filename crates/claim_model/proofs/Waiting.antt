@@ -17,7 +17,7 @@ use Rattle.claim_model.specs.Words.{remains}
 use Rattle.claim_model.proofs.AnySheets.{pool-low, block-low, has-block}
 
 module _ (s u : List ℕ) (ok : Checked s) (p : Position) (g : Sound s u p) where
-  module _ (there : ℕ → Bool) (w : Waits s (perDay u) there (blockOf p) (p .mined)) (t : ℕ) (l : t < count s) (h : there t ≡ true) where
+  module _ (members : ℕ → Bool) (w : Waits s (perDay u) members (blockOf p) (p .mined)) (t : ℕ) (l : t < count s) (h : members t ≡ true) where
     unconfirmed : isConfirmed p t ≡ false
     unconfirmed = fails-by (isConfirmed p t) (λ y. omega (arith, has-block s u p g t y, w .free t t l l h (conflict-self s t)))
 

@@ -48,10 +48,10 @@ shared-with d m x (suc (suc (suc (suc e)))) l = absurd (omega arith)
 marked-with : (p d : ℕ) (x : Slot) (a e : ℕ) → d < destinations → a < destinations → e < destinations
     → markedFor (withMark p d x) a e ≡ (markedFor x a e || ((not (eqb a miner) && eqb p a) && eqb e d))
 unfolding markedFor marksOf withMark joined
-marked-with p d x zero e k l m = bit-joined (x .madea) (eqb p alice) d e (omega (arith, k)) (omega (arith, m))
-marked-with p d x (suc zero) e k l m = bit-joined (x .madeb) (eqb p bob) d e (omega (arith, k)) (omega (arith, m))
+marked-with p d x zero e k l m = bit-joined (x .«alice_made») (eqb p alice) d e (omega (arith, k)) (omega (arith, m))
+marked-with p d x (suc zero) e k l m = bit-joined (x .«bob_made») (eqb p bob) d e (omega (arith, k)) (omega (arith, m))
 marked-with p d x (suc (suc zero)) e k l m = sym (or-false (bit 0 e))
-marked-with p d x (suc (suc (suc zero))) e k l m = bit-joined (x .madec) (eqb p carol) d e (omega (arith, k)) (omega (arith, m))
+marked-with p d x (suc (suc (suc zero))) e k l m = bit-joined (x .«carol_made») (eqb p carol) d e (omega (arith, k)) (omega (arith, m))
 marked-with p d x (suc (suc (suc (suc a)))) e k l m = absurd (omega arith)
 
 none-picked : (b : Bool) (n : ℕ) → n ≡ 0 → pick b 0 n ≡ 0

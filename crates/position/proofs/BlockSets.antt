@@ -28,7 +28,7 @@ use Rattle.position.specs.Position.{slot, inPool, inBlock}
 use Rattle.position.specs.Owed.{waiting, enters}
 use Rattle.position.specs.Effect.{leavesPool, mineSlot, leavesBlock, bumpSlot}
 use Rattle.position.specs.Forms.View.{viewBelow}
-use Rattle.steps.specs.Forms.Blocks.{struckIn, minedSlot, displacedIn, bumpedSlot, entersIn}
+use Rattle.steps.specs.Forms.Blocks.{conflictedIn, minedSlot, displacedIn, bumpedSlot, entersIn}
 use Rattle.position.proofs.NoEntries.{out-of-block}
 
 -- two rules that agree at what stands at each place
@@ -97,9 +97,9 @@ module _ (s : List ℕ) (p : Position) (b : ℕ) (few : count s ≤ 32) (f : b �
       rw (c) (sym (pool-out (bit b t || inAncestry s (bit m) t) (slot p t) a) ∙ pool-out (inBlock p t || meetsOther s (inBlock p) t) (slot p t) a))
 
 -- where v is the view that the code found
-module _ (s : List ℕ) (p : Position) (v : View) (m : ℕ) (few : count s ≤ 32) (e : v ≡ viewBelow s (count s) p) (h : m ≡ struckIn s v) where
+module _ (s : List ℕ) (p : Position) (v : View) (m : ℕ) (few : count s ≤ 32) (e : v ≡ viewBelow s (count s) p) (h : m ≡ conflictedIn s v) where
   pub mined-at : (t : ℕ) → t < count s → minedSlot s (p .mined + 1) (v .block) m t (slot p t) ≡ mineSlot s p t (slot p t)
-  unfolding struckIn
+  unfolding conflictedIn
   mined-at t l =
       let b = ap (λ (x : View). x .block) e in
       split (eqb (bitOr (v .pool) (v .block)) (v .block))

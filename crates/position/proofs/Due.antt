@@ -13,10 +13,10 @@ use Rattle.sheet.specs.Field.{count}
 use Rattle.sheet.specs.Setup.{perDay}
 use Rattle.sheet.specs.LockHeight.{never}
 use Rattle.slots.specs.Deadline.{deadline}
-use Rattle.slots.specs.Forms.Limited.{limitedSet}
+use Rattle.slots.specs.Forms.Expiring.{expiringSet}
 use Rattle.slots.specs.Forms.Next.{Next}
 use Rattle.slots.proofs.AnyMember.{any-first, any-next-member, any-member}
-use Rattle.slots.proofs.Deadlines.{deadline-unlimited}
+use Rattle.slots.proofs.Deadlines.{deadline-unexpiring}
 use Rattle.steps.specs.declared.View.{View}
 use Rattle.position.specs.declared.Position.{Position}
 use Rattle.position.specs.Position.{inPool, inBlock, blockOf, deadlineIn}
@@ -53,12 +53,12 @@ module _ (s : List ℕ) (d : ℕ) (p : Position) (m among : ℕ) where
 module _ (s u : List ℕ) (p : Position) (v : View) (few : count s ≤ 32) (slots : length (p .slots) ≡ 32) (e : v ≡ viewBelow s (count s) p) (word : v .block < 4294967296) (mined : v .mined < 65536) where
   -- the set that the code looks through
   abbrev among : ℕ
-  among = bitAnd (bitAnd (v .pool) (4294967295 - v .block)) (v .limited)
+  among = bitAnd (bitAnd (v .pool) (4294967295 - v .block)) (v .expiring)
 
-  among-bit : (t : ℕ) → t < count s → bit among t ≡ (waiting p t && bit (limitedSet s) t)
+  among-bit : (t : ℕ) → t < count s → bit among t ≡ (waiting p t && bit (expiringSet s) t)
   unfolding viewBelow waiting
   among-bit t l =
-      rw (bit-and (bitAnd (v .pool) (4294967295 - v .block)) (v .limited) t, bit-and (v .pool) (4294967295 - v .block) t, bit-outside (v .block) t word (omega arith))
+      rw (bit-and (bitAnd (v .pool) (4294967295 - v .block)) (v .expiring) t, bit-and (v .pool) (4294967295 - v .block) t, bit-outside (v .block) t word (omega arith))
       (rw (e, set-bit (count s) (inPool p) few t l, set-bit (count s) (inBlock p) few t l))
 
   mined-is : v .mined ≡ p .mined
@@ -66,19 +66,19 @@ module _ (s u : List ℕ) (p : Position) (v : View) (few : count s ≤ 32) (slot
   mined-is = rw e
 
   -- no block is at never
-  unlimited : (t : ℕ) → t < count s → bit (limitedSet s) t ≡ false → eqb (p .mined + 1) (deadlineIn s u p t) ≡ false
+  unexpiring : (t : ℕ) → t < count s → bit (expiringSet s) t ≡ false → eqb (p .mined + 1) (deadlineIn s u p t) ≡ false
   unfolding deadlineIn
-  unlimited t l h =
-      rw (deadline-unlimited s few (perDay u) (blockOf p) t l h)
+  unexpiring t l h =
+      rw (deadline-unexpiring s few (perDay u) (blockOf p) t l h)
       (ne-eqb (p .mined + 1) never (λ q. omega (arith, q, mined, mined-is)))
 
   due-owed : (t : ℕ) → t < count s → dueIn s (perDay u) p (v .mined) among t ≡ owed s u p t
   unfolding dueIn owed
   due-owed t l =
       rw (among-bit t l, since-parent s p slots t, deadline-parent s u p t, mined-is)
-      (split (bit (limitedSet s) t)
+      (split (bit (expiringSet s) t)
       (λ y. rw (y, and-true (waiting p t)))
-      (λ y. rw (y, and-false (waiting p t), unlimited t l y) (sym (and-false (waiting p t)))))
+      (λ y. rw (y, and-false (waiting p t), unexpiring t l y) (sym (and-false (waiting p t)))))
 
   pub any-due-owed : (d : ℕ) (b : Bool) → d ≡ perDay u → b ≡ anyBelow (count s) (dueIn s d p (v .mined) among) → b ≡ anyOwed s u p
   unfolding anyOwed

@@ -15,7 +15,7 @@ pub mod MineTests
 pub mod Due
 pub mod Fields
 pub mod Outcomes
-pub mod Outlooks
+pub mod Guards
 pub mod ShareTests
 pub mod FirstSets
 pub mod SharedNone

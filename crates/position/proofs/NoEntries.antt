@@ -15,7 +15,7 @@ use Rattle.slots.specs.Forms.Line.{lineSet}
 use Rattle.slots.proofs.AncestrySets.{line-none}
 use Rattle.steps.specs.declared.View.{View}
 use Rattle.steps.specs.Mined.{confirmEntry}
-use Rattle.steps.specs.Forms.Blocks.{touchedIn, minedSlot, bumpedSlot, entersIn, Outside}
+use Rattle.steps.specs.Forms.Blocks.{affectedIn, minedSlot, bumpedSlot, entersIn, Outside}
 use Rattle.steps.proofs.Unmoved.{pool-out, block-out}
 use Rattle.position.specs.declared.Position.{Position}
 use Rattle.position.specs.Position.{slot, inPool, inBlock}
@@ -45,9 +45,9 @@ module _ (s : List ℕ) (p : Position) (v : View) (few : count s ≤ 32) (e : v 
         out-of-block t l (w .1),
       )
 
-  pub mined-outside : (b m there : ℕ) → there ≡ touchedIn v m → Outside s (minedSlot s b (v .block) m) there (p .slots)
-  unfolding minedSlot touchedIn slot
-  mined-outside b m there f =
+  pub mined-outside : (b m members : ℕ) → members ≡ affectedIn v m → Outside s (minedSlot s b (v .block) m) members (p .slots)
+  unfolding minedSlot affectedIn slot
+  mined-outside b m members f =
       record {
         same = λ t l o.
             let h = rw f at o in

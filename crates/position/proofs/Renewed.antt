@@ -33,19 +33,19 @@ joined-upto m (suc n) member q v l h =
     (λ e. rw e refl)
     (λ a. joined-upto m n member q v (le-of-suc-le-suc a) (λ k b c. h k b (omega (arith, c))) ∙ rw (h n (le-of-suc-le-suc a) (omega arith)) refl)
 
-module _ (there : ℕ) (q : Position) (v : View) where
-  pub joined-start : (n k : ℕ) → Next there 0 n k → v ≡ viewJoined k (bit there) q v
+module _ (members : ℕ) (q : Position) (v : View) where
+  pub joined-start : (n k : ℕ) → Next members 0 n k → v ≡ viewJoined k (bit members) q v
   unfolding viewJoined
-  joined-start n k h = joined-upto 0 k (bit there) q v (h .low) (h .gap)
+  joined-start n k h = joined-upto 0 k (bit members) q v (h .low) (h .gap)
 
-  pub joined-more : (n k r : ℕ) (w z : View) (x : Slot) → w ≡ viewJoined k (bit there) q v → bit there k ≡ true → z ≡ viewWith w k x → x ≡ slot q k
-      → Next there (k + 1) n r → z ≡ viewJoined r (bit there) q v
+  pub joined-more : (n k r : ℕ) (w z : View) (x : Slot) → w ≡ viewJoined k (bit members) q v → bit members k ≡ true → z ≡ viewWith w k x → x ≡ slot q k
+      → Next members (k + 1) n r → z ≡ viewJoined r (bit members) q v
   unfolding viewJoined
   joined-more n k r w z x e b f g h =
-      let a : z ≡ viewJoined (k + 1) (bit there) q v = rw (add-one, b) (f ∙ rw (e, g) refl) in
-      a ∙ joined-upto (k + 1) r (bit there) q v (h .low) (h .gap)
+      let a : z ≡ viewJoined (k + 1) (bit members) q v = rw (add-one, b) (f ∙ rw (e, g) refl) in
+      a ∙ joined-upto (k + 1) r (bit members) q v (h .low) (h .gap)
 
-  pub joined-done : (k n : ℕ) (w : View) → k ≤ n → n ≤ k → w ≡ viewJoined k (bit there) q v → w ≡ viewJoined n (bit there) q v
+  pub joined-done : (k n : ℕ) (w : View) → k ≤ n → n ≤ k → w ≡ viewJoined k (bit members) q v → w ≡ viewJoined n (bit members) q v
   joined-done k n w l m e = rw (le-antisymm m l) e
 
 -- the first t places by a, the others by b
@@ -91,13 +91,13 @@ module _ (n : ℕ) (a b : ℕ → Bool) where
 
 -- those that pass outside a set
 abbrev outOf : ℕ → (ℕ → Bool) → ℕ → Bool
-outOf there passes k = passes k && not (bit there k)
+outOf members passes k = passes k && not (bit members k)
 
-out-member : {X : Type 0} (there : ℕ) (passes : ℕ → Bool) (k : ℕ) → bit there k ≡ true → outOf there passes k ≡ true → X
-out-member there passes k y h = clash {b = true} refl (rw (y, and-false (passes k)) at (sym h))
+out-member : {X : Type 0} (members : ℕ) (passes : ℕ → Bool) (k : ℕ) → bit members k ≡ true → outOf members passes k ≡ true → X
+out-member members passes k y h = clash {b = true} refl (rw (y, and-false (passes k)) at (sym h))
 
-out-other : (there : ℕ) (passes : ℕ → Bool) (k : ℕ) → bit there k ≡ false → outOf there passes k ≡ passes k
-out-other there passes k y = rw y (and-true (passes k))
+out-other : (members : ℕ) (passes : ℕ → Bool) (k : ℕ) → bit members k ≡ false → outOf members passes k ≡ passes k
+out-other members passes k y = rw y (and-true (passes k))
 
 -- no confirmation and no shared signature goes from x to y
 abbrev pub Keeps : Slot → Slot → Type 0
@@ -113,9 +113,9 @@ keeps-on x y z a b = (
 )
 
 -- from p to q, of the slots below n those outside a set, whose members are below n, stay as they are, and the others keep these
-pub record Moved (n : ℕ) (p q : Position) (there : ℕ) : Type 0 where
-  pub small : there < 2 ^ n
-  pub out : (k : ℕ) → k < n → bit there k ≡ false → slot q k ≡ slot p k
+pub record Moved (n : ℕ) (p q : Position) (members : ℕ) : Type 0 where
+  pub small : members < 2 ^ n
+  pub out : (k : ℕ) → k < n → bit members k ≡ false → slot q k ≡ slot p k
   pub keeps : (k : ℕ) → k < n → Keeps (slot p k) (slot q k)
 
 -- tests of a slot that stays
@@ -123,38 +123,38 @@ slot-same : (p q : Position) (t : ℕ) → slot q t ≡ slot p t → (inPool q t
 unfolding inPool inBlock isConfirmed blockOf
 slot-same p q t e = (rw e refl, rw e refl, ap (λ (x : Slot). ltb 0 (x .height)) e)
 
-module _ (s : List ℕ) (n there : ℕ) (p q : Position) (v : View) (few : n ≤ 32) (e : v ≡ viewBelow s n p) (moved : Moved n p q there) where
-  word : there < 4294967296
+module _ (s : List ℕ) (n members : ℕ) (p q : Position) (v : View) (few : n ≤ 32) (e : v ≡ viewBelow s n p) (moved : Moved n p q members) where
+  word : members < 4294967296
   word = let m : 2 ^ n ≤ 2 ^ 32 = pow-mono few in omega (arith, m, moved .small)
 
   -- the first t transactions seen in q, of the others what is kept of p
   halfway : ℕ → View
   halfway t =
       record {
-        pool = setBelow n (mixed t (inPool q) (outOf there (inPool p)));
-        block = setBelow n (mixed t (inBlock q) (outOf there (inBlock p)));
+        pool = setBelow n (mixed t (inPool q) (outOf members (inPool p)));
+        block = setBelow n (mixed t (inBlock q) (outOf members (inBlock p)));
         confirmed = setBelow n (mixed t (isConfirmed q) (isConfirmed p));
-        limited = v .limited;
+        expiring = v .expiring;
         mined = q .mined;
         shared = unionBelow n (mixed t (λ k. sharedAny (slot q k)) (λ k. sharedAny (slot p k)));
         keys = q .keys;
       }
 
-  none-yet : viewKept v there q ≡ halfway 0
+  none-yet : viewKept v members q ≡ halfway 0
   unfolding viewKept halfway viewBelow
   none-yet =
-      let x = set-outside n (inPool p) there few word ∙ set-none-yet n (inPool q) (outOf there (inPool p)) in
-      let y = set-outside n (inBlock p) there few word ∙ set-none-yet n (inBlock q) (outOf there (inBlock p)) in
+      let x = set-outside n (inPool p) members few word ∙ set-none-yet n (inPool q) (outOf members (inPool p)) in
+      let y = set-outside n (inBlock p) members few word ∙ set-none-yet n (inBlock q) (outOf members (inBlock p)) in
       let z = set-none-yet n (isConfirmed q) (isConfirmed p) in
       let w : unionBelow n (λ k. sharedAny (slot p k)) ≡ unionBelow n (mixed 0 (λ k. sharedAny (slot q k)) (λ k. sharedAny (slot p k))) = union-same n _ _ (λ k l. rw (le-ltb k 0 (omega arith)) refl) in
       rw (e, x, y, z, w) refl
 
   -- a member is joined
-  member-joined : (t : ℕ) → t < n → bit there t ≡ true → viewWith (halfway t) t (slot q t) ≡ halfway (suc t)
+  member-joined : (t : ℕ) → t < n → bit members t ≡ true → viewWith (halfway t) t (slot q t) ≡ halfway (suc t)
   unfolding viewWith halfway inPool inBlock isConfirmed blockOf
   member-joined t l o =
-      let x = set-joined n (inPool q) (outOf there (inPool p)) t l (out-member there (inPool p) t o) in
-      let y = set-joined n (inBlock q) (outOf there (inBlock p)) t l (out-member there (inBlock p) t o) in
+      let x = set-joined n (inPool q) (outOf members (inPool p)) t l (out-member members (inPool p) t o) in
+      let y = set-joined n (inBlock q) (outOf members (inBlock p)) t l (out-member members (inBlock p) t o) in
       let z = set-joined n (isConfirmed q) (isConfirmed p) t l (moved .keeps t l .0) in
       let f = mixed t (λ k. sharedAny (slot q k)) (λ k. sharedAny (slot p k)) in
       let g = mixed (suc t) (λ k. sharedAny (slot q k)) (λ k. sharedAny (slot p k)) in
@@ -168,31 +168,31 @@ module _ (s : List ℕ) (n there : ℕ) (p q : Position) (v : View) (few : n ≤
       rw (← x, ← y, ← z, ← w, mixed-here t (λ k. sharedAny (slot q k)) (λ k. sharedAny (slot p k))) refl
 
   -- nothing changes by another
-  other-passed : (t : ℕ) → t < n → bit there t ≡ false → halfway t ≡ halfway (suc t)
+  other-passed : (t : ℕ) → t < n → bit members t ≡ false → halfway t ≡ halfway (suc t)
   unfolding halfway
   other-passed t l o =
       let h = moved .out t l o in
       let same = slot-same p q t h in
-      let x = set-passed n (inPool q) (outOf there (inPool p)) t (same .0 ∙ sym (out-other there (inPool p) t o)) in
-      let y = set-passed n (inBlock q) (outOf there (inBlock p)) t (same .1 ∙ sym (out-other there (inBlock p) t o)) in
+      let x = set-passed n (inPool q) (outOf members (inPool p)) t (same .0 ∙ sym (out-other members (inPool p) t o)) in
+      let y = set-passed n (inBlock q) (outOf members (inBlock p)) t (same .1 ∙ sym (out-other members (inBlock p) t o)) in
       let z = set-passed n (isConfirmed q) (isConfirmed p) t (same .2) in
       let w : unionBelow n (mixed t (λ k. sharedAny (slot q k)) (λ k. sharedAny (slot p k))) ≡ unionBelow n (mixed (suc t) (λ k. sharedAny (slot q k)) (λ k. sharedAny (slot p k))) =
       union-same n _ _ (λ k m. passed-over t (λ k. sharedAny (slot q k)) (λ k. sharedAny (slot p k)) (ap sharedAny h) k) in
       rw (x, y, z, w) refl
 
-  upto : (t : ℕ) → t ≤ n → viewJoined t (bit there) q (viewKept v there q) ≡ halfway t
+  upto : (t : ℕ) → t ≤ n → viewJoined t (bit members) q (viewKept v members q) ≡ halfway t
   unfolding viewJoined
   upto zero l = none-yet
   upto (suc t) l =
-      split (bit there t)
+      split (bit members t)
       (λ y. rw (y, upto t (omega (arith, l))) (member-joined t l y))
       (λ y. rw (y, upto t (omega (arith, l))) (other-passed t l y))
 
-  pub renewed-right : viewJoined n (bit there) q (viewKept v there q) ≡ viewBelow s n q
+  pub renewed-right : viewJoined n (bit members) q (viewKept v members q) ≡ viewBelow s n q
   unfolding viewBelow halfway
   renewed-right =
-      let x = set-all n (inPool q) (outOf there (inPool p)) in
-      let y = set-all n (inBlock q) (outOf there (inBlock p)) in
+      let x = set-all n (inPool q) (outOf members (inPool p)) in
+      let y = set-all n (inBlock q) (outOf members (inBlock p)) in
       let z = set-all n (isConfirmed q) (isConfirmed p) in
       let w : unionBelow n (mixed n (λ k. sharedAny (slot q k)) (λ k. sharedAny (slot p k))) ≡ unionBelow n (λ k. sharedAny (slot q k)) = union-same n _ _ (λ k l. rw (lt-ltb k n l) refl) in
       upto n (omega arith) ∙ rw (x, y, z, w, e) refl
@@ -231,14 +231,14 @@ module _ (n t : ℕ) (few : n ≤ 32) (l : t < n) where
   one-joined q w =
       joined-more (2 ^ t) q w n t n w (viewWith w t (slot q t)) (slot q t) (joined-start (2 ^ t) q w n t up-to-it) (power-here t (omega (arith, few, l))) refl refl from-it
 
-  pub one-member : (p q : Position) (there : ℕ) → removed there t ≡ 0 → Moved n p q there → Moved n p q (2 ^ t)
-  one-member p q there z moved =
+  pub one-member : (p q : Position) (members : ℕ) → removed members t ≡ 0 → Moved n p q members → Moved n p q (2 ^ t)
+  one-member p q members z moved =
       record {
         small = pow-lt l;
         out = λ k m h.
             let o : eqb k t ≡ false = sym (power t k (omega (arith, few, l)) (omega (arith, few, m))) ∙ h in
-            let w : (bit there k && not (eqb k t)) ≡ false = sym (bit-removed there t k (omega (arith, few, l)) (omega (arith, few, m))) ∙ ap (λ (x : ℕ). bit x k) z ∙ no-bit k in
-            moved .out k m (sym (and-true (bit there k)) ∙ (rw o at w));
+            let w : (bit members k && not (eqb k t)) ≡ false = sym (bit-removed members t k (omega (arith, few, l)) (omega (arith, few, m))) ∙ ap (λ (x : ℕ). bit x k) z ∙ no-bit k in
+            moved .out k m (sym (and-true (bit members k)) ∙ (rw o at w));
         keeps = moved .keeps;
       }
 

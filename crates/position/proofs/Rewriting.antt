@@ -16,15 +16,15 @@ use Rattle.position.specs.Effect.{withSlots, changeSlots}
 abbrev pub Rewritten : (ℕ → Slot → Slot) → ℕ → Position → Position → Type 0
 Rewritten f t p q = (q .slots ≡ rewriteFirst t f (p .slots)) × (q .mined ≡ p .mined) × (q .keys ≡ p .keys) × (length (q .slots) ≡ 32)
 
-module _ (s : List ℕ) (f : ℕ → Slot → Slot) (there : ℕ) (p : Position) (o : Outside s f there (p .slots)) (n : ℕ) (e : n ≡ count s) where
-  pub rewritten-start : (t : ℕ) → length (p .slots) ≡ 32 → Next there 0 n t → Rewritten f t p p
-  rewritten-start t l h = (changed-upto s f there (p .slots) o n e 0 t (p .slots) h (rewrite-start f (p .slots)), refl, refl, l)
+module _ (s : List ℕ) (f : ℕ → Slot → Slot) (members : ℕ) (p : Position) (o : Outside s f members (p .slots)) (n : ℕ) (e : n ≡ count s) where
+  pub rewritten-start : (t : ℕ) → length (p .slots) ≡ 32 → Next members 0 n t → Rewritten f t p p
+  rewritten-start t l h = (changed-upto s f members (p .slots) o n e 0 t (p .slots) h (rewrite-start f (p .slots)), refl, refl, l)
 
-  pub rewritten-more : (t r : ℕ) (q : Position) (y : Slot) → Rewritten f t p q → y ≡ f t (slot q t) → Next there (t + 1) n r
+  pub rewritten-more : (t r : ℕ) (q : Position) (y : Slot) → Rewritten f t p q → y ≡ f t (slot q t) → Next members (t + 1) n r
       → Rewritten f r p (withSlots (set (q .slots) t y) q)
   unfolding withSlots slot
   rewritten-more t r q y w h k = (
-    changed-upto s f there (p .slots) o n e (t + 1) r (set (q .slots) t y) k (rewrite-again t f (p .slots) (q .slots) emptySlot y (w .0) h),
+    changed-upto s f members (p .slots) o n e (t + 1) r (set (q .slots) t y) k (rewrite-again t f (p .slots) (q .slots) emptySlot y (w .0) h),
     w .1,
     w .2,
     length-set (q .slots) t y ∙ w .3,

@@ -29,7 +29,7 @@ use Rattle.slots.proofs.Trailing.{next-some}
 use Rattle.steps.specs.declared.View.{View}
 use Rattle.steps.specs.Decode.{fieldsRight, stepBytes}
 use Rattle.steps.specs.Mined.{confirmEntry}
-use Rattle.steps.specs.Forms.Blocks.{struckIn, touchedIn}
+use Rattle.steps.specs.Forms.Blocks.{conflictedIn, affectedIn}
 use Rattle.steps.specs.Forms.View.{viewAfter, viewPassed}
 use Rattle.steps.proofs.RightFields.{share-listed, pool-listed, miner-listed, include-listed}
 use Rattle.steps.proofs.Unmoved.{block-out}
@@ -42,7 +42,7 @@ use Rattle.position.specs.Effect.{withSlots, changeSlot, changeSlots, wi
 use Rattle.position.specs.Effect.{afterSend, afterHandIn, afterInclude, leavesPool, mineSlot, afterMine, leavesBlock, bumpSlot, afterBump, effect}
 use Rattle.position.specs.Play.{FourBytes, decodeBytes, step}
 use Rattle.position.specs.Forms.View.{viewBelow}
-use Rattle.position.specs.Forms.Seen.{changedSet, narrowedSet, lowest, viewKept, viewJoined}
+use Rattle.position.specs.Forms.Seen.{changedSet, refinedSet, lowest, viewKept, viewJoined}
 use Rattle.position.proofs.BlockSets.{mined-at}
 use Rattle.position.proofs.Changed.{one-other, one-slot, all-slot}
 use Rattle.position.proofs.Decoding.{decodes}
@@ -133,11 +133,11 @@ one-keeps t f p g k =
     (λ y. rw (one-other t f p k y) (keeps-same (slot p k))))
     (λ l. rw (set-out (p .slots) t (f (slot p t)) (ltb-false t (length (p .slots)) l)) (keeps-same (slot p k)))
 
-one-moved : (n t : ℕ) (f : Slot → Slot) (p : Position) (there : ℕ) → there < 2 ^ n → bit there t ≡ true → ((x : Slot) → Keeps x (f x)) → Moved n p (changeSlot t f p) there
-one-moved n t f p there l b g =
+one-moved : (n t : ℕ) (f : Slot → Slot) (p : Position) (members : ℕ) → members < 2 ^ n → bit members t ≡ true → ((x : Slot) → Keeps x (f x)) → Moved n p (changeSlot t f p) members
+one-moved n t f p members l b g =
     record {
       small = l;
-      out = λ k i h. one-other t f p k (ne-eqb k t (λ z. clash b (ap (bit there) (sym z) ∙ h)));
+      out = λ k i h. one-other t f p k (ne-eqb k t (λ z. clash b (ap (bit members) (sym z) ∙ h)));
       keeps = λ k i. one-keeps t f p g k;
     }
 
@@ -176,9 +176,9 @@ changed-or-not s f p k h =
     (List·getD-eq-default (rewriteFirst (count s) f (p .slots)) emptySlot {n = k} (rw (length-rewriteFirst (count s) f (p .slots)) b)
     ∙ sym (List·getD-eq-default (p .slots) emptySlot {n = k} b)))
 
-all-moved : (s : List ℕ) (f : ℕ → Slot → Slot) (there : ℕ) (p q : Position) → there < 2 ^ count s → ((k : ℕ) → slot q k ≡ slot (changeSlots s f p) k)
-    → ((k : ℕ) → k < count s → bit there k ≡ false → f k (slot p k) ≡ slot p k) → ((k : ℕ) → Keeps (slot p k) (f k (slot p k))) → Moved (count s) p q there
-all-moved s f there p q small changed same keeps =
+all-moved : (s : List ℕ) (f : ℕ → Slot → Slot) (members : ℕ) (p q : Position) → members < 2 ^ count s → ((k : ℕ) → slot q k ≡ slot (changeSlots s f p) k)
+    → ((k : ℕ) → k < count s → bit members k ≡ false → f k (slot p k) ≡ slot p k) → ((k : ℕ) → Keeps (slot p k) (f k (slot p k))) → Moved (count s) p q members
+all-moved s f members p q small changed same keeps =
     record {
       small = small;
       out = λ k l h. changed k ∙ either (changed-or-not s f p k l) (λ a. a ∙ same k l h) (λ a. a);
@@ -201,22 +201,22 @@ module _ (s : List ℕ) (p : Position) (v : View) (few : count s ≤ 32) (e : v 
   both-small : bitOr (v .pool) (v .block) < 2 ^ count s
   both-small = or-lt (count s) (v .pool) (v .block) pool-small block-small
 
-  touched-small : (m : ℕ) → touchedIn v m < 2 ^ count s
-  unfolding touchedIn
-  touched-small m = split (eqb m 0) (λ y. rw y block-small) (λ y. rw y both-small)
+  affected-small : (m : ℕ) → affectedIn v m < 2 ^ count s
+  unfolding affectedIn
+  affected-small m = split (eqb m 0) (λ y. rw y block-small) (λ y. rw y both-small)
 
-  touched-both : (m k : ℕ) → bit (bitOr (v .pool) (v .block)) k ≡ false → bit (touchedIn v m) k ≡ false
-  unfolding touchedIn
-  touched-both m k h =
+  affected-both : (m k : ℕ) → bit (bitOr (v .pool) (v .block)) k ≡ false → bit (affectedIn v m) k ≡ false
+  unfolding affectedIn
+  affected-both m k h =
       split (eqb m 0)
       (λ y. rw y (or-neither (bit (v .pool) k) (bit (v .block) k) (sym (bit-or (v .pool) (v .block) k) ∙ h) .1))
       (λ y. rw y h)
 
-  mine-moved : Moved (count s) p (afterMine s p) (touchedIn v (struckIn s v))
+  mine-moved : Moved (count s) p (afterMine s p) (affectedIn v (conflictedIn s v))
   unfolding afterMine withMined slot
   mine-moved =
-      all-moved s (mineSlot s p) (touchedIn v (struckIn s v)) p (afterMine s p) (touched-small (struckIn s v)) (λ k. refl)
-      (λ k l h. sym (mined-at s p v (struckIn s v) few e refl k l) ∙ mined-outside s p v few e (p .mined + 1) (struckIn s v) (touchedIn v (struckIn s v)) refl .same k l h)
+      all-moved s (mineSlot s p) (affectedIn v (conflictedIn s v)) p (afterMine s p) (affected-small (conflictedIn s v)) (λ k. refl)
+      (λ k l h. sym (mined-at s p v (conflictedIn s v) few e refl k l) ∙ mined-outside s p v few e (p .mined + 1) (conflictedIn s v) (affectedIn v (conflictedIn s v)) refl .same k l h)
       (mine-keeps s p)
 
   mine-wide : Moved (count s) p (afterMine s p) (pick (eqb (v .block) 0) 0 (bitOr (v .pool) (v .block)))
@@ -226,7 +226,7 @@ module _ (s : List ℕ) (p : Position) (v : View) (few : count s ≤ 32) (e : v 
       (λ y. let m = mine-empty s p few (rw e at (eqb-true (v .block) 0 y)) in rw y (kept-moved (count s) p (afterMine s p) (λ k. rw m refl)))
       (λ y.
       let w = mine-moved in
-      rw y (record { small = both-small; out = λ k l h. w .out k l (touched-both (struckIn s v) k h); keeps = w .keeps }))
+      rw y (record { small = both-small; out = λ k l h. w .out k l (affected-both (conflictedIn s v) k h); keeps = w .keeps }))
 
   bump-moved : (t : ℕ) → Moved (count s) p (afterBump s t p) (bitOr (v .pool) (v .block))
   unfolding afterBump
@@ -263,63 +263,63 @@ module _ (s u : List ℕ) (p : Position) (v : View) (fit : Fit s u) (e : v ≡ v
   by-kind (Mine a t to) h = mine-wide s p v few e
   by-kind (Bump a t to) h = bump-moved s p v few e t
 
-  narrowed-by-kind : (x : Step) → fieldsRight s u x ≡ true
-      → Moved (count s) p (effect s p x) (narrowedSet s v (getD (stepBytes x) 0 0) (changedSet v (getD (stepBytes x) 0 0) (getD (stepBytes x) 2 0)))
-  unfolding stepBytes narrowedSet effect
-  narrowed-by-kind (Share a t to) h = by-kind (Share a t to) h
-  narrowed-by-kind (Give a i to) h = by-kind (Give a i to) h
-  narrowed-by-kind (SendToPool a t to) h = by-kind (SendToPool a t to) h
-  narrowed-by-kind (HandToMiner a t to) h = by-kind (HandToMiner a t to) h
-  narrowed-by-kind (Include a t to) h = by-kind (Include a t to) h
-  narrowed-by-kind (Mine a t to) h = mine-moved s p v few e
-  narrowed-by-kind (Bump a t to) h = by-kind (Bump a t to) h
+  refined-by-kind : (x : Step) → fieldsRight s u x ≡ true
+      → Moved (count s) p (effect s p x) (refinedSet s v (getD (stepBytes x) 0 0) (changedSet v (getD (stepBytes x) 0 0) (getD (stepBytes x) 2 0)))
+  unfolding stepBytes refinedSet effect
+  refined-by-kind (Share a t to) h = by-kind (Share a t to) h
+  refined-by-kind (Give a i to) h = by-kind (Give a i to) h
+  refined-by-kind (SendToPool a t to) h = by-kind (SendToPool a t to) h
+  refined-by-kind (HandToMiner a t to) h = by-kind (HandToMiner a t to) h
+  refined-by-kind (Include a t to) h = by-kind (Include a t to) h
+  refined-by-kind (Mine a t to) h = mine-moved s p v few e
+  refined-by-kind (Bump a t to) h = by-kind (Bump a t to) h
 
   -- the least member is a transaction of the sheet
-  member-low : (there k : ℕ) → there < 2 ^ count s → bit there k ≡ true → k < count s
-  member-low there k small h =
-      split (ltb k (count s)) (λ y. ltb-true k (count s) y) (λ y. clash h (bit-above there (count s) k small (ltb-false k (count s) y)))
+  member-low : (members k : ℕ) → members < 2 ^ count s → bit members k ≡ true → k < count s
+  member-low members k small h =
+      split (ltb k (count s)) (λ y. ltb-true k (count s) y) (λ y. clash h (bit-above members (count s) k small (ltb-false k (count s) y)))
 
-  lowest-low : (there : ℕ) → there < 2 ^ count s → lowest there < count s
+  lowest-low : (members : ℕ) → members < 2 ^ count s → lowest members < count s
   unfolding lowest
-  lowest-low there small =
-      split (ltb (trailingZeros 32 there) 32)
+  lowest-low members small =
+      split (ltb (trailingZeros 32 members) 32)
       (λ y.
-      let l = ltb-true (trailingZeros 32 there) 32 y in
-      let i : trailingZeros 32 there ≡ trailingZeros 32 (there / 2 ^ 0) = ap (trailingZeros 32) (sym (div-one there)) in
-      let z : trailingZeros 32 there ≡ 0 + trailingZeros 32 there = omega arith in
-      let h = next-some there 0 32 (trailingZeros 32 there) i (omega arith) l .here (omega (arith, l)) in
-      rw y (member-low there (trailingZeros 32 there) small (ap (bit there) z ∙ h)))
+      let l = ltb-true (trailingZeros 32 members) 32 y in
+      let i : trailingZeros 32 members ≡ trailingZeros 32 (members / 2 ^ 0) = ap (trailingZeros 32) (sym (div-one members)) in
+      let z : trailingZeros 32 members ≡ 0 + trailingZeros 32 members = omega arith in
+      let h = next-some members 0 32 (trailingZeros 32 members) i (omega arith) l .here (omega (arith, l)) in
+      rw y (member-low members (trailingZeros 32 members) small (ap (bit members) z ∙ h)))
       (λ y. rw y (fit .checked .some))
 
   -- a step of four bytes, where r is what the code got from it
   module _ (b : FourBytes) (r : Stepped) (f : r ≡ step s u p b) (z : r .refusal ≡ 0) where
     moved : Moved (count s) p (r .position) (changedSet v (b .kind) (b .transaction))
-        × Moved (count s) p (r .position) (narrowedSet s v (b .kind) (changedSet v (b .kind) (b .transaction)))
+        × Moved (count s) p (r .position) (refinedSet s v (b .kind) (changedSet v (b .kind) (b .transaction)))
     unfolding decodeBytes
     moved = by (step-case s u p b)
       where
-        by : StepCase s u p b → Moved (count s) p (r .position) (changedSet v (b .kind) (b .transaction)) × Moved (count s) p (r .position) (narrowedSet s v (b .kind) (changedSet v (b .kind) (b .transaction)))
+        by : StepCase s u p b → Moved (count s) p (r .position) (changedSet v (b .kind) (b .transaction)) × Moved (count s) p (r .position) (refinedSet s v (b .kind) (changedSet v (b .kind) (b .transaction)))
         by (taken x d h a g) =
             let w = decodes s u (b .kind) (b .party) (b .transaction) (b .destination) x d .bytes in
             let k : getD (stepBytes x) 0 0 ≡ b .kind = ap (λ (l : List ℕ). getD l 0 0) w in
             let t : getD (stepBytes x) 2 0 ≡ b .transaction = ap (λ (l : List ℕ). getD l 2 0) w in
-            rw (f, g, ← k, ← t) (by-kind x h, narrowed-by-kind x h)
+            rw (f, g, ← k, ← t) (by-kind x h, refined-by-kind x h)
         by (turned-down n m g) = clash (eq-eqb n 0 (sym (ap (λ (q : Stepped). q .refusal) (f ∙ g)) ∙ z)) m
 
-    -- over the set narrowed
-    pub seen-many : (there : ℕ) → there ≡ narrowedSet s v (b .kind) (changedSet v (b .kind) (b .transaction))
-        → viewJoined (count s) (bit there) (r .position) (viewKept v there (r .position)) ≡ viewBelow s (count s) (r .position)
-    seen-many there d = renewed-right s (count s) there p (r .position) v few e (rw d (moved .1))
+    -- over the refined set
+    pub seen-many : (members : ℕ) → members ≡ refinedSet s v (b .kind) (changedSet v (b .kind) (b .transaction))
+        → viewJoined (count s) (bit members) (r .position) (viewKept v members (r .position)) ≡ viewBelow s (count s) (r .position)
+    seen-many members d = renewed-right s (count s) members p (r .position) v few e (rw d (moved .1))
 
-    module _ (there : ℕ) (d : there ≡ changedSet v (b .kind) (b .transaction)) where
+    module _ (members : ℕ) (d : members ≡ changedSet v (b .kind) (b .transaction)) where
       -- where nothing may have changed
-      pub seen-none : there ≡ 0 → viewPassed v (r .position .mined) (r .position .keys) ≡ viewBelow s (count s) (r .position)
+      pub seen-none : members ≡ 0 → viewPassed v (r .position .mined) (r .position .keys) ≡ viewBelow s (count s) (r .position)
       seen-none h = none-right s (count s) p (r .position) v e (subst (λ (m : ℕ). Moved (count s) p (r .position) m) (sym d ∙ h) (moved .0))
 
       -- where one slot may
-      pub seen-one : (at : ℕ) → at ≡ lowest there → removed there at ≡ 0
+      pub seen-one : (at : ℕ) → at ≡ lowest members → removed members at ≡ 0
           → viewAfter v at (slot (r .position) at) (r .position .mined) (r .position .keys) ≡ viewBelow s (count s) (r .position)
       seen-one at i h =
           let m = subst (λ (m : ℕ). Moved (count s) p (r .position) m) (sym d) (moved .0) in
-          let l : at < count s = rw i (lowest-low there (m .small)) in
-          one-right (count s) at few l s p (r .position) v e (one-member (count s) at few l p (r .position) there h m)
+          let l : at < count s = rw i (lowest-low members (m .small)) in
+          one-right (count s) at few l s p (r .position) v e (one-member (count s) at few l p (r .position) members h m)

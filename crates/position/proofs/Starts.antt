@@ -7,7 +7,7 @@ use Rattle.laws.specs.Mask.{unionBelow}
 use Rattle.laws.specs.Sets.{none-set}
 use Rattle.slots.specs.declared.Slot.{Slot}
 use Rattle.slots.specs.Slot.{emptySlot, standing, sharedAny, sharedFor}
-use Rattle.slots.specs.Forms.Limited.{limitedSet}
+use Rattle.slots.specs.Forms.Expiring.{expiringSet}
 use Rattle.position.specs.Forms.View.{viewBelow}
 use Rattle.position.specs.Position.{slotCount, start, slot, inPool, inBlock, blockOf, isConfirmed}
 
@@ -48,8 +48,8 @@ module _ (s : List ℕ) (t : ℕ) where
   none-confirmed = ap (λ (x : Slot). ltb 0 (x .height)) (start-slot s t)
 
 -- its view, where m has those that can have a deadline and k the keys held
-pub start-seen : (s k : List ℕ) (n m : ℕ) → m ≡ limitedSet s → k ≡ start s .keys
-    → record { pool = 0; block = 0; confirmed = 0; limited = m; mined = 0; shared = 0; keys = k } ≡ viewBelow s n (start s)
+pub start-seen : (s k : List ℕ) (n m : ℕ) → m ≡ expiringSet s → k ≡ start s .keys
+    → record { pool = 0; block = 0; confirmed = 0; expiring = m; mined = 0; shared = 0; keys = k } ≡ viewBelow s n (start s)
 unfolding viewBelow
 start-seen s k n m e f =
     let a = none-set n (inPool (start s)) (λ t l. none-pooled s t) in

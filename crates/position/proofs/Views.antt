@@ -6,15 +6,15 @@ use native.Mathlib.Numerals.{add-one}
 use Rattle.laws.specs.Mask.{unionBelow}
 use Rattle.laws.specs.Sets.{setBelow}
 use Rattle.slots.specs.declared.Slot.{Slot}
-use Rattle.slots.specs.Forms.Limited.{limitedSet}
+use Rattle.slots.specs.Forms.Expiring.{expiringSet}
 use Rattle.position.specs.declared.Position.{Position}
 use Rattle.steps.specs.declared.View.{View}
 use Rattle.position.specs.Position.{slot, inPool, inBlock, blockOf, isConfirmed}
 use Rattle.steps.specs.Forms.View.{viewWith}
 use Rattle.position.specs.Forms.View.{viewBelow}
 
-pub view-start : (s : List ℕ) (p : Position) (m : ℕ) → m ≡ limitedSet s
-    → record { pool = 0; block = 0; confirmed = 0; limited = m; mined = p .mined; shared = 0; keys = p .keys } ≡ viewBelow s 0 p
+pub view-start : (s : List ℕ) (p : Position) (m : ℕ) → m ≡ expiringSet s
+    → record { pool = 0; block = 0; confirmed = 0; expiring = m; mined = p .mined; shared = 0; keys = p .keys } ≡ viewBelow s 0 p
 unfolding viewBelow setBelow unionBelow
 view-start s p m e = rw e
 

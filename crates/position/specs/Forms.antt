@@ -1,6 +1,6 @@
 pub mod View
 pub mod Owed
 pub mod FirstShares
-pub mod Outlook
+pub mod Guards
 pub mod Journal
 pub mod Seen

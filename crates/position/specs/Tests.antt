@@ -41,10 +41,10 @@ giveTests allowed p party i receiver = (stepConduct, allowed && giveMet p party 
 -- what kinds 3 and 4 share, against a set of transactions: "no rival .., parent there, signatures, lock height ≤ blocks mined";
 -- Slip 3: "The lock is now tested first.", before the signatures
 unfoldable pub sendTests : Bool → List ℕ → List ℕ → Position → (ℕ → Bool) → ℕ → ℕ → ℕ → List (ℕ × Bool)
-sendTests allowed s u p there party t destination =
+sendTests allowed s u p members party t destination =
     (stepConduct, allowed)
-    ∷ (stepConflict, noConflict s there t)
-    ∷ (stepParent, hasParent s there t)
+    ∷ (stepConflict, noConflict s members t)
+    ∷ (stepParent, hasParent s members t)
     ∷ (stepLock, leb (lockHeightIn s u p t) (p .mined))
     ∷ (stepSignatures, signed s (senderHas s p party t destination) t)
     ∷ []

@@ -20,14 +20,14 @@ impl Position {
     {
         let entering = bumped::entering(sheet, view, t);
         let leaving = bumped::displaced(sheet, view, entering);
-        let there = view.pool | view.block;
+        let members = view.pool | view.block;
         let n = sheet::field::count(sheet);
-        let mut k = next::next(there, 0, n);
+        let mut k = next::next(members, 0, n);
         while k < n {
             let x = self.slots[k];
             let y = bumped::bumped_slot(sheet, entering, leaving, k, x);
             self.slots[k] = y;
-            k = next::next(there, k + 1, n);
+            k = next::next(members, k + 1, n);
         }
         self
     }

@@ -6,7 +6,7 @@ use slots::lock_height;
 use slots::next;
 use slots::party;
 use slots::signatures;
-use steps::Outlook;
+use steps::Guards;
 use steps::View;
 use steps::conduct;
 use steps::names::LOCK_A;
@@ -33,7 +33,7 @@ ghost use Rattle.position.specs.Position.{slot};
 ghost use Rattle.position.specs.FirstShares.{firstSharesMade};
 ghost use Rattle.position.specs.Forms.FirstShares.{firstSet, isEarly};
 ghost use Rattle.position.specs.Conduct.{isOpen, isCareful, phase, late, mayShare, mayGive, canPay, sendAllowed};
-ghost use Rattle.position.specs.Forms.Outlook.{outlook, sendOutlook};
+ghost use Rattle.position.specs.Forms.Guards.{guards, sendGuards};
 ghost use Rattle.position.specs.Forms.View.{viewBelow};
 
 // Whether a transaction is in the pool or confirmed.
@@ -139,14 +139,14 @@ impl Position {
     }
 
     // What conduct reads off the position.
-    pub fn outlook(self, sheet: &[u8], setup: &[u8], view: View) -> Outlook
+    pub fn guards(self, sheet: &[u8], setup: &[u8], view: View) -> Guards
         requires { ⌜ Fit (now sheet) (now setup) ⌝ }
         requires { ⌜ view ≡ viewBelow (now sheet) (count (now sheet)) self ⌝ }
-        ensures { λ r. ⌜ r ≡ outlook (now (sheet .entry)) (now (setup .entry)) self ⌝ }
+        ensures { λ r. ⌜ r ≡ guards (now (sheet .entry)) (now (setup .entry)) self ⌝ }
     {
         let way = sheet::setup::conduct(setup);
         if way == OPEN {
-            return Outlook {
+            return Guards {
                 free: true,
                 careful: false,
                 phase: 0,
@@ -154,12 +154,12 @@ impl Position {
                 refund: false,
                 unshared: false,
                 knows: false,
-                bobhas: 0,
+                bob_has: 0,
             };
         }
         let success = self.slots[SUCCESS];
         let refund = self.slots[REFUND_1];
-        Outlook {
+        Guards {
             free: false,
             careful: way == CAREFUL,
             phase: self.phase(),
@@ -167,18 +167,18 @@ impl Position {
             refund: is_sent(refund),
             unshared: success.contract == 0,
             knows: signatures::has(self.keys(0), SECRET_BOB),
-            bobhas: view.sender(sheet, success, 1, CONTRACT),
+            bob_has: view.sender(sheet, success, 1, CONTRACT),
         }
     }
 
     // What of it sends ask for.
-    fn send_outlook(self, setup: &[u8]) -> Outlook
+    fn send_guards(self, setup: &[u8]) -> Guards
         requires { ⌜ length (now setup) ≡ 4 ⌝ }
-        ensures { λ r. ⌜ r ≡ sendOutlook (now (setup .entry)) self ⌝ }
+        ensures { λ r. ⌜ r ≡ sendGuards (now (setup .entry)) self ⌝ }
     {
         let way = sheet::setup::conduct(setup);
         let success = self.slots[SUCCESS];
-        Outlook {
+        Guards {
             free: way == OPEN,
             careful: way == CAREFUL,
             phase: self.phase(),
@@ -186,7 +186,7 @@ impl Position {
             refund: false,
             unshared: success.contract == 0,
             knows: signatures::has(self.keys(0), SECRET_BOB),
-            bobhas: 0,
+            bob_has: 0,
         }
     }
 
@@ -196,7 +196,7 @@ impl Position {
         requires { ⌜ view ≡ viewBelow (now sheet) (count (now sheet)) self ⌝ }
         ensures { λ r. ⌜ r ≡ canPay (now (sheet .entry)) (now (setup .entry)) self party ⌝ }
     {
-        let o = self.send_outlook(setup);
+        let o = self.send_guards(setup);
         let n = sheet::field::count(sheet);
         let mut t: usize = 0;
         while t < n {
@@ -218,7 +218,7 @@ impl Position {
         requires { ⌜ t < count (now sheet) ⌝ }
         ensures { λ r. ⌜ r ≡ sendAllowed (now (sheet .entry)) (now (setup .entry)) self party t ⌝ }
     {
-        let o = self.send_outlook(setup);
+        let o = self.send_guards(setup);
         o.send_allowed(sheet, party, t)
     }
 
@@ -228,7 +228,7 @@ impl Position {
         requires { ⌜ view ≡ viewBelow (now sheet) (count (now sheet)) self ⌝ }
         ensures { λ r. ⌜ r ≡ (isOpen (now (setup .entry)) || mayShare (now (sheet .entry)) (now (setup .entry)) self party t) ⌝ }
     {
-        let o = self.outlook(sheet, setup, view);
+        let o = self.guards(sheet, setup, view);
         o.share_allowed(party, t)
     }
 
@@ -262,7 +262,7 @@ impl Position {
         requires { ⌜ view ≡ viewBelow (now sheet) (count (now sheet)) self ⌝ }
         ensures { λ r. ⌜ r ≡ (isOpen (now (setup .entry)) || mayGive (now (sheet .entry)) (now (setup .entry)) self party i) ⌝ }
     {
-        let o = self.outlook(sheet, setup, view);
+        let o = self.guards(sheet, setup, view);
         o.give_allowed(party, i)
     }
 }

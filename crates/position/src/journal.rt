@@ -1,7 +1,7 @@
 // The position that a journal starts from, and its view.
 use crate::Position;
 use slots::Slot;
-use slots::limited;
+use slots::expiring;
 use steps::View;
 ghost use mathlib.Core.Path.{_≡_};
 ghost use Rattle.sheet.specs.Field.{count};
@@ -17,9 +17,9 @@ pub fn start(sheet: &[u8]) -> Position
         pool: 0,
         block: 0,
         confirmed: 0,
-        madea: 0,
-        madeb: 0,
-        madec: 0,
+        alice_made: 0,
+        bob_made: 0,
+        carol_made: 0,
         alice: 0,
         bob: 0,
         carol: 0,
@@ -47,7 +47,7 @@ pub fn start_view(sheet: &[u8]) -> View
         pool: 0,
         block: 0,
         confirmed: 0,
-        limited: limited::limited(sheet),
+        expiring: expiring::expiring(sheet),
         mined: 0,
         shared: 0,
         keys,

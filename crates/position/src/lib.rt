@@ -17,7 +17,7 @@ pub mod seen;
 pub mod step;
 
 use slots::Slot;
-use slots::limited;
+use slots::expiring;
 use steps::View;
 
 // "A position holds, for each of 32 transactions, its pool entry, block entry, confirmation and shared knowledge; beside these the
@@ -49,13 +49,13 @@ impl Position {
         ensures { λ r. ⌜ r ≡ viewBelow (now (sheet .entry)) (count (now (sheet .entry))) self ⌝ }
     {
         let n = sheet::field::count(sheet);
-        let limited = limited::limited(sheet);
+        let expiring = expiring::expiring(sheet);
         let keys = self.keys;
         let mut v = View {
             pool: 0,
             block: 0,
             confirmed: 0,
-            limited,
+            expiring,
             mined: self.mined,
             shared: 0,
             keys,

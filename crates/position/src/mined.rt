@@ -18,16 +18,16 @@ impl Position {
         requires { ⌜ self .mined < 10000 ⌝ }
         ensures { λ r. ⌜ r ≡ afterMine (now (sheet .entry)) self ⌝ }
     {
-        let leaving = mined::struck(sheet, view);
+        let leaving = mined::conflicted(sheet, view);
         let block = self.mined + 1;
-        let there = mined::touched(view, leaving);
+        let members = mined::affected(view, leaving);
         let n = sheet::field::count(sheet);
-        let mut t = next::next(there, 0, n);
+        let mut t = next::next(members, 0, n);
         while t < n {
             let x = self.slots[t];
             let y = mined::mined_slot(sheet, block, view.block, leaving, t, x);
             self.slots[t] = y;
-            t = next::next(there, t + 1, n);
+            t = next::next(members, t + 1, n);
         }
         self.mined = block;
         self

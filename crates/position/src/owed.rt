@@ -52,7 +52,7 @@ impl Position {
         requires { ⌜ view ≡ viewBelow (now sheet) (count (now sheet)) self ⌝ }
         ensures { λ r. ⌜ r ≡ anyOwed (now (sheet .entry)) (now (setup .entry)) self ⌝ }
     {
-        let among = view.pool & !view.block & view.limited;
+        let among = view.pool & !view.block & view.expiring;
         if among == 0 {
             return false;
         }

@@ -9,7 +9,7 @@ ghost use mathlib.Core.Path.{_≡_};
 ghost use Rattle.laws.specs.Mask.{bit};
 ghost use Rattle.sheet.specs.Field.{count, Sized};
 ghost use Rattle.sheet.specs.Checked.{Checked};
-ghost use Rattle.position.specs.Forms.Seen.{changedSet, narrowedSet, lowest, viewKept, viewJoined};
+ghost use Rattle.position.specs.Forms.Seen.{changedSet, refinedSet, lowest, viewKept, viewJoined};
 
 // The slots that an accepted step of this kind and transaction byte may have changed: none by a gift and an empty block; by a block with
 // entries and a bump those of what was in the pool or in the block; by the first shares those of either party.
@@ -35,14 +35,14 @@ pub fn changed_set(view: View, kind: u8, t: u8) -> u32
 }
 
 // Of these, those that a mined block may have changed, or all.
-pub fn narrowed(sheet: &[u8], view: View, kind: u8, there: u32) -> u32
+pub fn refined(sheet: &[u8], view: View, kind: u8, members: u32) -> u32
     requires { ⌜ Checked (now sheet) ⌝ }
-    ensures { λ r. ⌜ r ≡ narrowedSet (now (sheet .entry)) view kind there ⌝ }
+    ensures { λ r. ⌜ r ≡ refinedSet (now (sheet .entry)) view kind members ⌝ }
 {
     if kind == 6 {
-        return mined::touched(view, mined::struck(sheet, view));
+        return mined::affected(view, mined::conflicted(sheet, view));
     }
-    there
+    members
 }
 
 // The least member of a set, 0 where it has none.
@@ -58,27 +58,27 @@ pub fn lowest(set: u32) -> usize
 
 impl Position {
     // What a view keeps over a step to this position, with the members of a set outside which no slot changed.
-    pub fn view_over(self, sheet: &[u8], view: View, there: u32) -> View
+    pub fn view_over(self, sheet: &[u8], view: View, members: u32) -> View
         requires { ⌜ Sized (now sheet) ⌝ }
-        ensures { λ r. ⌜ r ≡ viewJoined (count (now (sheet .entry))) (bit there) self (viewKept view there self) ⌝ }
+        ensures { λ r. ⌜ r ≡ viewJoined (count (now (sheet .entry))) (bit members) self (viewKept view members self) ⌝ }
     {
         let n = sheet::field::count(sheet);
         let keys = self.keys;
         let mut v = View {
-            pool: view.pool & !there,
-            block: view.block & !there,
+            pool: view.pool & !members,
+            block: view.block & !members,
             confirmed: view.confirmed,
-            limited: view.limited,
+            expiring: view.expiring,
             mined: self.mined,
             shared: view.shared,
             keys,
         };
-        let mut k = next::next(there, 0, n);
+        let mut k = next::next(members, 0, n);
         while k < n {
             let x = self.slots[k];
             let w = v.add(k, x);
             v = w;
-            k = next::next(there, k + 1, n);
+            k = next::next(members, k + 1, n);
         }
         v
     }

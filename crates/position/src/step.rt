@@ -146,8 +146,8 @@ impl Position {
         let destination = party::destination_number(to);
         let k = sheet::field::wide(t);
         let may = sheet::setup::conduct(setup) == 0 || self.may_send(sheet, setup, party, k);
-        let back = pays_first(sheet, setup, k) && self.can_pay(sheet, setup, view, party);
-        let allowed = may & !back;
+        let paying = pays_first(sheet, setup, k) && self.can_pay(sheet, setup, view, party);
+        let allowed = may & !paying;
         let up = parent::slot_above(sheet, k);
         let above = self.slots[up];
         let since = parent::block_above(sheet, k, above.height);
@@ -190,8 +190,8 @@ impl Position {
         let destination = party::destination_number(to);
         let k = sheet::field::wide(t);
         let may = sheet::setup::conduct(setup) == 0 || self.may_send(sheet, setup, party, k);
-        let back = pays_first(sheet, setup, k) && self.can_pay(sheet, setup, view, party);
-        let allowed = may & !back;
+        let paying = pays_first(sheet, setup, k) && self.can_pay(sheet, setup, view, party);
+        let allowed = may & !paying;
         let up = parent::slot_above(sheet, k);
         let above = self.slots[up];
         let since = parent::block_above(sheet, k, above.height);

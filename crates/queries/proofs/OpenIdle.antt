@@ -12,23 +12,23 @@ use Rattle.sheet.specs.Field.{count, signatures}
 use Rattle.sheet.specs.Setup.{stealth}
 use Rattle.sheet.specs.Checked.{Fit}
 use Rattle.slots.specs.Destination.{alice, bob, miner, destinations, isParty}
-use Rattle.steps.specs.declared.Outlook.{Outlook}
+use Rattle.steps.specs.declared.Guards.{Guards}
 use Rattle.steps.specs.declared.View.{View}
 use Rattle.steps.specs.Forms.Conduct.{aliceGivesIn, bobGivesIn, giveAllowedIn, conductTests}
-use Rattle.readings.specs.Forms.Sight.{partyMay, mayStand, goesFor, goesOf, sharers, senders, turnsIn, candidatesIn, givesIn}
+use Rattle.readings.specs.Forms.Context.{partyMay, mayStand, destinationSets, destinationSet, sharers, senders, turnsIn, candidatesIn, givesIn}
 use Rattle.position.specs.declared.Position.{Position}
-use Rattle.position.specs.Forms.Outlook.{outlook}
+use Rattle.position.specs.Forms.Guards.{guards}
 use Rattle.position.specs.Forms.View.{viewBelow}
-use Rattle.queries.specs.Forms.OpenSets.{openSet, belowSets, isIdle, sightOf}
+use Rattle.queries.specs.Forms.OpenSets.{openSet, belowSets, isIdle, contextOf}
 use Rattle.queries.proofs.OpenListed.{give-stands}
 use Rattle.queries.proofs.OpenReach.{set-upto, set-none, set-sheet, set-given}
 use Rattle.queries.proofs.OpenTurns.{first-turn, none-next}
 
-module _ (s u : List ℕ) (p : Position) (actor : ℕ) (fit : Fit s u) (v : View) (o : Outlook) (seen : v ≡ viewBelow s (count s) p) (read : o ≡ outlook s u p)
+module _ (s u : List ℕ) (p : Position) (actor : ℕ) (fit : Fit s u) (v : View) (o : Guards) (seen : v ≡ viewBelow s (count s) p) (read : o ≡ guards s u p)
     (b : Bool) (asked : b ≡ isIdle s v o actor) (idle : b ≡ true)
   where
     -- a party in phase 0
-    party-idle : isParty s actor ≡ true → (outlook s u p .free ≡ false) × (outlook s u p .phase ≡ 0)
+    party-idle : isParty s actor ≡ true → (guards s u p .free ≡ false) × (guards s u p .phase ≡ 0)
     unfolding isIdle
     party-idle h =
         let w = and-parts (not (o .free)) _ (rw h at (sym asked ∙ idle)) in
@@ -39,28 +39,28 @@ module _ (s u : List ℕ) (p : Position) (actor : ℕ) (fit : Fit s u) (v : View
     unfolding isIdle
     other-idle h = rw (← seen) (eqb-true (v .pool) 0 (rw h at (sym asked ∙ idle)))
 
-    none-tested : (k d : ℕ) → mayStand s k actor d ≡ true → (k ≡ 2 → ⊥) → candidatesIn u (sightOf s u p actor) (goesFor s actor) k actor d ≡ 0
-    unfolding candidatesIn turnsIn sharers senders mayStand partyMay sightOf
+    none-tested : (k d : ℕ) → mayStand s k actor d ≡ true → (k ≡ 2 → ⊥) → candidatesIn u (contextOf s u p actor) (destinationSets s actor) k actor d ≡ 0
+    unfolding candidatesIn turnsIn sharers senders mayStand partyMay contextOf
     none-tested k d m other =
         split (isParty s actor)
         (λ h.
         let w = party-idle h in
         split (eqb k 1)
-        (λ e. rw (eqb-true k 1 e, w .0, w .1) (and-zero-r (goesOf (goesFor s actor) d)))
+        (λ e. rw (eqb-true k 1 e, w .0, w .1) (and-zero-r (destinationSet (destinationSets s actor) d)))
         (λ e.
         either (or-parts (eqb k 3) (eqb k 4) (and-parts (eqb k 3 || eqb k 4) _ (rw (h, e, ne-eqb k 2 other) at m) .0))
-        (λ f. rw (eqb-true k 3 f, w .0, w .1) (and-zero-r (goesOf (goesFor s actor) d)))
+        (λ f. rw (eqb-true k 3 f, w .0, w .1) (and-zero-r (destinationSet (destinationSets s actor) d)))
         (λ f.
         split (eqb (stealth u) 1)
-        (λ y. rw (eqb-true k 4 f, y, w .0, w .1) (and-zero-r (goesOf (goesFor s actor) d)))
-        (λ y. rw (eqb-true k 4 f, y) (and-zero-r (goesOf (goesFor s actor) d))))))
+        (λ y. rw (eqb-true k 4 f, y, w .0, w .1) (and-zero-r (destinationSet (destinationSets s actor) d)))
+        (λ y. rw (eqb-true k 4 f, y) (and-zero-r (destinationSet (destinationSets s actor) d))))))
         (λ h.
         either (or-parts (eqb k 5) (eqb k 7) (and-parts (eqb k 5 || eqb k 7) _ (and-parts (eqb actor miner) _ (rw h at m) .1) .0))
         (λ f. rw (eqb-true k 5 f, other-idle h))
         (λ f. rw (eqb-true k 7 f, other-idle h)))
 
-    none-given : (i d : ℕ) → isParty s actor ≡ true → givesIn (sightOf s u p actor) actor i d ≡ false
-    unfolding givesIn giveAllowedIn aliceGivesIn bobGivesIn conductTests firstFailing sightOf
+    none-given : (i d : ℕ) → isParty s actor ≡ true → givesIn (contextOf s u p actor) actor i d ≡ false
+    unfolding givesIn giveAllowedIn aliceGivesIn bobGivesIn conductTests firstFailing contextOf
     none-given i d h = let w = party-idle h in rw (w .0, w .1, and-false (eqb actor alice), and-false (eqb actor bob))
 
     set-empty : (k d : ℕ) → d < destinations → openSet s u p actor k d ≡ 0
@@ -72,13 +72,13 @@ module _ (s u : List ℕ) (p : Position) (actor : ℕ) (fit : Fit s u) (v : View
         let two = eqb-true k 2 e in
         let party = give-stands s actor d (rw two at m) .0 in
         sym
-        (set-given s u p actor k d 0 true (sightOf s u p actor) fit (fit .checked .signatures-few) refl (sym m) refl l two
+        (set-given s u p actor k d 0 true (contextOf s u p actor) fit (fit .checked .signatures-few) refl (sym m) refl l two
         (set-start _ ∙ sym (set-upto (signatures s) 0 _ (omega arith) (λ i a c. none-given i d party)))))
         (λ e.
         let other = eqb-false k 2 e in
         sym
         (set-sheet s u p actor k d 0 (fit .checked .sized .few) other
-        (first-turn s u p k actor d fit l m other _ (count s) (sightOf s u p actor) (goesFor s actor) refl refl refl refl (count s)
+        (first-turn s u p k actor d fit l m other _ (count s) (contextOf s u p actor) (destinationSets s actor) refl refl refl refl (count s)
         (none-next _ (count s) (none-tested k d m other))))))
         (λ m. sym (set-none s u p actor k d false (sym m) refl))
 

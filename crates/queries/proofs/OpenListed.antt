@@ -16,12 +16,12 @@ use Rattle.slots.specs.declared.Step.the-variants.{Share, Give, SendToPool, Han
 use Rattle.slots.specs.Destination.{miner, contract, destinations, destinationNumber, isParty, isPayee, isContract}
 use Rattle.steps.specs.declared.Decoded.the-variants.{Read}
 use Rattle.steps.specs.Decode.{noTransaction, sendsTo, sharesTo, isOther, firstShareFields, fieldsRight, ofKind, spelled, rangeChecked, decode}
-use Rattle.readings.specs.declared.Sight.{Sight}
-use Rattle.readings.specs.Forms.Sight.{shareNewIn, refusalIn, isOpenIn, partyMay, mayStand, goesTo, refusalAs, givesIn}
+use Rattle.readings.specs.declared.Context.{Context}
+use Rattle.readings.specs.Forms.Context.{shareNewIn, refusalIn, isOpenIn, partyMay, mayStand, goesTo, refusalAs, givesIn}
 use Rattle.position.specs.declared.Position.{Position}
 use Rattle.position.specs.Position.{slot, blockOf}
 use Rattle.sheet.specs.Checked.{Fit}
-use Rattle.queries.specs.Forms.OpenSets.{isOpenStep, sightOf}
+use Rattle.queries.specs.Forms.OpenSets.{isOpenStep, contextOf}
 use Rattle.queries.proofs.OpenSteps.{open-seen}
 
 -- ---- where a transaction may go
@@ -80,20 +80,20 @@ module _ (s u : List ℕ) (p : Position) (fit : Fit s u) (a t : ℕ) (x : Slot) 
   spelled-to k Contract = refl
   spelled-to k Carol = refl
 
-  checked-open : (g : Sight) (y : Step) → isOpenIn s u g x since (rangeChecked s u (Read y)) ≡ (fieldsRight s u y && eqb (refusalIn s u g x since y) accepted)
+  checked-open : (g : Context) (y : Step) → isOpenIn s u g x since (rangeChecked s u (Read y)) ≡ (fieldsRight s u y && eqb (refusalIn s u g x since y) accepted)
   unfolding rangeChecked isOpenIn
   checked-open g y = split (fieldsRight s u y) (λ e. rw e) (λ e. rw e)
 
   pub kind-open : (k : ℕ) (to : Destination) (y : Step) → ((k ≡ 2 → ⊥) → t < count s → (x ≡ slot p t) × (since ≡ blockOf p (parent s t)))
       → ofKind k a t to ≡ Read y
-      → isOpenStep s u p k a t (destinationNumber to) ≡ (fieldsRight s u y && eqb (refusalIn s u (sightOf s u p a) x since y) accepted)
+      → isOpenStep s u p k a t (destinationNumber to) ≡ (fieldsRight s u y && eqb (refusalIn s u (contextOf s u p a) x since y) accepted)
   unfolding decode
   kind-open k to y place e =
       sym (open-seen s u p fit k a t (destinationNumber to) x since place)
-      ∙ rw (spelled-to k to, e) (checked-open (sightOf s u p a) y)
+      ∙ rw (spelled-to k to, e) (checked-open (contextOf s u p a) y)
 
   -- kind 2
-  pub give-open : (d : ℕ) → d < destinations → isParty s a ≡ true → isOther s a d ≡ true → t < signatures s → isOpenStep s u p 2 a t d ≡ givesIn (sightOf s u p a) a t d
+  pub give-open : (d : ℕ) → d < destinations → isParty s a ≡ true → isOther s a d ≡ true → t < signatures s → isOpenStep s u p 2 a t d ≡ givesIn (contextOf s u p a) a t d
   unfolding givesIn refusalIn fieldsRight ofKind
   give-open d l h o i =
       let w = destination-at d l in
@@ -105,7 +105,7 @@ module _ (s u : List ℕ) (p : Position) (fit : Fit s u) (a t : ℕ) (x : Slot) 
     not-last : eqb t noTransaction ≡ false
     not-last = ne-eqb t noTransaction (λ e. omega (arith, e, low, fit .checked .sized .few))
 
-    share-open : (d : ℕ) → d < destinations → isParty s a ≡ true → isOpenStep s u p 1 a t d ≡ (goesTo s t d && eqb (refusalAs s u (sightOf s u p a) x since 1 a t d) accepted)
+    share-open : (d : ℕ) → d < destinations → isParty s a ≡ true → isOpenStep s u p 1 a t d ≡ (goesTo s t d && eqb (refusalAs s u (contextOf s u p a) x since 1 a t d) accepted)
     unfolding refusalAs refusalIn shareNewIn fieldsRight firstShareFields ofKind
     share-open d l h =
         let w = destination-at d l in
@@ -114,14 +114,14 @@ module _ (s u : List ℕ) (p : Position) (fit : Fit s u) (a t : ℕ) (x : Slot) 
         at (kind-open 1 (w .0) (Share a t (w .0)) (λ r. place) refl)
 
     module _ (d : ℕ) (l : d < destinations) (h : isParty s a ≡ true) (o : (eqb d contract || eqb d a) ≡ true) where
-      pool-open : isOpenStep s u p 3 a t d ≡ (goesTo s t d && eqb (refusalAs s u (sightOf s u p a) x since 3 a t d) accepted)
+      pool-open : isOpenStep s u p 3 a t d ≡ (goesTo s t d && eqb (refusalAs s u (contextOf s u p a) x since 3 a t d) accepted)
       unfolding refusalAs refusalIn fieldsRight ofKind
       pool-open =
           let w = destination-at d l in
           let q : destinationNumber (w .0) ≡ d = w .1 in
           rw (q, h, lt-ltb t (count s) low, sends-goes s t d a h o) at (kind-open 3 (w .0) (SendToPool a t (w .0)) (λ r. place) refl)
 
-      miner-open : isOpenStep s u p 4 a t d ≡ (goesTo s t d && eqb (refusalAs s u (sightOf s u p a) x since 4 a t d) accepted)
+      miner-open : isOpenStep s u p 4 a t d ≡ (goesTo s t d && eqb (refusalAs s u (contextOf s u p a) x since 4 a t d) accepted)
       unfolding refusalAs refusalIn fieldsRight ofKind
       miner-open =
           let w = destination-at d l in
@@ -129,17 +129,17 @@ module _ (s u : List ℕ) (p : Position) (fit : Fit s u) (a t : ℕ) (x : Slot) 
           rw (q, h, lt-ltb t (count s) low, sends-goes s t d a h o) at (kind-open 4 (w .0) (HandToMiner a t (w .0)) (λ r. place) refl)
 
     module _ (h : eqb a miner ≡ true) where
-      include-open : isOpenStep s u p 5 a t 2 ≡ eqb (refusalAs s u (sightOf s u p a) x since 5 a t 2) accepted
+      include-open : isOpenStep s u p 5 a t 2 ≡ eqb (refusalAs s u (contextOf s u p a) x since 5 a t 2) accepted
       unfolding refusalAs refusalIn fieldsRight ofKind destinationNumber
       include-open = rw (h, lt-ltb t (count s) low) at (kind-open 5 Contract (Include a t Contract) (λ r. place) refl)
 
-      bump-open : isOpenStep s u p 7 a t 2 ≡ eqb (refusalAs s u (sightOf s u p a) x since 7 a t 2) accepted
+      bump-open : isOpenStep s u p 7 a t 2 ≡ eqb (refusalAs s u (contextOf s u p a) x since 7 a t 2) accepted
       unfolding refusalAs refusalIn fieldsRight ofKind destinationNumber
       bump-open = rw (h, lt-ltb t (count s) low) at (kind-open 7 Contract (Bump a t Contract) (λ r. place) refl)
 
     -- where some step of the kind may stand
     pub listed-open : (k d : ℕ) → d < destinations → mayStand s k a d ≡ true → (k ≡ 2 → ⊥)
-        → isOpenStep s u p k a t d ≡ ((leb 5 k || goesTo s t d) && eqb (refusalAs s u (sightOf s u p a) x since k a t d) accepted)
+        → isOpenStep s u p k a t d ≡ ((leb 5 k || goesTo s t d) && eqb (refusalAs s u (contextOf s u p a) x since k a t d) accepted)
     unfolding mayStand partyMay
     listed-open k d l m other =
         split (isParty s a)

@@ -17,15 +17,15 @@ use Rattle.slots.specs.Slot.{emptySlot}
 use Rattle.slots.specs.Destination.{miner, contract, destinations, destinationNumber, isParty, isContract}
 use Rattle.steps.specs.declared.Decoded.{Decoded}
 use Rattle.steps.specs.declared.Decoded.the-variants.{Read, Refused}
-use Rattle.readings.specs.declared.Sight.{Sight}
+use Rattle.readings.specs.declared.Context.{Context}
 use Rattle.steps.specs.Decode.{noTransaction, sendsTo, sharesTo, firstShareFields, fieldsRight, ofKind, decode, stepBytes}
-use Rattle.readings.specs.Forms.Sight.{shareNewIn, refusalIn, partyMay, mayStand, limit, givesIn, sharesFirst, minesIn, lastIn}
+use Rattle.readings.specs.Forms.Context.{shareNewIn, refusalIn, partyMay, mayStand, limit, givesIn, sharesFirst, minesIn, lastIn}
 use Rattle.steps.proofs.RightFields.{share-listed, give-listed, pool-listed, miner-listed, include-listed, bump-listed}
 use Rattle.output.specs.Forms.Emitted.{places}
 use Rattle.position.specs.declared.Position.{Position}
 use Rattle.position.specs.Position.{slotCount, slot, blockOf}
 use Rattle.sheet.specs.Checked.{Fit}
-use Rattle.queries.specs.Forms.OpenSets.{isOpenRead, isOpenStep, openSet, belowSets, lastSet, openSets, sightOf}
+use Rattle.queries.specs.Forms.OpenSets.{isOpenRead, isOpenStep, openSet, belowSets, lastSet, openSets, contextOf}
 use Rattle.position.proofs.Decoding.{decodes}
 use Rattle.queries.proofs.OpenListed.{kind-open, give-open, give-stands}
 
@@ -137,9 +137,9 @@ module _ (s u : List ℕ) (p : Position) (actor kind d : ℕ) where
       (λ t l m. out-closed s u kind actor t d m p (rw (sym e ∙ not-true r h))))
 
   -- all below the limit
-  set-limited : limit s kind ≤ 32 → setBelow (limit s kind) (λ t. isOpenStep s u p kind actor t d) ≡ openSet s u p actor kind d
+  set-expiring : limit s kind ≤ 32 → setBelow (limit s kind) (λ t. isOpenStep s u p kind actor t d) ≡ openSet s u p actor kind d
   unfolding openSet
-  set-limited few =
+  set-expiring few =
       sym
       (set-upto slotCount (limit s kind) (λ t. isOpenStep s u p kind actor t d) few
       (λ t l m. out-closed s u kind actor t d m p (rw (le-ltb t (limit s kind) l) (and-false (mayStand s kind actor d)))))
@@ -148,18 +148,18 @@ module _ (s u : List ℕ) (p : Position) (actor kind d : ℕ) where
   unfolding limit
   set-sheet r few other h =
       let n : limit s kind ≡ count s = rw (ne-eqb kind 2 other) in
-      h ∙ rw n at (set-limited (omega (arith, n, few)))
+      h ∙ rw n at (set-expiring (omega (arith, n, few)))
 
-  pub set-given : (r : ℕ) (b : Bool) (g : Sight) → Fit s u → signatures s ≤ 8 → g ≡ sightOf s u p actor → b ≡ mayStand s kind actor d → not b ≡ false → d < destinations
+  pub set-given : (r : ℕ) (b : Bool) (g : Context) → Fit s u → signatures s ≤ 8 → g ≡ contextOf s u p actor → b ≡ mayStand s kind actor d → not b ≡ false → d < destinations
       → kind ≡ 2 → r ≡ setBelow (signatures s) (λ i. givesIn g actor i d) → r ≡ openSet s u p actor kind d
   unfolding limit
   set-given r b g fit few e m f l two h =
       let n : limit s kind ≡ signatures s = rw two in
       let w = give-stands s actor d (rw two at (sym m ∙ not-false b f)) in
       (h ∙ rw e)
-      ∙ set-same (signatures s) (λ i. givesIn (sightOf s u p actor) actor i d) (λ t. isOpenStep s u p kind actor t d)
+      ∙ set-same (signatures s) (λ i. givesIn (contextOf s u p actor) actor i d) (λ t. isOpenStep s u p kind actor t d)
       (λ i j. rw two (sym (give-open s u p fit actor i emptySlot 0 d l (w .0) (w .1) j)))
-      ∙ rw n at (set-limited (omega (arith, n, few)))
+      ∙ rw n at (set-expiring (omega (arith, n, few)))
 
 -- ---- the steps with transaction byte 255
 
@@ -217,19 +217,19 @@ module _ (s u : List ℕ) (p : Position) (fit : Fit s u) (few : signatures s ≤
   no-slot : {k : ℕ} → (k ≡ 2 → ⊥) → noTransaction < count s → (emptySlot ≡ slot p noTransaction) × (0 ≡ blockOf p (parent s noTransaction))
   no-slot z m = absurd (omega (arith, m, fit .checked .sized .few))
 
-  first-open : isParty s actor ≡ true → isOpenStep s u p 1 actor noTransaction 2 ≡ sharesFirst u (sightOf s u p actor) actor
+  first-open : isParty s actor ≡ true → isOpenStep s u p 1 actor noTransaction 2 ≡ sharesFirst u (contextOf s u p actor) actor
   unfolding sharesFirst refusalIn shareNewIn fieldsRight firstShareFields ofKind destinationNumber
   first-open h =
       rw (h, le-ltb noTransaction (count s) (omega (arith, fit .checked .sized .few)), and-true (not (eqb (conduct u) 0)))
       at (kind-open s u p fit actor noTransaction emptySlot 0 1 Contract (Share actor noTransaction Contract) no-slot refl)
 
-  mine-open : isOpenStep s u p 6 actor noTransaction 2 ≡ minesIn (sightOf s u p actor) actor
+  mine-open : isOpenStep s u p 6 actor noTransaction 2 ≡ minesIn (contextOf s u p actor) actor
   unfolding minesIn refusalIn fieldsRight ofKind destinationNumber
   mine-open =
       rw (and-true (eqb actor miner))
       at (kind-open s u p fit actor noTransaction emptySlot 0 6 Contract (Mine actor noTransaction Contract) no-slot refl)
 
-  last-is : lastIn s u (sightOf s u p actor) actor ≡ lastSet s u p actor
+  last-is : lastIn s u (contextOf s u p actor) actor ≡ lastSet s u p actor
   unfolding lastIn lastSet
   last-is =
       split (isParty s actor)
@@ -244,7 +244,7 @@ module _ (s u : List ℕ) (p : Position) (fit : Fit s u) (few : signatures s ≤
       (set-one places 22 (λ i. isOpenStep s u p (i / 4 + 1) actor noTransaction (i % 4)) (omega arith)
       (λ j l z. top-closed s u p fit few (j / 4 + 1) actor (j % 4) (λ g e f. clash g h) (λ g e f. z (place-of j 5 e f))))))
 
-  pub sets-made : (b : List ℕ) (r : ℕ) (g : Sight) → g ≡ sightOf s u p actor → b ≡ belowSets s u p actor → r ≡ lastIn s u g actor
+  pub sets-made : (b : List ℕ) (r : ℕ) (g : Context) → g ≡ contextOf s u p actor → b ≡ belowSets s u p actor → r ≡ lastIn s u g actor
       → record { below = b; last = r } ≡ openSets s u p actor
   unfolding openSets
   sets-made b r g e f h = rw (f, (h ∙ rw e) ∙ last-is)

@@ -15,7 +15,7 @@ use Rattle.sheet.specs.Setup.{perDay, stealth}
 use Rattle.slots.specs.declared.Slot.{Slot}
 use Rattle.slots.specs.Destination.{alice, bob, miner, destinations, isParty}
 use Rattle.slots.specs.Forms.Next.{Next}
-use Rattle.steps.specs.declared.Outlook.{Outlook}
+use Rattle.steps.specs.declared.Guards.{Guards}
 use Rattle.steps.specs.Decode.{noTransaction}
 use Rattle.steps.specs.Forms.Parent.{slotAbove, blockAbove}
 use Rattle.steps.specs.Names.{success}
@@ -26,15 +26,15 @@ use Rattle.slots.specs.Ancestry.{hasParent}
 use Rattle.steps.specs.Forms.View.{placedSet}
 use Rattle.steps.specs.Forms.Sending.{sendTestsIn, poolTestsIn, minerTestsIn}
 use Rattle.steps.specs.Forms.Mining.{owedIn, includeTestsIn, bumpTestsIn}
-use Rattle.readings.specs.declared.Goes.{Goes}
-use Rattle.readings.specs.declared.Sight.{Sight}
-use Rattle.readings.specs.Forms.Sight.{mayStand, goesTo, refusalAs, goesSet, goesFor, goesOf, full, sharers, senders, turnsIn, candidatesIn}
+use Rattle.readings.specs.declared.DestinationSets.{DestinationSets}
+use Rattle.readings.specs.declared.Context.{Context}
+use Rattle.readings.specs.Forms.Context.{mayStand, goesTo, refusalAs, goesSet, destinationSets, destinationSet, full, sharers, senders, turnsIn, candidatesIn}
 use Rattle.position.specs.declared.Position.{Position}
 use Rattle.position.specs.Position.{slot, blockOf}
 use Rattle.position.specs.Forms.View.{sinceIn}
 use Rattle.sheet.specs.Checked.{Fit}
 use Rattle.position.proofs.SendTests.{since-parent}
-use Rattle.queries.specs.Forms.OpenSets.{isOpenStep, sightOf}
+use Rattle.queries.specs.Forms.OpenSets.{isOpenStep, contextOf}
 use Rattle.queries.proofs.OpenListed.{listed-open}
 use Rattle.queries.proofs.OpenReach.{set-upto}
 
@@ -55,7 +55,7 @@ third-fails false b = refl
 
 -- ---- what is not tested fails a test
 module _ (s u : List ℕ) (t : ℕ) (low : t < 32) where
-  not-sharer : (o : Outlook) (a : ℕ) → bit (sharers o a) t ≡ false → shareAllowedIn o a t ≡ false
+  not-sharer : (o : Guards) (a : ℕ) → bit (sharers o a) t ≡ false → shareAllowedIn o a t ≡ false
   unfolding sharers shareAllowedIn aliceSharesIn
   not-sharer o a h =
       let z : eqb t noTransaction ≡ false = ne-eqb t noTransaction (λ e. omega (arith, e, low)) in
@@ -69,9 +69,9 @@ module _ (s u : List ℕ) (t : ℕ) (low : t < 32) where
       (λ q. rw (e, z, f, q)))
       (λ f. rw (e, z, f)))
 
-  not-sender : (o : Outlook) (back : Bool) (a : ℕ) → bit (senders o) t ≡ false → sendHeldIn s o back a t ≡ false
+  not-sender : (o : Guards) (paying : Bool) (a : ℕ) → bit (senders o) t ≡ false → sendHeldIn s o paying a t ≡ false
   unfolding senders sendHeldIn sendAllowedIn maySend
-  not-sender o back a h =
+  not-sender o paying a h =
       split (o .free)
       (λ e. clash (word-bits t low .0) (rw e at h))
       (λ e.
@@ -79,20 +79,20 @@ module _ (s u : List ℕ) (t : ℕ) (low : t < 32) where
       (λ f. let z : o .phase ≡ 0 = eqb-true (o .phase) 0 f in rw (e, z, and-false (eqb a alice), and-false (eqb a bob)))
       (λ f. clash (word-bits t low .0) (rw (e, f) at h)))
 
-  module _ (g : Sight) (x : Slot) (since a d : ℕ) where
-    not-shared : bit (sharers (g .outlook) a) t ≡ false → eqb (refusalAs s u g x since 1 a t d) accepted ≡ false
+  module _ (g : Context) (x : Slot) (since a d : ℕ) where
+    not-shared : bit (sharers (g .guards) a) t ≡ false → eqb (refusalAs s u g x since 1 a t d) accepted ≡ false
     unfolding refusalAs firstFailing conductTests
-    not-shared h = rw (not-sharer (g .outlook) a h)
+    not-shared h = rw (not-sharer (g .guards) a h)
 
-    not-sent : bit (senders (g .outlook)) t ≡ false → eqb (refusalAs s u g x since 3 a t d) accepted ≡ false
+    not-sent : bit (senders (g .guards)) t ≡ false → eqb (refusalAs s u g x since 3 a t d) accepted ≡ false
     unfolding refusalAs firstFailing poolTestsIn sendTestsIn
-    not-sent h = rw (not-sender (g .outlook) (g .back) a h)
+    not-sent h = rw (not-sender (g .guards) (g .paying) a h)
 
-    not-handed : bit (pick (eqb (stealth u) 1) (senders (g .outlook)) 0) t ≡ false → eqb (refusalAs s u g x since 4 a t d) accepted ≡ false
+    not-handed : bit (pick (eqb (stealth u) 1) (senders (g .guards)) 0) t ≡ false → eqb (refusalAs s u g x since 4 a t d) accepted ≡ false
     unfolding refusalAs firstFailing minerTestsIn sendTestsIn
     not-handed h =
         split (eqb (stealth u) 1)
-        (λ e. rw (e, not-sender (g .outlook) (g .back) a (rw e at h)))
+        (λ e. rw (e, not-sender (g .guards) (g .paying) a (rw e at h)))
         (λ e. rw e)
 
     not-included : bit (g .view .pool) t ≡ false → eqb (firstFailing (includeTestsIn s (g .view) (g .owed) t)) accepted ≡ false
@@ -135,33 +135,33 @@ party-of s k a d m h =
     (λ f. let z : eqb k 7 ≡ true = rw f at (v .0) in clash (rw (eqb-true k 7 z) refl) h))
 
 module _ (s u : List ℕ) (p : Position) (k a d : ℕ) (fit : Fit s u) (few : d < destinations) (m : mayStand s k a d ≡ true) (other : k ≡ 2 → ⊥)
-    (c n : ℕ) (g : Sight) (w : Goes) (seen : g ≡ sightOf s u p a) (goes : w ≡ goesFor s a) (tested : c ≡ candidatesIn u g w k a d) (all : n ≡ count s)
+    (c n : ℕ) (g : Context) (w : DestinationSets) (seen : g ≡ contextOf s u p a) (dests : w ≡ destinationSets s a) (tested : c ≡ candidatesIn u g w k a d) (all : n ≡ count s)
   where
     module _ (t : ℕ) (low : t < n) where
       listed : t < count s
       listed = omega (arith, low, all)
 
-      goes-bit : isParty s a ≡ true → bit (goesOf w d) t ≡ goesTo s t d
-      unfolding goesFor goesOf goesSet
+      goes-bit : isParty s a ≡ true → bit (destinationSet w d) t ≡ goesTo s t d
+      unfolding destinationSets destinationSet goesSet
       goes-bit h =
           split (eqb d 0)
-          (λ e. rw (goes, h, eqb-true d 0 e) (set-bit (count s) (λ j. goesTo s j 0) (fit .checked .sized .few) t listed))
+          (λ e. rw (dests, h, eqb-true d 0 e) (set-bit (count s) (λ j. goesTo s j 0) (fit .checked .sized .few) t listed))
           (λ e.
           split (eqb d 1)
-          (λ f. rw (goes, h, eqb-true d 1 f) (set-bit (count s) (λ j. goesTo s j 1) (fit .checked .sized .few) t listed))
+          (λ f. rw (dests, h, eqb-true d 1 f) (set-bit (count s) (λ j. goesTo s j 1) (fit .checked .sized .few) t listed))
           (λ f.
           split (eqb d 3)
-          (λ q. rw (goes, h, eqb-true d 3 q) (set-bit (count s) (λ j. goesTo s j 3) (fit .checked .sized .few) t listed))
+          (λ q. rw (dests, h, eqb-true d 3 q) (set-bit (count s) (λ j. goesTo s j 3) (fit .checked .sized .few) t listed))
           (λ q.
           let z : d ≡ 2 = omega (arith, few, eqb-false d 0 e, eqb-false d 1 f, eqb-false d 3 q) in
-          rw (goes, h, z) (set-bit (count s) (λ j. goesTo s j 2) (fit .checked .sized .few) t listed))))
+          rw (dests, h, z) (set-bit (count s) (λ j. goesTo s j 2) (fit .checked .sized .few) t listed))))
 
       candidate-bit : bit c t ≡ ((leb 5 k || goesTo s t d) && bit (turnsIn u g k a) t)
       unfolding candidatesIn
       candidate-bit =
           split (leb 5 k)
           (λ e. rw (tested, e))
-          (λ e. rw (tested, e) (bit-and (goesOf w d) (turnsIn u g k a) t ∙ rw (goes-bit (party-of s k a d m e))))
+          (λ e. rw (tested, e) (bit-and (destinationSet w d) (turnsIn u g k a) t ∙ rw (goes-bit (party-of s k a d m e))))
 
       pub turn-closed : bit c t ≡ false → isOpenStep s u p k a t d ≡ false
       turn-closed h =
@@ -177,8 +177,8 @@ module _ (s u : List ℕ) (p : Position) (k a d : ℕ) (fit : Fit s u) (few : d 
       unfolding sinceIn
       turn-open h up since b l i j f =
           let e : since ≡ blockOf p (parent s t) = (j ∙ rw i) ∙ since-parent s p l t in
-          let y : b ≡ eqb (refusalAs s u (sightOf s u p a) (slot p t) since k a t d) accepted = f ∙ rw seen in
-          let z : isOpenStep s u p k a t d ≡ eqb (refusalAs s u (sightOf s u p a) (slot p t) since k a t d) accepted =
+          let y : b ≡ eqb (refusalAs s u (contextOf s u p a) (slot p t) since k a t d) accepted = f ∙ rw seen in
+          let z : isOpenStep s u p k a t d ≡ eqb (refusalAs s u (contextOf s u p a) (slot p t) since k a t d) accepted =
           listed-open s u p fit a t (slot p t) since (λ q. (refl, e)) listed k d few m other
           ∙ rw (and-parts (leb 5 k || goesTo s t d) (bit (turnsIn u g k a) t) (sym candidate-bit ∙ h) .0) in
           y ∙ sym z

@@ -1,12 +1,12 @@
 // The open steps of an actor, as sets.
 use crate::OpenSets;
 use position::Position;
-use readings::Goes;
-use readings::Sight;
+use readings::Context;
+use readings::DestinationSets;
 use readings::open;
 use sheet::set;
 use slots::next;
-use steps::Outlook;
+use steps::Guards;
 use steps::View;
 use steps::parent;
 ghost use Prim.Native.Nat.{_<_};
@@ -15,25 +15,25 @@ ghost use mathlib.Core.Bool.{true};
 ghost use Rattle.laws.specs.Sets.{setBelow};
 ghost use Rattle.sheet.specs.Field.{count, Sized};
 ghost use Rattle.sheet.specs.Checked.{Fit};
-ghost use Rattle.readings.specs.Forms.Sight.{mayStand, goesFor};
+ghost use Rattle.readings.specs.Forms.Context.{mayStand, destinationSets};
 ghost use Rattle.position.specs.Owed.{anyOwed};
-ghost use Rattle.position.specs.Forms.Outlook.{outlook};
+ghost use Rattle.position.specs.Forms.Guards.{guards};
 ghost use Rattle.position.specs.Forms.View.{viewBelow};
-ghost use Rattle.queries.specs.Forms.OpenSets.{isOpenStep, openSet, belowSets, openSets, isIdle, keptBack, sightOf};
+ghost use Rattle.queries.specs.Forms.OpenSets.{isOpenStep, openSet, belowSets, openSets, isIdle, isPaying, contextOf};
 
 // Whether the actor is a careful party that can send a transaction that pays it. In phase 0 nobody sends.
-fn kept_back(
+fn is_paying(
     position: Position,
     sheet: &[u8],
     setup: &[u8],
     view: View,
-    o: Outlook,
+    o: Guards,
     actor: u8,
 ) -> bool
     requires { ⌜ Fit (now sheet) (now setup) ⌝ }
     requires { ⌜ view ≡ viewBelow (now sheet) (count (now sheet)) position ⌝ }
-    requires { ⌜ o ≡ outlook (now sheet) (now setup) position ⌝ }
-    ensures { λ r. ⌜ r ≡ keptBack (now (sheet .entry)) (now (setup .entry)) position actor ⌝ }
+    requires { ⌜ o ≡ guards (now sheet) (now setup) position ⌝ }
+    ensures { λ r. ⌜ r ≡ isPaying (now (sheet .entry)) (now (setup .entry)) position actor ⌝ }
 {
     if !sheet::field::is_party(sheet, actor) {
         return false;
@@ -48,27 +48,27 @@ fn kept_back(
 }
 
 // What is the same for all steps of the actor.
-fn sight(
+fn context(
     position: Position,
     sheet: &[u8],
     setup: &[u8],
     view: View,
-    o: Outlook,
+    o: Guards,
     owed: bool,
     actor: u8,
-) -> Sight
+) -> Context
     requires { ⌜ Fit (now sheet) (now setup) ⌝ }
     requires { ⌜ view ≡ viewBelow (now sheet) (count (now sheet)) position ⌝ }
-    requires { ⌜ o ≡ outlook (now sheet) (now setup) position ⌝ }
+    requires { ⌜ o ≡ guards (now sheet) (now setup) position ⌝ }
     requires { ⌜ owed ≡ anyOwed (now sheet) (now setup) position ⌝ }
-    ensures { λ r. ⌜ r ≡ sightOf (now (sheet .entry)) (now (setup .entry)) position actor ⌝ }
+    ensures { λ r. ⌜ r ≡ contextOf (now (sheet .entry)) (now (setup .entry)) position actor ⌝ }
 {
-    let back = kept_back(position, sheet, setup, view, o, actor);
+    let paying = is_paying(position, sheet, setup, view, o, actor);
     let made = position.first_shares_made(actor);
-    Sight {
+    Context {
         view,
-        outlook: o,
-        back,
+        guards: o,
+        paying,
         owed,
         made,
     }
@@ -79,22 +79,22 @@ fn sheet_set(
     position: Position,
     sheet: &[u8],
     setup: &[u8],
-    sight: Sight,
-    goes: Goes,
+    context: Context,
+    dests: DestinationSets,
     actor: u8,
     kind: u8,
     to: u8,
 ) -> u32
     requires { ⌜ Fit (now sheet) (now setup) ⌝ }
-    requires { ⌜ sight ≡ sightOf (now sheet) (now setup) position actor ⌝ }
-    requires { ⌜ goes ≡ goesFor (now sheet) actor ⌝ }
+    requires { ⌜ context ≡ contextOf (now sheet) (now setup) position actor ⌝ }
+    requires { ⌜ dests ≡ destinationSets (now sheet) actor ⌝ }
     requires { ⌜ mayStand (now sheet) kind actor to ≡ true ⌝ }
     requires { ⌜ (kind ≡ 2 → ⊥) ⌝ }
     requires { ⌜ to < 4 ⌝ }
     ensures { λ r. ⌜ r ≡ setBelow (count (now (sheet .entry))) (λ t. isOpenStep (now (sheet .entry)) (now (setup .entry)) position kind actor t to) ⌝ }
 {
     let n = sheet::field::count(sheet);
-    let c = open::candidates(setup, sight, goes, kind, actor, to);
+    let c = open::candidates(setup, context, dests, kind, actor, to);
     let mut found: u32 = 0;
     let mut t = next::next(c, 0, n);
     while t < n {
@@ -102,7 +102,7 @@ fn sheet_set(
         let up = parent::slot_above(sheet, t);
         let above = position.slots[up];
         let since = parent::block_above(sheet, t, above.height);
-        let on = open::accepted_as(sheet, setup, sight, x, since, kind, actor, t, to);
+        let on = open::accepted_as(sheet, setup, context, x, since, kind, actor, t, to);
         found = set::join(found, on, t);
         t = next::next(c, t + 1, n);
     }
@@ -114,15 +114,15 @@ fn open_set(
     position: Position,
     sheet: &[u8],
     setup: &[u8],
-    sight: Sight,
-    goes: Goes,
+    context: Context,
+    dests: DestinationSets,
     actor: u8,
     kind: u8,
     destination: u8,
 ) -> u32
     requires { ⌜ Fit (now sheet) (now setup) ⌝ }
-    requires { ⌜ sight ≡ sightOf (now sheet) (now setup) position actor ⌝ }
-    requires { ⌜ goes ≡ goesFor (now sheet) actor ⌝ }
+    requires { ⌜ context ≡ contextOf (now sheet) (now setup) position actor ⌝ }
+    requires { ⌜ dests ≡ destinationSets (now sheet) actor ⌝ }
     requires { ⌜ destination < 4 ⌝ }
     ensures { λ r. ⌜ r ≡ openSet (now (sheet .entry)) (now (setup .entry)) position actor kind destination ⌝ }
 {
@@ -130,9 +130,9 @@ fn open_set(
         return 0;
     }
     if kind == 2 {
-        return open::give_set(sheet, sight, actor, destination);
+        return open::give_set(sheet, context, actor, destination);
     }
-    let c = open::candidates(setup, sight, goes, kind, actor, destination);
+    let c = open::candidates(setup, context, dests, kind, actor, destination);
     if c == 0 {
         return 0;
     }
@@ -140,8 +140,8 @@ fn open_set(
         position,
         sheet,
         setup,
-        sight,
-        goes,
+        context,
+        dests,
         actor,
         kind,
         destination,
@@ -153,13 +153,13 @@ fn below_sets(
     position: Position,
     sheet: &[u8],
     setup: &[u8],
-    sight: Sight,
-    goes: Goes,
+    context: Context,
+    dests: DestinationSets,
     actor: u8,
 ) -> [u32; 28]
     requires { ⌜ Fit (now sheet) (now setup) ⌝ }
-    requires { ⌜ sight ≡ sightOf (now sheet) (now setup) position actor ⌝ }
-    requires { ⌜ goes ≡ goesFor (now sheet) actor ⌝ }
+    requires { ⌜ context ≡ contextOf (now sheet) (now setup) position actor ⌝ }
+    requires { ⌜ dests ≡ destinationSets (now sheet) actor ⌝ }
     ensures { λ r. ⌜ r ≡ belowSets (now (sheet .entry)) (now (setup .entry)) position actor ⌝ }
 {
     let mut below: [u32; 28] = [0; 28];
@@ -170,8 +170,8 @@ fn below_sets(
             position,
             sheet,
             setup,
-            sight,
-            goes,
+            context,
+            dests,
             actor,
             kind,
             (i % 4) as u8,
@@ -184,7 +184,7 @@ fn below_sets(
 
 // Whether none of an actor's steps with a transaction byte other than 255 is open: a party's in phase 0, the miner's while the
 // pool is empty.
-fn is_idle(sheet: &[u8], view: View, o: Outlook, actor: u8) -> bool
+fn is_idle(sheet: &[u8], view: View, o: Guards, actor: u8) -> bool
     requires { ⌜ Sized (now sheet) ⌝ }
     ensures { λ r. ⌜ r ≡ isIdle (now (sheet .entry)) view o actor ⌝ }
 {
@@ -203,25 +203,25 @@ pub fn open_sets(
     sheet: &[u8],
     setup: &[u8],
     view: View,
-    o: Outlook,
+    o: Guards,
     owed: bool,
     actor: u8,
 ) -> OpenSets
     requires { ⌜ Fit (now sheet) (now setup) ⌝ }
     requires { ⌜ view ≡ viewBelow (now sheet) (count (now sheet)) position ⌝ }
-    requires { ⌜ o ≡ outlook (now sheet) (now setup) position ⌝ }
+    requires { ⌜ o ≡ guards (now sheet) (now setup) position ⌝ }
     requires { ⌜ owed ≡ anyOwed (now sheet) (now setup) position ⌝ }
     ensures { λ r. ⌜ r ≡ openSets (now (sheet .entry)) (now (setup .entry)) position actor ⌝ }
 {
-    let sight = sight(position, sheet, setup, view, o, owed, actor);
-    let last = open::last_set(sheet, setup, sight, actor);
+    let context = context(position, sheet, setup, view, o, owed, actor);
+    let last = open::last_set(sheet, setup, context, actor);
     if is_idle(sheet, view, o, actor) {
         return OpenSets {
             below: [0; 28],
             last,
         };
     }
-    let goes = open::goes_for(sheet, actor);
-    let below = below_sets(position, sheet, setup, sight, goes, actor);
+    let dests = open::destination_sets(sheet, actor);
+    let below = below_sets(position, sheet, setup, context, dests, actor);
     OpenSets { below, last }
 }

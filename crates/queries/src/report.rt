@@ -32,7 +32,7 @@ pub fn write_report(
 {
     let n = sheet::field::count(sheet);
     let per_day = sheet::setup::per_day(setup);
-    let struck = conflict::conflicts_of(sheet, view.confirmed, true);
+    let conflicted = conflict::conflicts_of(sheet, view.confirmed, true);
     let mut at: usize = 0;
     let mut t: usize = 0;
     while t < n {
@@ -40,7 +40,7 @@ pub fn write_report(
         let up = parent::slot_above(sheet, t);
         let above = position.slots[up];
         let since = parent::block_above(sheet, t, above.height);
-        let r = report::row(sheet, per_day, view, struck, x, since, t);
+        let r = report::row(sheet, per_day, view, conflicted, x, since, t);
         row::write_row(
             &mut out[at..],
             r.status,

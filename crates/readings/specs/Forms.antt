@@ -1,3 +1,3 @@
 pub mod Holder
 pub mod Report
-pub mod Sight
+pub mod Context

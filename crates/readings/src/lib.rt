@@ -4,15 +4,15 @@ pub mod open;
 pub mod report;
 pub mod reported;
 
-use steps::Outlook;
+use steps::Guards;
 use steps::View;
 
 // What is the same for all steps of one actor in a position.
-pub struct Sight {
+pub struct Context {
     pub view: View,
-    pub outlook: Outlook,
+    pub guards: Guards,
     // a careful party that can send a transaction that pays it, and so sends no contract transaction
-    pub back: bool,
+    pub paying: bool,
     // some bump is owed
     pub owed: bool,
     // the actor's first shares are made
@@ -20,7 +20,7 @@ pub struct Sight {
 }
 
 // The transactions of a sheet that go to each destination, as sets.
-pub struct Goes {
+pub struct DestinationSets {
     pub alice: u32,
     pub bob: u32,
     pub carol: u32,

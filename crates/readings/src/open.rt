@@ -1,10 +1,10 @@
 // Which steps of an actor are open, by their numbers.
-use crate::Goes;
-use crate::Sight;
+use crate::Context;
+use crate::DestinationSets;
 use sheet::set;
 use slots::Slot;
 use slots::party;
-use steps::Outlook;
+use steps::Guards;
 use steps::conduct;
 use steps::decode;
 use steps::mining;
@@ -29,7 +29,7 @@ ghost use Rattle.steps.specs.Forms.Conduct.{shareAllowedIn, sendHeldIn, conduct
 ghost use Rattle.steps.specs.Forms.Sharing.{shareMetIn};
 ghost use Rattle.steps.specs.Forms.Sending.{poolTestsIn, minerTestsIn};
 ghost use Rattle.steps.specs.Forms.Mining.{owedIn, bumpTestsIn};
-ghost use Rattle.readings.specs.Forms.Sight.{partyMay, mayStand, goesTo, goesSet, goesFor, goesOf, sharers, senders, turnsIn, candidatesIn, refusalAs, givesIn, sharesFirst, minesIn, lastIn};
+ghost use Rattle.readings.specs.Forms.Context.{partyMay, mayStand, goesTo, goesSet, destinationSets, destinationSet, sharers, senders, turnsIn, candidatesIn, refusalAs, givesIn, sharesFirst, minesIn, lastIn};
 
 // Whether a sender can name a destination: the contract or itself.
 fn to_sender(actor: u8, destination: u8) -> bool
@@ -104,12 +104,12 @@ fn goes_set(sheet: &[u8], destination: u8) -> u32
 }
 
 // These, by destination; none for the miner, whose steps all go to the contract.
-pub fn goes_for(sheet: &[u8], actor: u8) -> Goes
+pub fn destination_sets(sheet: &[u8], actor: u8) -> DestinationSets
     requires { ⌜ Sized (now sheet) ⌝ }
-    ensures { λ r. ⌜ r ≡ goesFor (now (sheet .entry)) actor ⌝ }
+    ensures { λ r. ⌜ r ≡ destinationSets (now (sheet .entry)) actor ⌝ }
 {
     if !sheet::field::is_party(sheet, actor) {
-        return Goes {
+        return DestinationSets {
             alice: 0,
             bob: 0,
             carol: 0,
@@ -120,7 +120,7 @@ pub fn goes_for(sheet: &[u8], actor: u8) -> Goes
     let bob = goes_set(sheet, 1);
     let carol = goes_set(sheet, 3);
     let contract = goes_set(sheet, 2);
-    Goes {
+    DestinationSets {
         alice,
         bob,
         carol,
@@ -128,10 +128,10 @@ pub fn goes_for(sheet: &[u8], actor: u8) -> Goes
     }
 }
 
-impl Goes {
+impl DestinationSets {
     // Those of one destination.
     fn of(self, destination: u8) -> u32
-        ensures { λ r. ⌜ r ≡ goesOf self destination ⌝ }
+        ensures { λ r. ⌜ r ≡ destinationSet self destination ⌝ }
     {
         match destination {
             0 => self.alice,
@@ -143,7 +143,7 @@ impl Goes {
 }
 
 // The transactions that conduct may let a party share: but for open conduct success, bit 2, by Alice.
-fn sharers(o: Outlook, actor: u8) -> u32
+fn sharers(o: Guards, actor: u8) -> u32
     ensures { λ r. ⌜ r ≡ sharers o actor ⌝ }
 {
     if o.free {
@@ -159,7 +159,7 @@ fn sharers(o: Outlook, actor: u8) -> u32
 }
 
 // The transactions that conduct may let a party send: none in phase 0.
-fn senders(o: Outlook) -> u32
+fn senders(o: Guards) -> u32
     ensures { λ r. ⌜ r ≡ senders o ⌝ }
 {
     if o.free {
@@ -172,7 +172,7 @@ fn senders(o: Outlook) -> u32
 }
 
 // These for kind 4, which needs stealth.
-fn handers(setup: &[u8], o: Outlook) -> u32
+fn handers(setup: &[u8], o: Guards) -> u32
     requires { ⌜ length (now setup) ≡ 4 ⌝ }
     ensures { λ r. ⌜ r ≡ pick (eqb (stealth (now (setup .entry))) 1) (senders o) 0 ⌝ }
 {
@@ -183,46 +183,53 @@ fn handers(setup: &[u8], o: Outlook) -> u32
 }
 
 // The transactions that a kind's tests may pass, whatever the destination.
-fn turns(setup: &[u8], sight: Sight, kind: u8, actor: u8) -> u32
+fn turns(setup: &[u8], context: Context, kind: u8, actor: u8) -> u32
     requires { ⌜ length (now setup) ≡ 4 ⌝ }
-    ensures { λ r. ⌜ r ≡ turnsIn (now (setup .entry)) sight kind actor ⌝ }
+    ensures { λ r. ⌜ r ≡ turnsIn (now (setup .entry)) context kind actor ⌝ }
 {
     match kind {
-        1 => sharers(sight.outlook, actor),
-        3 => senders(sight.outlook),
-        4 => handers(setup, sight.outlook),
-        _ => sight.view.pool,
+        1 => sharers(context.guards, actor),
+        3 => senders(context.guards),
+        4 => handers(setup, context.guards),
+        _ => context.view.pool,
     }
 }
 
 // The transactions that are tested for a kind and a destination.
 pub fn candidates(
     setup: &[u8],
-    sight: Sight,
-    goes: Goes,
+    context: Context,
+    dests: DestinationSets,
     kind: u8,
     actor: u8,
     destination: u8,
 ) -> u32
     requires { ⌜ length (now setup) ≡ 4 ⌝ }
-    ensures { λ r. ⌜ r ≡ candidatesIn (now (setup .entry)) sight goes kind actor destination ⌝ }
+    ensures { λ r. ⌜ r ≡ candidatesIn (now (setup .entry)) context dests kind actor destination ⌝ }
 {
-    let turns = turns(setup, sight, kind, actor);
+    let turns = turns(setup, context, kind, actor);
     if 5 <= kind {
         return turns;
     }
-    goes.of(destination) & turns
+    dests.of(destination) & turns
 }
 
 // Kind 1.
-fn share_refusal(sheet: &[u8], sight: Sight, x: Slot, actor: u8, t: usize, destination: u8) -> u32
+fn share_refusal(
+    sheet: &[u8],
+    context: Context,
+    x: Slot,
+    actor: u8,
+    t: usize,
+    destination: u8,
+) -> u32
     requires { ⌜ Sized (now sheet) ⌝ }
     requires { ⌜ t < count (now sheet) ⌝ }
     requires { ⌜ destination < 4 ⌝ }
-    ensures { λ r. ⌜ r ≡ firstFailing (conductTests (shareAllowedIn (sight .outlook) actor t) (shareMetIn (now (sheet .entry)) (keysIn (sight .view) actor) x actor t destination)) ⌝ }
+    ensures { λ r. ⌜ r ≡ firstFailing (conductTests (shareAllowedIn (context .guards) actor t) (shareMetIn (now (sheet .entry)) (keysIn (context .view) actor) x actor t destination)) ⌝ }
 {
-    let allowed = sight.outlook.share_allowed(actor, t as u8);
-    let met = sharing::share_met(sheet, sight.view.keys(actor), x, actor, t, destination);
+    let allowed = context.guards.share_allowed(actor, t as u8);
+    let met = sharing::share_met(sheet, context.view.keys(actor), x, actor, t, destination);
     conduct::conduct_refusal(allowed, met)
 }
 
@@ -230,7 +237,7 @@ fn share_refusal(sheet: &[u8], sight: Sight, x: Slot, actor: u8, t: usize, desti
 fn pool_accepted(
     sheet: &[u8],
     setup: &[u8],
-    sight: Sight,
+    context: Context,
     x: Slot,
     since: u16,
     actor: u8,
@@ -239,16 +246,16 @@ fn pool_accepted(
 ) -> bool
     requires { ⌜ Fit (now sheet) (now setup) ⌝ }
     requires { ⌜ t < count (now sheet) ⌝ }
-    ensures { λ r. ⌜ r ≡ eqb (firstFailing (poolTestsIn (sendHeldIn (now (sheet .entry)) (sight .outlook) (sight .back) actor t) (now (sheet .entry)) (now (setup .entry)) (sight .view) x since actor t destination)) 0 ⌝ }
+    ensures { λ r. ⌜ r ≡ eqb (firstFailing (poolTestsIn (sendHeldIn (now (sheet .entry)) (context .guards) (context .paying) actor t) (now (sheet .entry)) (now (setup .entry)) (context .view) x since actor t destination)) 0 ⌝ }
 {
-    if !parent::parent_there(sheet, sight.view.sent(), t) {
+    if !parent::parent_there(sheet, context.view.sent(), t) {
         return false;
     }
-    let held = sight.outlook.send_held(sheet, sight.back, actor, t);
+    let held = context.guards.send_held(sheet, context.paying, actor, t);
     sending::pool_refusal(
         sheet,
         setup,
-        sight.view,
+        context.view,
         held,
         x,
         since,
@@ -263,7 +270,7 @@ fn pool_accepted(
 fn miner_accepted(
     sheet: &[u8],
     setup: &[u8],
-    sight: Sight,
+    context: Context,
     x: Slot,
     since: u16,
     actor: u8,
@@ -272,16 +279,16 @@ fn miner_accepted(
 ) -> bool
     requires { ⌜ Fit (now sheet) (now setup) ⌝ }
     requires { ⌜ t < count (now sheet) ⌝ }
-    ensures { λ r. ⌜ r ≡ eqb (firstFailing (minerTestsIn (sendHeldIn (now (sheet .entry)) (sight .outlook) (sight .back) actor t) (now (sheet .entry)) (now (setup .entry)) (sight .view) x since actor t destination)) 0 ⌝ }
+    ensures { λ r. ⌜ r ≡ eqb (firstFailing (minerTestsIn (sendHeldIn (now (sheet .entry)) (context .guards) (context .paying) actor t) (now (sheet .entry)) (now (setup .entry)) (context .view) x since actor t destination)) 0 ⌝ }
 {
-    if !parent::parent_there(sheet, sight.view.placed(), t) {
+    if !parent::parent_there(sheet, context.view.placed(), t) {
         return false;
     }
-    let held = sight.outlook.send_held(sheet, sight.back, actor, t);
+    let held = context.guards.send_held(sheet, context.paying, actor, t);
     sending::miner_refusal(
         sheet,
         setup,
-        sight.view,
+        context.view,
         held,
         x,
         since,
@@ -293,20 +300,20 @@ fn miner_accepted(
 }
 
 // Kind 7.
-fn bump_refusal(sheet: &[u8], setup: &[u8], sight: Sight, since: u16, t: usize) -> u32
+fn bump_refusal(sheet: &[u8], setup: &[u8], context: Context, since: u16, t: usize) -> u32
     requires { ⌜ Fit (now sheet) (now setup) ⌝ }
     requires { ⌜ t < count (now sheet) ⌝ }
-    ensures { λ r. ⌜ r ≡ firstFailing (bumpTestsIn (owedIn (now (sheet .entry)) (perDay (now (setup .entry))) (sight .view) since t)) ⌝ }
+    ensures { λ r. ⌜ r ≡ firstFailing (bumpTestsIn (owedIn (now (sheet .entry)) (perDay (now (setup .entry))) (context .view) since t)) ⌝ }
 {
     let per_day = sheet::setup::per_day(setup);
-    mining::bump_refusal(owed::owed_at(sheet, per_day, sight.view, since, t))
+    mining::bump_refusal(owed::owed_at(sheet, per_day, context.view, since, t))
 }
 
 // Whether a step of any kind but 2 and 6, with right fields, is accepted.
 pub fn accepted_as(
     sheet: &[u8],
     setup: &[u8],
-    sight: Sight,
+    context: Context,
     x: Slot,
     since: u16,
     kind: u8,
@@ -317,38 +324,38 @@ pub fn accepted_as(
     requires { ⌜ Fit (now sheet) (now setup) ⌝ }
     requires { ⌜ t < count (now sheet) ⌝ }
     requires { ⌜ destination < 4 ⌝ }
-    ensures { λ r. ⌜ r ≡ eqb (refusalAs (now (sheet .entry)) (now (setup .entry)) sight x since kind actor t destination) 0 ⌝ }
+    ensures { λ r. ⌜ r ≡ eqb (refusalAs (now (sheet .entry)) (now (setup .entry)) context x since kind actor t destination) 0 ⌝ }
 {
     match kind {
-        1 => share_refusal(sheet, sight, x, actor, t, destination) == 0,
-        3 => pool_accepted(sheet, setup, sight, x, since, actor, t, destination),
-        4 => miner_accepted(sheet, setup, sight, x, since, actor, t, destination),
-        5 => mining::include_refusal(sheet, sight.view, sight.owed, t) == 0,
-        _ => bump_refusal(sheet, setup, sight, since, t) == 0,
+        1 => share_refusal(sheet, context, x, actor, t, destination) == 0,
+        3 => pool_accepted(sheet, setup, context, x, since, actor, t, destination),
+        4 => miner_accepted(sheet, setup, context, x, since, actor, t, destination),
+        5 => mining::include_refusal(sheet, context.view, context.owed, t) == 0,
+        _ => bump_refusal(sheet, setup, context, since, t) == 0,
     }
 }
 
 // Kind 2.
-fn gives(sight: Sight, actor: u8, i: u8, destination: u8) -> bool
+fn gives(context: Context, actor: u8, i: u8, destination: u8) -> bool
     requires { ⌜ i < 8 ⌝ }
-    ensures { λ r. ⌜ r ≡ givesIn sight actor i destination ⌝ }
+    ensures { λ r. ⌜ r ≡ givesIn context actor i destination ⌝ }
 {
-    let allowed = sight.outlook.give_allowed(actor, i);
-    let receiver = sight.view.keys(destination);
-    let met = sharing::give_met(sight.view.keys(actor), receiver, i);
+    let allowed = context.guards.give_allowed(actor, i);
+    let receiver = context.view.keys(destination);
+    let met = sharing::give_met(context.view.keys(actor), receiver, i);
     conduct::conduct_refusal(allowed, met) == 0
 }
 
 // The signatures that a party can give to the other.
-pub fn give_set(sheet: &[u8], sight: Sight, actor: u8, destination: u8) -> u32
+pub fn give_set(sheet: &[u8], context: Context, actor: u8, destination: u8) -> u32
     requires { ⌜ Checked (now sheet) ⌝ }
-    ensures { λ r. ⌜ r ≡ setBelow (signatures (now (sheet .entry))) (λ i. givesIn sight actor i destination) ⌝ }
+    ensures { λ r. ⌜ r ≡ setBelow (signatures (now (sheet .entry))) (λ i. givesIn context actor i destination) ⌝ }
 {
     let n = sheet::field::wide(sheet::field::signatures(sheet));
     let mut found: u32 = 0;
     let mut i: usize = 0;
     while i < n {
-        let on = gives(sight, actor, i as u8, destination);
+        let on = gives(context, actor, i as u8, destination);
         found = set::join(found, on, i);
         i += 1;
     }
@@ -356,35 +363,35 @@ pub fn give_set(sheet: &[u8], sight: Sight, actor: u8, destination: u8) -> u32
 }
 
 // Whether a party's first shares are open: kind 1 with transaction byte 255.
-fn shares_first(setup: &[u8], sight: Sight, actor: u8) -> bool
+fn shares_first(setup: &[u8], context: Context, actor: u8) -> bool
     requires { ⌜ length (now setup) ≡ 4 ⌝ }
-    ensures { λ r. ⌜ r ≡ sharesFirst (now (setup .entry)) sight actor ⌝ }
+    ensures { λ r. ⌜ r ≡ sharesFirst (now (setup .entry)) context actor ⌝ }
 {
     if sheet::setup::conduct(setup) == 0 {
         return false;
     }
-    let allowed = sight.outlook.share_allowed(actor, NO_TRANSACTION);
-    conduct::conduct_refusal(allowed, !sight.made) == 0
+    let allowed = context.guards.share_allowed(actor, NO_TRANSACTION);
+    conduct::conduct_refusal(allowed, !context.made) == 0
 }
 
 // Whether a block may be mined: kind 6, whose transaction byte is 255.
-fn mines(sight: Sight, actor: u8) -> bool
-    ensures { λ r. ⌜ r ≡ minesIn sight actor ⌝ }
+fn mines(context: Context, actor: u8) -> bool
+    ensures { λ r. ⌜ r ≡ minesIn context actor ⌝ }
 {
     if actor != 2 {
         return false;
     }
-    mining::mine_refusal(sight.view, sight.owed) == 0
+    mining::mine_refusal(context.view, context.owed) == 0
 }
 
 // The kinds and destinations with which the step with transaction byte 255 is open: bit 4 * k + d for kind k + 1 and destination d.
-pub fn last_set(sheet: &[u8], setup: &[u8], sight: Sight, actor: u8) -> u32
+pub fn last_set(sheet: &[u8], setup: &[u8], context: Context, actor: u8) -> u32
     requires { ⌜ Sized (now sheet) ⌝ }
     requires { ⌜ length (now setup) ≡ 4 ⌝ }
-    ensures { λ r. ⌜ r ≡ lastIn (now (sheet .entry)) (now (setup .entry)) sight actor ⌝ }
+    ensures { λ r. ⌜ r ≡ lastIn (now (sheet .entry)) (now (setup .entry)) context actor ⌝ }
 {
     if sheet::field::is_party(sheet, actor) {
-        return set::join(0, shares_first(setup, sight, actor), 2);
+        return set::join(0, shares_first(setup, context, actor), 2);
     }
-    set::join(0, mines(sight, actor), 22)
+    set::join(0, mines(context, actor), 22)
 }

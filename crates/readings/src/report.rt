@@ -20,28 +20,28 @@ fn part(on: bool, value: u8) -> u8
     if on { value } else { 0 }
 }
 
-// Whether t is dead, where `struck` has those whose other rival is confirmed.
-pub fn dead_in(sheet: &[u8], confirmed: u32, struck: u32, t: usize) -> bool
+// Whether t is dead, where `conflicted` has those whose other rival is confirmed.
+pub fn dead_in(sheet: &[u8], confirmed: u32, conflicted: u32, t: usize) -> bool
     requires { ⌜ Sized (now sheet) ⌝ }
     requires { ⌜ t < count (now sheet) ⌝ }
-    ensures { λ r. ⌜ r ≡ deadIn (now (sheet .entry)) confirmed struck t ⌝ }
+    ensures { λ r. ⌜ r ≡ deadIn (now (sheet .entry)) confirmed conflicted t ⌝ }
 {
     if set::has(confirmed, t) {
         return false;
     }
-    ancestry::in_ancestry(sheet, struck, t)
+    ancestry::in_ancestry(sheet, conflicted, t)
 }
 
 // The status of t.
-pub fn status_in(sheet: &[u8], view: View, struck: u32, t: usize) -> u8
+pub fn status_in(sheet: &[u8], view: View, conflicted: u32, t: usize) -> u8
     requires { ⌜ Sized (now sheet) ⌝ }
     requires { ⌜ t < count (now sheet) ⌝ }
-    ensures { λ r. ⌜ r ≡ statusIn (now (sheet .entry)) view struck t ⌝ }
+    ensures { λ r. ⌜ r ≡ statusIn (now (sheet .entry)) view conflicted t ⌝ }
 {
     let pool = part(set::has(view.pool, t), 1);
     let block = part(set::has(view.block, t), 2);
     let confirmed = part(set::has(view.confirmed, t), 4);
-    let dead = part(dead_in(sheet, view.confirmed, struck, t), 8);
+    let dead = part(dead_in(sheet, view.confirmed, conflicted, t), 8);
     pool + block + confirmed + dead
 }
 
@@ -70,20 +70,20 @@ pub fn row(
     sheet: &[u8],
     per_day: u16,
     view: View,
-    struck: u32,
+    conflicted: u32,
     x: Slot,
     since: u16,
     t: usize,
 ) -> Row
     requires { ⌜ Sized (now sheet) ⌝ }
     requires { ⌜ t < count (now sheet) ⌝ }
-    ensures { λ r. ⌜ r ≡ rowIn (now (sheet .entry)) «per_day» view struck x since t ⌝ }
+    ensures { λ r. ⌜ r ≡ rowIn (now (sheet .entry)) «per_day» view conflicted x since t ⌝ }
 {
     Row {
         block: lock_height::wide(x.height),
         lock: lock_height::lock_height(sheet, per_day, since, t),
         deadline: deadline::deadline(sheet, per_day, since, t),
-        status: status_in(sheet, view, struck, t),
+        status: status_in(sheet, view, conflicted, t),
         payee: payee_of(x),
     }
 }

@@ -10,13 +10,13 @@ ghost use Rattle.sheet.specs.Forms.Parents.{Parents, ParentAdded};
 // All 32 transactions.
 const ALL: u32 = 4294967295;
 
-// The set `parents`, with k's parent too where k is in the set `there`.
-fn with_parent(sheet: &[u8], there: u32, parents: u32, k: usize) -> u32
+// The set `parents`, with k's parent too where k is in the set `members`.
+fn with_parent(sheet: &[u8], members: u32, parents: u32, k: usize) -> u32
     requires { ⌜ Sized (now sheet) ⌝ }
     requires { ⌜ k < count (now sheet) ⌝ }
-    ensures { λ r. ⌜ ParentAdded (now (sheet .entry)) (bit there) k parents r ⌝ }
+    ensures { λ r. ⌜ ParentAdded (now (sheet .entry)) (bit members) k parents r ⌝ }
 {
-    if !set::has(there, k) {
+    if !set::has(members, k) {
         return parents;
     }
     let up = field::parent(sheet, k);
@@ -27,15 +27,15 @@ fn with_parent(sheet: &[u8], there: u32, parents: u32, k: usize) -> u32
 }
 
 // The parents of the set's members.
-pub fn parents_of(sheet: &[u8], there: u32) -> u32
+pub fn parents_of(sheet: &[u8], members: u32) -> u32
     requires { ⌜ Sized (now sheet) ⌝ }
-    ensures { λ r. ⌜ Parents (now (sheet .entry)) (bit there) (count (now (sheet .entry))) r ⌝ }
+    ensures { λ r. ⌜ Parents (now (sheet .entry)) (bit members) (count (now (sheet .entry))) r ⌝ }
 {
     let n = field::count(sheet);
     let mut parents: u32 = 0;
     let mut k: usize = 0;
     while k < n {
-        parents = with_parent(sheet, there, parents, k);
+        parents = with_parent(sheet, members, parents, k);
         k += 1;
     }
     parents

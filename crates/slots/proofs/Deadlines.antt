@@ -12,7 +12,7 @@ use Rattle.sheet.specs.LockHeight.{never, lockHeight}
 use Rattle.slots.specs.Conflict.{conflict, conflictIn}
 use Rattle.slots.specs.Deadline.{deadline}
 use Rattle.slots.specs.Forms.Conflict.{foundIn}
-use Rattle.slots.specs.Forms.Limited.{hasLock, limitedSet, deadlineBy}
+use Rattle.slots.specs.Forms.Expiring.{hasLock, expiringSet, deadlineBy}
 use Rattle.slots.proofs.Conflicts.{conflict-siblings, conflict-opening, none-in}
 use Rattle.slots.proofs.ConflictSets.{conflictIn-same}
 
@@ -63,18 +63,18 @@ deadline-unlocked s d block t none =
 
 -- the set as the code makes it, and those outside it
 module _ (s : List ℕ) (few : count s ≤ 32) where
-  pub limited-by : setBelow (count s) (foundIn s (bit (setBelow (count s) (hasLock s))) false) ≡ limitedSet s
-  unfolding limitedSet foundIn
-  limited-by =
+  pub expiring-by : setBelow (count s) (foundIn s (bit (setBelow (count s) (hasLock s))) false) ≡ expiringSet s
+  unfolding expiringSet foundIn
+  expiring-by =
       set-same (count s) (conflictIn s (bit (setBelow (count s) (hasLock s)))) (conflictIn s (hasLock s))
       (λ t l. conflictIn-same s (bit (setBelow (count s) (hasLock s))) (hasLock s) t (set-bit (count s) (hasLock s) few))
 
-  pub deadline-unlimited : (d : ℕ) (block : ℕ → ℕ) (t : ℕ) → t < count s → bit (limitedSet s) t ≡ false → deadline s d block t ≡ never
-  unfolding limitedSet
-  deadline-unlimited d block t l h =
+  pub deadline-unexpiring : (d : ℕ) (block : ℕ → ℕ) (t : ℕ) → t < count s → bit (expiringSet s) t ≡ false → deadline s d block t ≡ never
+  unfolding expiringSet
+  deadline-unexpiring d block t l h =
       deadline-unlocked s d block t (sym (set-bit (count s) (conflictIn s (hasLock s)) few t l) ∙ h)
 
-  pub deadline-by : (d since t : ℕ) → t < count s → deadlineBy s d (limitedSet s) since t ≡ deadline s d (λ k. since) t
+  pub deadline-by : (d since t : ℕ) → t < count s → deadlineBy s d (expiringSet s) since t ≡ deadline s d (λ k. since) t
   unfolding deadlineBy
   deadline-by d since t l =
-      split (bit (limitedSet s) t) (λ y. rw y) (λ y. rw y (sym (deadline-unlimited d (λ k. since) t l y)))
+      split (bit (expiringSet s) t) (λ y. rw y) (λ y. rw y (sym (deadline-unexpiring d (λ k. since) t l y)))

@@ -9,7 +9,7 @@ use Rattle.sheet.specs.Field.{count, parent, opening}
 use Rattle.sheet.specs.Checked.{Checked}
 use Rattle.slots.specs.Conflict.{conflict, conflictIn, otherConflictIn}
 use Rattle.slots.specs.Forms.Conflict.{foundIn}
-use Rattle.slots.specs.Forms.Contested.{contestedIn}
+use Rattle.slots.specs.Forms.HasConflicts.{hasConflictsIn}
 use Rattle.slots.proofs.Conflicts.{conflict-parent, conflict-opening, siblings-conflict, conflict-sym, same-opening, some-in}
 use Rattle.slots.proofs.Parents.{parent-lower}
 
@@ -62,10 +62,10 @@ module _ (s : List ℕ) (t : ℕ) where
         omega (arith, i, same, b, e))))
 
 -- where no member has a rival but itself, nobody has another rival in the set
-module _ (s : List ℕ) (member : ℕ → Bool) (h : contestedIn s member ≡ false) where
-  uncontested : (t : ℕ) → t < count s → otherConflictIn s member t ≡ false
-  unfolding otherConflictIn contestedIn conflictIn
-  uncontested t l =
+module _ (s : List ℕ) (member : ℕ → Bool) (h : hasConflictsIn s member ≡ false) where
+  no-conflicts : (t : ℕ) → t < count s → otherConflictIn s member t ≡ false
+  unfolding otherConflictIn hasConflictsIn conflictIn
+  no-conflicts t l =
       fails-by (otherConflictIn s member t)
       (λ y.
       let w = some-in s (λ k. not (eqb k t) && member k) t y in
@@ -76,6 +76,6 @@ module _ (s : List ℕ) (member : ℕ → Bool) (h : contestedIn s member ≡ fa
       any-found (count s) t (λ j. conflict s j k && (not (eqb j k) && true)) l (rw (conflict-sym s k t (w .2), d)) in
       clash {b = member k && otherConflictIn s (λ j. true) k} (rw (c .1, rival)) (any-none (count s) (λ j. member j && otherConflictIn s (λ i. true) j) h k (w .1)))
 
-  pub uncontested-none : 0 ≡ setBelow (count s) (foundIn s member true)
+  pub no-conflicts-none : 0 ≡ setBelow (count s) (foundIn s member true)
   unfolding foundIn
-  uncontested-none = sym (none-set (count s) (foundIn s member true) uncontested)
+  no-conflicts-none = sym (none-set (count s) (foundIn s member true) no-conflicts)

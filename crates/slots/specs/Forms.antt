@@ -1,6 +1,6 @@
 pub mod Conflict
-pub mod Contested
+pub mod HasConflicts
 pub mod Height
-pub mod Limited
+pub mod Expiring
 pub mod Line
 pub mod Next

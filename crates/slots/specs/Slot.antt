@@ -11,7 +11,7 @@ use Rattle.slots.specs.Destination.{alice, bob, carol, contract, destina
 
 -- a transaction to which nothing has happened
 abbrev pub emptySlot : Slot
-emptySlot = record { pool = 0; block = 0; confirmed = 0; madea = 0; madeb = 0; madec = 0; alice = 0; bob = 0; carol = 0; contract = 0; height = 0 }
+emptySlot = record { pool = 0; block = 0; confirmed = 0; «alice_made» = 0; «bob_made» = 0; «carol_made» = 0; alice = 0; bob = 0; carol = 0; contract = 0; height = 0 }
 
 -- "its pool entry, block entry, confirmation": there is one (0: none)
 unfoldable pub standing : ℕ → Bool
@@ -32,9 +32,9 @@ withPool entry x =
       pool = entry;
       block = x .block;
       confirmed = x .confirmed;
-      madea = x .madea;
-      madeb = x .madeb;
-      madec = x .madec;
+      «alice_made» = x .«alice_made»;
+      «bob_made» = x .«bob_made»;
+      «carol_made» = x .«carol_made»;
       alice = x .alice;
       bob = x .bob;
       carol = x .carol;
@@ -49,9 +49,9 @@ withBlock entry x =
       pool = x .pool;
       block = entry;
       confirmed = x .confirmed;
-      madea = x .madea;
-      madeb = x .madeb;
-      madec = x .madec;
+      «alice_made» = x .«alice_made»;
+      «bob_made» = x .«bob_made»;
+      «carol_made» = x .«carol_made»;
       alice = x .alice;
       bob = x .bob;
       carol = x .carol;
@@ -66,9 +66,9 @@ withConfirmed entry b x =
       pool = x .pool;
       block = x .block;
       confirmed = entry;
-      madea = x .madea;
-      madeb = x .madeb;
-      madec = x .madec;
+      «alice_made» = x .«alice_made»;
+      «bob_made» = x .«bob_made»;
+      «carol_made» = x .«carol_made»;
       alice = x .alice;
       bob = x .bob;
       carol = x .carol;
@@ -87,9 +87,9 @@ withShared destination mask x =
       pool = x .pool;
       block = x .block;
       confirmed = x .confirmed;
-      madea = x .madea;
-      madeb = x .madeb;
-      madec = x .madec;
+      «alice_made» = x .«alice_made»;
+      «bob_made» = x .«bob_made»;
+      «carol_made» = x .«carol_made»;
       alice = pick (eqb destination alice) (bitOr (x .alice) mask) (x .alice);
       bob = pick (eqb destination bob) (bitOr (x .bob) mask) (x .bob);
       carol = pick (eqb destination carol) (bitOr (x .carol) mask) (x .carol);
@@ -103,7 +103,7 @@ sharedAny x = unionBelow destinations (sharedFor x)
 
 -- "the shares it has made": a party's, a bit for each destination
 unfoldable pub marksOf : Slot → ℕ → ℕ
-marksOf x party = pick (eqb party alice) (x .madea) (pick (eqb party bob) (x .madeb) (pick (eqb party carol) (x .madec) 0))
+marksOf x party = pick (eqb party alice) (x .«alice_made») (pick (eqb party bob) (x .«bob_made») (pick (eqb party carol) (x .«carol_made») 0))
 
 -- "this party has shared this before for this destination"
 unfoldable pub markedFor : Slot → ℕ → ℕ → Bool
@@ -116,9 +116,9 @@ withMark party destination x =
       pool = x .pool;
       block = x .block;
       confirmed = x .confirmed;
-      madea = pick (eqb party alice) (bitOr (x .madea) (2 ^ destination)) (x .madea);
-      madeb = pick (eqb party bob) (bitOr (x .madeb) (2 ^ destination)) (x .madeb);
-      madec = pick (eqb party carol) (bitOr (x .madec) (2 ^ destination)) (x .madec);
+      «alice_made» = pick (eqb party alice) (bitOr (x .«alice_made») (2 ^ destination)) (x .«alice_made»);
+      «bob_made» = pick (eqb party bob) (bitOr (x .«bob_made») (2 ^ destination)) (x .«bob_made»);
+      «carol_made» = pick (eqb party carol) (bitOr (x .«carol_made») (2 ^ destination)) (x .«carol_made»);
       alice = x .alice;
       bob = x .bob;
       carol = x .carol;

@@ -8,20 +8,20 @@ ghost use Rattle.slots.specs.Ancestry.{inAncestry};
 ghost use Rattle.slots.specs.Forms.Line.{lineSet};
 
 // Whether a transaction of t's line is in the set.
-pub fn in_ancestry(sheet: &[u8], there: u32, t: usize) -> bool
+pub fn in_ancestry(sheet: &[u8], members: u32, t: usize) -> bool
     requires { ⌜ Sized (now sheet) ⌝ }
     requires { ⌜ t < count (now sheet) ⌝ }
-    ensures { λ r. ⌜ r ≡ inAncestry (now (sheet .entry)) (bit there) t ⌝ }
+    ensures { λ r. ⌜ r ≡ inAncestry (now (sheet .entry)) (bit members) t ⌝ }
 {
-    if there == 0 {
+    if members == 0 {
         return false;
     }
-    if set::has(there, t) {
+    if set::has(members, t) {
         return true;
     }
     let up = sheet::field::parent(sheet, t);
     if up < t {
-        in_ancestry(sheet, there, up)
+        in_ancestry(sheet, members, up)
     } else {
         false
     }

@@ -14,50 +14,50 @@ ghost use Rattle.slots.specs.Forms.Conflict.{foundIn};
 ghost use Rattle.sheet.specs.Forms.Parents.{isParentBelow, Parents};
 
 // Whether a child of `up` is in the set. Children have higher numbers.
-fn child_in(sheet: &[u8], there: u32, up: usize) -> bool
+fn child_in(sheet: &[u8], members: u32, up: usize) -> bool
     requires { ⌜ Checked (now sheet) ⌝ }
     requires { ⌜ up < count (now sheet) ⌝ }
-    ensures { λ r. ⌜ r ≡ isParentBelow (now (sheet .entry)) (bit there) (count (now (sheet .entry))) up ⌝ }
+    ensures { λ r. ⌜ r ≡ isParentBelow (now (sheet .entry)) (bit members) (count (now (sheet .entry))) up ⌝ }
 {
     let n = sheet::field::count(sheet);
-    let mut k = next::next(there, up + 1, n);
+    let mut k = next::next(members, up + 1, n);
     while k < n {
         if sheet::field::parent(sheet, k) == up {
             return true;
         }
-        k = next::next(there, k + 1, n);
+        k = next::next(members, k + 1, n);
     }
     false
 }
 
 // Whether a rival of t is in the set. An opening rivals only itself.
-pub fn conflict_in(sheet: &[u8], there: u32, t: usize) -> bool
+pub fn conflict_in(sheet: &[u8], members: u32, t: usize) -> bool
     requires { ⌜ Checked (now sheet) ⌝ }
     requires { ⌜ t < count (now sheet) ⌝ }
-    ensures { λ r. ⌜ r ≡ conflictIn (now (sheet .entry)) (bit there) t ⌝ }
+    ensures { λ r. ⌜ r ≡ conflictIn (now (sheet .entry)) (bit members) t ⌝ }
 {
     if sheet::field::opening(sheet, t) {
-        return set::has(there, t);
+        return set::has(members, t);
     }
-    child_in(sheet, there, sheet::field::parent(sheet, t))
+    child_in(sheet, members, sheet::field::parent(sheet, t))
 }
 
 // Whether a rival of t but t itself is in the set.
-fn other_conflict_in(sheet: &[u8], there: u32, t: usize) -> bool
+fn other_conflict_in(sheet: &[u8], members: u32, t: usize) -> bool
     requires { ⌜ Checked (now sheet) ⌝ }
     requires { ⌜ t < count (now sheet) ⌝ }
-    ensures { λ r. ⌜ r ≡ otherConflictIn (now (sheet .entry)) (bit there) t ⌝ }
+    ensures { λ r. ⌜ r ≡ otherConflictIn (now (sheet .entry)) (bit members) t ⌝ }
 {
-    conflict_in(sheet, set::remove(there, t), t)
+    conflict_in(sheet, set::remove(members, t), t)
 }
 
 // Whether a rival of t is in the set, t itself not being there, where `parents` are those of its members. An opening rivals only itself.
-fn conflict_by(sheet: &[u8], there: u32, parents: u32, t: usize) -> bool
+fn conflict_by(sheet: &[u8], members: u32, parents: u32, t: usize) -> bool
     requires { ⌜ Checked (now sheet) ⌝ }
     requires { ⌜ t < count (now sheet) ⌝ }
-    requires { ⌜ Parents (now sheet) (bit there) (count (now sheet)) parents ⌝ }
-    requires { ⌜ bit there t ≡ false ⌝ }
-    ensures { λ r. ⌜ r ≡ conflictIn (now (sheet .entry)) (bit there) t ⌝ }
+    requires { ⌜ Parents (now sheet) (bit members) (count (now sheet)) parents ⌝ }
+    requires { ⌜ bit members t ≡ false ⌝ }
+    ensures { λ r. ⌜ r ≡ conflictIn (now (sheet .entry)) (bit members) t ⌝ }
 {
     let up = sheet::field::parent(sheet, t);
     if up < 32 {
@@ -67,35 +67,35 @@ fn conflict_by(sheet: &[u8], there: u32, parents: u32, t: usize) -> bool
 }
 
 // Whether a rival of t, or with `others` a rival but t itself, is in the set, where `parents` are those of its members.
-fn found_by(sheet: &[u8], there: u32, parents: u32, others: bool, t: usize) -> bool
+fn found_by(sheet: &[u8], members: u32, parents: u32, others: bool, t: usize) -> bool
     requires { ⌜ Checked (now sheet) ⌝ }
     requires { ⌜ t < count (now sheet) ⌝ }
-    requires { ⌜ Parents (now sheet) (bit there) (count (now sheet)) parents ⌝ }
-    ensures { λ r. ⌜ r ≡ foundIn (now (sheet .entry)) (bit there) others t ⌝ }
+    requires { ⌜ Parents (now sheet) (bit members) (count (now sheet)) parents ⌝ }
+    ensures { λ r. ⌜ r ≡ foundIn (now (sheet .entry)) (bit members) others t ⌝ }
 {
-    if !set::has(there, t) {
-        return conflict_by(sheet, there, parents, t);
+    if !set::has(members, t) {
+        return conflict_by(sheet, members, parents, t);
     }
     if others {
-        return other_conflict_in(sheet, there, t);
+        return other_conflict_in(sheet, members, t);
     }
     true
 }
 
 // The transactions that have a rival in the set, or with `others` a rival but themselves.
-pub fn conflicts_of(sheet: &[u8], there: u32, others: bool) -> u32
+pub fn conflicts_of(sheet: &[u8], members: u32, others: bool) -> u32
     requires { ⌜ Checked (now sheet) ⌝ }
-    ensures { λ r. ⌜ r ≡ setBelow (count (now (sheet .entry))) (foundIn (now (sheet .entry)) (bit there) others) ⌝ }
+    ensures { λ r. ⌜ r ≡ setBelow (count (now (sheet .entry))) (foundIn (now (sheet .entry)) (bit members) others) ⌝ }
 {
-    if there == 0 {
+    if members == 0 {
         return 0;
     }
-    let parents = parents::parents_of(sheet, there);
+    let parents = parents::parents_of(sheet, members);
     let n = sheet::field::count(sheet);
     let mut found: u32 = 0;
     let mut t: usize = 0;
     while t < n {
-        found = set::join(found, found_by(sheet, there, parents, others, t), t);
+        found = set::join(found, found_by(sheet, members, parents, others, t), t);
         t += 1;
     }
     found

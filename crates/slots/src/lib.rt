@@ -5,9 +5,9 @@ ghost use Rattle.slots.specs.Slot.{withPool, withBlock, withConfirmed, s
 
 pub mod ancestry;
 pub mod conflict;
-pub mod contested;
 pub mod deadline;
-pub mod limited;
+pub mod expiring;
+pub mod has_conflicts;
 pub mod lock_height;
 pub mod next;
 pub mod party;
@@ -40,9 +40,9 @@ pub struct Slot {
     pub block: u8,
     pub confirmed: u8,
     // the shares made by Alice, by Bob and by Carol: a bit for each destination
-    pub madea: u8,
-    pub madeb: u8,
-    pub madec: u8,
+    pub alice_made: u8,
+    pub bob_made: u8,
+    pub carol_made: u8,
     // the signatures shared for each destination
     pub alice: u8,
     pub bob: u8,
@@ -128,13 +128,13 @@ impl Slot {
         ensures { λ r. ⌜ r ≡ marksOf self party ⌝ }
     {
         if party == 0 {
-            return self.madea;
+            return self.alice_made;
         }
         if party == 1 {
-            return self.madeb;
+            return self.bob_made;
         }
         if party == 3 {
-            return self.madec;
+            return self.carol_made;
         }
         0
     }
@@ -153,15 +153,15 @@ impl Slot {
         ensures { λ r. ⌜ r ≡ withMark party destination self ⌝ }
     {
         if party == 0 {
-            self.madea = self.madea | (1u8 << destination);
+            self.alice_made = self.alice_made | (1u8 << destination);
             return self;
         }
         if party == 1 {
-            self.madeb = self.madeb | (1u8 << destination);
+            self.bob_made = self.bob_made | (1u8 << destination);
             return self;
         }
         if party == 3 {
-            self.madec = self.madec | (1u8 << destination);
+            self.carol_made = self.carol_made | (1u8 << destination);
         }
         self
     }

@@ -114,11 +114,11 @@ module _ (s : List ℕ) (mined : ℕ) where
           shared = w .shared;
           marks = λ k.
               picked-has (MaskOf destinations) (eqb k alice)
-              (grown destinations (eqb party alice) (x .madea) (2 ^ to) (w .marks alice) (pow-lt h))
+              (grown destinations (eqb party alice) (x .«alice_made») (2 ^ to) (w .marks alice) (pow-lt h))
               (picked-has (MaskOf destinations) (eqb k bob)
-              (grown destinations (eqb party bob) (x .madeb) (2 ^ to) (w .marks bob) (pow-lt h))
+              (grown destinations (eqb party bob) (x .«bob_made») (2 ^ to) (w .marks bob) (pow-lt h))
               (picked-has (MaskOf destinations) (eqb k carol)
-              (grown destinations (eqb party carol) (x .madec) (2 ^ to) (w .marks carol) (pow-lt h))
+              (grown destinations (eqb party carol) (x .«carol_made») (2 ^ to) (w .marks carol) (pow-lt h))
               (pow-pos destinations)));
         }
 

@@ -33,10 +33,10 @@ use Rattle.position.specs.Play.{FourBytes, journalSteps, decodeBytes, callTests
 
 -- what kinds 3 and 4 share: 16 before 17
 unfoldable pub olderSendTests : Bool → List ℕ → List ℕ → Position → (ℕ → Bool) → ℕ → ℕ → ℕ → List (ℕ × Bool)
-olderSendTests allowed s u p there party t destination =
+olderSendTests allowed s u p members party t destination =
     (stepConduct, allowed)
-    ∷ (stepConflict, noConflict s there t)
-    ∷ (stepParent, hasParent s there t)
+    ∷ (stepConflict, noConflict s members t)
+    ∷ (stepParent, hasParent s members t)
     ∷ (stepSignatures, signed s (senderHas s p party t destination) t)
     ∷ (stepLock, leb (lockHeightIn s u p t) (p .mined))
     ∷ []

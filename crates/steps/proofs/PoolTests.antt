@@ -5,22 +5,22 @@ use Rattle.laws.specs.Failing.{firstFailing, failed-append, passed-append}
 use Rattle.sheet.specs.Refusal.{stepDeadline}
 use Rattle.sheet.specs.Setup.{perDay}
 use Rattle.slots.specs.declared.Slot.{Slot}
-use Rattle.slots.specs.Forms.Limited.{deadlineBy}
+use Rattle.slots.specs.Forms.Expiring.{deadlineBy}
 use Rattle.steps.specs.declared.View.{View}
 use Rattle.steps.specs.Forms.View.{sentSet, senderIn}
 use Rattle.steps.specs.Forms.Sending.{sendTestsIn, poolTestsIn}
 
-module _ (allowed : Bool) (s u : List ℕ) (v : View) (x : Slot) (since party t destination d there have r : ℕ)
-    (per-day : d ≡ perDay u) (sent : there ≡ sentSet v) (sender : have ≡ senderIn s v x party destination)
-    (first : r ≡ firstFailing (sendTestsIn allowed s d there have since (v .mined) t)) where
+module _ (allowed : Bool) (s u : List ℕ) (v : View) (x : Slot) (since party t destination d members have r : ℕ)
+    (per-day : d ≡ perDay u) (sent : members ≡ sentSet v) (sender : have ≡ senderIn s v x party destination)
+    (first : r ≡ firstFailing (sendTestsIn allowed s d members have since (v .mined) t)) where
   pub pool-failed : (r ≡ 0 → ⊥) → r ≡ firstFailing (poolTestsIn allowed s u v x since party t destination)
   unfolding poolTestsIn
   pool-failed h =
       rw (← per-day, ← sent, ← sender)
-      (first ∙ sym (failed-append (sendTestsIn allowed s d there have since (v .mined) t) ((stepDeadline, ltb (v .mined) (deadlineBy s d (v .limited) since t)) ∷ []) (λ z. h (first ∙ z))))
+      (first ∙ sym (failed-append (sendTestsIn allowed s d members have since (v .mined) t) ((stepDeadline, ltb (v .mined) (deadlineBy s d (v .expiring) since t)) ∷ []) (λ z. h (first ∙ z))))
 
-  pub pool-passed : (b : ℕ) → r ≡ 0 → b ≡ firstFailing ((stepDeadline, ltb (v .mined) (deadlineBy s d (v .limited) since t)) ∷ []) → b ≡ firstFailing (poolTestsIn allowed s u v x since party t destination)
+  pub pool-passed : (b : ℕ) → r ≡ 0 → b ≡ firstFailing ((stepDeadline, ltb (v .mined) (deadlineBy s d (v .expiring) since t)) ∷ []) → b ≡ firstFailing (poolTestsIn allowed s u v x since party t destination)
   unfolding poolTestsIn sendTestsIn
   pool-passed b z h =
       rw (← per-day, ← sent, ← sender)
-      (h ∙ sym (passed-append (sendTestsIn allowed s d there have since (v .mined) t) ((stepDeadline, ltb (v .mined) (deadlineBy s d (v .limited) since t)) ∷ []) refl (sym first ∙ z)))
+      (h ∙ sym (passed-append (sendTestsIn allowed s d members have since (v .mined) t) ((stepDeadline, ltb (v .mined) (deadlineBy s d (v .expiring) since t)) ∷ []) refl (sym first ∙ z)))

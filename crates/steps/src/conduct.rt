@@ -1,5 +1,5 @@
-// Conduct, over an outlook.
-use crate::Outlook;
+// Conduct, over the guards of a position.
+use crate::Guards;
 use crate::names::LOCK_A;
 use crate::names::NO_TRANSACTION;
 use crate::names::REFUND_1;
@@ -47,7 +47,7 @@ fn may_send(phase: u8, party: u8, t: usize) -> bool
     false
 }
 
-impl Outlook {
+impl Guards {
     // Alice's share of success.
     fn alice_shares(self, t: u8) -> bool
         ensures { λ r. ⌜ r ≡ aliceSharesIn self t ⌝ }
@@ -100,10 +100,10 @@ impl Outlook {
         if i != SECRET_BOB {
             return false;
         }
-        if !signatures::has(self.bobhas, SIG_ALICE) {
+        if !signatures::has(self.bob_has, SIG_ALICE) {
             return false;
         }
-        if signatures::has(self.bobhas, SECRET_ALICE) {
+        if signatures::has(self.bob_has, SECRET_ALICE) {
             return false;
         }
         !self.late
@@ -173,16 +173,16 @@ impl Outlook {
         self.safe_to_send(sheet, party, t)
     }
 
-    // Whether a party may send t, where `back` says that it sends no contract transaction.
-    pub fn send_held(self, sheet: &[u8], back: bool, party: u8, t: usize) -> bool
+    // Whether a party may send t, where `paying` says that it sends no contract transaction.
+    pub fn send_held(self, sheet: &[u8], paying: bool, party: u8, t: usize) -> bool
         requires { ⌜ Sized (now sheet) ⌝ }
         requires { ⌜ t < count (now sheet) ⌝ }
-        ensures { λ r. ⌜ r ≡ sendHeldIn (now (sheet .entry)) self back party t ⌝ }
+        ensures { λ r. ⌜ r ≡ sendHeldIn (now (sheet .entry)) self paying party t ⌝ }
     {
         if !self.send_allowed(sheet, party, t) {
             return false;
         }
-        if !back {
+        if !paying {
             return true;
         }
         !party::is_contract(sheet, t)

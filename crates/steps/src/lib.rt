@@ -30,7 +30,7 @@ pub struct View {
     pub pool: u32,
     pub block: u32,
     pub confirmed: u32,
-    pub limited: u32,
+    pub expiring: u32,
     pub mined: u16,
     pub shared: u8,
     // by party number, as in a position
@@ -38,7 +38,7 @@ pub struct View {
 }
 
 // What conduct reads off a position.
-pub struct Outlook {
+pub struct Guards {
     // open conduct: nothing below is asked for
     pub free: bool,
     pub careful: bool,
@@ -51,7 +51,7 @@ pub struct Outlook {
     // Alice holds secretBob
     pub knows: bool,
     // what Bob has for success
-    pub bobhas: u8,
+    pub bob_has: u8,
 }
 
 impl View {
@@ -65,7 +65,7 @@ impl View {
             pool: sheet::set::join(self.pool, 0 < x.pool, k),
             block: sheet::set::join(self.block, 0 < x.block, k),
             confirmed: sheet::set::join(self.confirmed, 0 < x.height, k),
-            limited: self.limited,
+            expiring: self.expiring,
             mined: self.mined,
             shared: self.shared | x.shared_any(),
             keys,
@@ -83,7 +83,7 @@ impl View {
             pool: sheet::set::join(pool, 0 < x.pool, k),
             block: sheet::set::join(block, 0 < x.block, k),
             confirmed: sheet::set::join(self.confirmed, 0 < x.height, k),
-            limited: self.limited,
+            expiring: self.expiring,
             mined,
             shared: self.shared | x.shared_any(),
             keys,
@@ -98,7 +98,7 @@ impl View {
             pool: self.pool,
             block: self.block,
             confirmed: self.confirmed,
-            limited: self.limited,
+            expiring: self.expiring,
             mined,
             shared: self.shared,
             keys,

@@ -4,32 +4,32 @@ use sheet::set;
 use slots::Slot;
 use slots::ancestry;
 use slots::conflict;
-use slots::contested;
+use slots::has_conflicts;
 use slots::signatures;
 ghost use Prim.Native.Nat.{_<_};
 ghost use mathlib.Core.Path.{_≡_};
 ghost use Rattle.sheet.specs.Field.{count, Sized};
 ghost use Rattle.sheet.specs.Checked.{Checked};
 ghost use Rattle.steps.specs.Mined.{confirmEntry};
-ghost use Rattle.steps.specs.Forms.Blocks.{struckIn, touchedIn, minedSlot};
+ghost use Rattle.steps.specs.Forms.Blocks.{conflictedIn, affectedIn, minedSlot};
 
 // Those with another rival in the block. None is asked for where the whole pool is in the block, or no entry has a rival.
-pub fn struck(sheet: &[u8], view: View) -> u32
+pub fn conflicted(sheet: &[u8], view: View) -> u32
     requires { ⌜ Checked (now sheet) ⌝ }
-    ensures { λ r. ⌜ r ≡ struckIn (now (sheet .entry)) view ⌝ }
+    ensures { λ r. ⌜ r ≡ conflictedIn (now (sheet .entry)) view ⌝ }
 {
     if view.pool | view.block == view.block {
         return 0;
     }
-    if !contested::contested(sheet, view.block) {
+    if !has_conflicts::has_conflicts(sheet, view.block) {
         return 0;
     }
     conflict::conflicts_of(sheet, view.block, true)
 }
 
-// The slots that a mined block may change: its entries', and where somebody is struck those of what waits too.
-pub fn touched(view: View, leaving: u32) -> u32
-    ensures { λ r. ⌜ r ≡ touchedIn view leaving ⌝ }
+// The slots that a mined block may change: its entries', and where somebody is conflicted those of what waits too.
+pub fn affected(view: View, leaving: u32) -> u32
+    ensures { λ r. ⌜ r ≡ affectedIn view leaving ⌝ }
 {
     if leaving == 0 {
         return view.block;

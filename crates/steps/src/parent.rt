@@ -8,17 +8,17 @@ ghost use Rattle.slots.specs.Ancestry.{hasParent};
 ghost use Rattle.steps.specs.Forms.Parent.{slotAbove, blockAbove};
 
 // Whether the set has the parent of t; an opening has none to ask for.
-pub fn parent_there(sheet: &[u8], there: u32, t: usize) -> bool
+pub fn parent_there(sheet: &[u8], members: u32, t: usize) -> bool
     requires { ⌜ Sized (now sheet) ⌝ }
     requires { ⌜ t < count (now sheet) ⌝ }
-    ensures { λ r. ⌜ r ≡ hasParent (now (sheet .entry)) (bit there) t ⌝ }
+    ensures { λ r. ⌜ r ≡ hasParent (now (sheet .entry)) (bit members) t ⌝ }
 {
     if sheet::field::opening(sheet, t) {
         return true;
     }
     let up = sheet::field::parent(sheet, t);
     if up < 32 {
-        return set::has(there, up);
+        return set::has(members, up);
     }
     false
 }

@@ -1,11 +1,11 @@
 // The tests of kinds 3 and 4, over a view, the slot x of the transaction and `since`, its parent's block.
-use crate::Outlook;
+use crate::Guards;
 use crate::View;
 use crate::parent;
 use sheet::refusal;
 use slots::Slot;
 use slots::conflict;
-use slots::limited;
+use slots::expiring;
 use slots::lock_height;
 use slots::party;
 use slots::signatures;
@@ -16,7 +16,7 @@ ghost use Rattle.laws.specs.Failing.{firstFailing};
 ghost use Rattle.sheet.specs.Field.{count, Sized};
 ghost use Rattle.sheet.specs.LockHeight.{lockHeight};
 ghost use Rattle.sheet.specs.Checked.{Checked, Fit};
-ghost use Rattle.slots.specs.Forms.Limited.{deadlineBy};
+ghost use Rattle.slots.specs.Forms.Expiring.{deadlineBy};
 ghost use Rattle.slots.specs.Slot.{entryFor, withPool, withShared};
 ghost use Rattle.slots.specs.Signatures.{exposedMask};
 ghost use Rattle.steps.specs.Forms.View.{sentSet, placedSet, keysIn, senderIn};
@@ -68,13 +68,13 @@ fn unlocked(sheet: &[u8], per_day: u16, since: u16, mined: u16, t: usize) -> boo
     lock_height::lock_height(sheet, per_day, since, t) < lock_height::wide(mined) + 1
 }
 
-// Whether the deadline of t is ahead, where `limited` are those that can have one.
-fn in_time(sheet: &[u8], per_day: u16, limited: u32, since: u16, mined: u16, t: usize) -> bool
+// Whether the deadline of t is ahead, where `expiring` are those that can have one.
+fn in_time(sheet: &[u8], per_day: u16, expiring: u32, since: u16, mined: u16, t: usize) -> bool
     requires { ⌜ Sized (now sheet) ⌝ }
     requires { ⌜ t < count (now sheet) ⌝ }
-    ensures { λ r. ⌜ r ≡ ltb mined (deadlineBy (now (sheet .entry)) «per_day» limited since t) ⌝ }
+    ensures { λ r. ⌜ r ≡ ltb mined (deadlineBy (now (sheet .entry)) «per_day» expiring since t) ⌝ }
 {
-    lock_height::wide(mined) < limited::deadline_by(sheet, per_day, limited, since, t)
+    lock_height::wide(mined) < expiring::deadline_by(sheet, per_day, expiring, since, t)
 }
 
 // The first that fails of the tests that kinds 3 and 4 share, the lock before the signatures.
@@ -82,7 +82,7 @@ fn send_refusal(
     sheet: &[u8],
     per_day: u16,
     allowed: bool,
-    there: u32,
+    members: u32,
     have: u8,
     since: u16,
     mined: u16,
@@ -90,15 +90,15 @@ fn send_refusal(
 ) -> u32
     requires { ⌜ Checked (now sheet) ⌝ }
     requires { ⌜ t < count (now sheet) ⌝ }
-    ensures { λ r. ⌜ r ≡ firstFailing (sendTestsIn allowed (now (sheet .entry)) «per_day» there have since mined t) ⌝ }
+    ensures { λ r. ⌜ r ≡ firstFailing (sendTestsIn allowed (now (sheet .entry)) «per_day» members have since mined t) ⌝ }
 {
     if !allowed {
         return refusal::STEP_CONDUCT;
     }
-    if conflict::conflict_in(sheet, there, t) {
+    if conflict::conflict_in(sheet, members, t) {
         return refusal::STEP_CONFLICT;
     }
-    if !parent::parent_there(sheet, there, t) {
+    if !parent::parent_there(sheet, members, t) {
         return refusal::STEP_PARENT;
     }
     if !unlocked(sheet, per_day, since, mined, t) {
@@ -141,7 +141,7 @@ pub fn pool_refusal(
     if first != 0 {
         return first;
     }
-    if !in_time(sheet, per_day, view.limited, since, view.mined, t) {
+    if !in_time(sheet, per_day, view.expiring, since, view.mined, t) {
         return refusal::STEP_DEADLINE;
     }
     refusal::ACCEPTED
@@ -196,7 +196,7 @@ pub fn pays(
     sheet: &[u8],
     setup: &[u8],
     view: View,
-    o: Outlook,
+    o: Guards,
     x: Slot,
     since: u16,
     party: u8,

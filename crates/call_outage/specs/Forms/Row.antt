@@ -1,4 +1,4 @@
--- A row over what is read once: a view, the set `struck` of those whose other rival is confirmed, a table of soonest blocks and one of
+-- A row over what is read once: a view, the set `conflicted` of those whose other rival is confirmed, a table of soonest blocks and one of
 -- lines; and `since`, the block of t's parent.
 -- Assumes nothing.
 use Prim.Native.Nat.{ℕ}
@@ -33,7 +33,7 @@ payeesIn s lines t = unionBelow (count s) (λ k. pick (bit (getD lines k 0) t) (
 
 -- verdict, payees, soonest block, soonest deadline
 unfoldable pub rowIn : List ℕ → List ℕ → View → ℕ → List ℕ → List ℕ → ℕ → ℕ → ℕ → List ℕ
-rowIn s u v struck soonest lines since blocks t =
-    let dead = deadIn s (v .confirmed) struck t in
+rowIn s u v conflicted soonest lines since blocks t =
+    let dead = deadIn s (v .confirmed) conflicted t in
     let deadline = deadlineOver s (perDay u) since (tableAbove s soonest t) t in
     verdictIn s u v dead blocks t deadline ∷ payeesIn s lines t ∷ (bytesOf 4 (pick dead never (getD soonest t 0)) ++ bytesOf 4 deadline)

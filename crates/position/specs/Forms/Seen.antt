@@ -9,7 +9,7 @@ use lib.Dec.{eqb, ltb}
 use Rattle.laws.specs.Booleans.{pick}
 use Rattle.steps.specs.declared.View.{View}
 use Rattle.steps.specs.Forms.View.{viewWith}
-use Rattle.steps.specs.Forms.Blocks.{struckIn, touchedIn}
+use Rattle.steps.specs.Forms.Blocks.{conflictedIn, affectedIn}
 use Rattle.position.specs.declared.Position.{Position}
 use Rattle.position.specs.Position.{slot}
 use Rattle.position.specs.Forms.FirstShares.{bobFirst}
@@ -24,8 +24,8 @@ changedSet v kind t =
     (pick (ltb t 32) (2 ^ t) bobFirst)))
 
 -- of these, those that a mined block may have changed, or all
-unfoldable pub narrowedSet : List ℕ → View → ℕ → ℕ → ℕ
-narrowedSet s v kind there = pick (eqb kind 6) (touchedIn v (struckIn s v)) there
+unfoldable pub refinedSet : List ℕ → View → ℕ → ℕ → ℕ
+refinedSet s v kind members = pick (eqb kind 6) (affectedIn v (conflictedIn s v)) members
 
 -- the least member of a set, 0 where it has none
 unfoldable pub lowest : ℕ → ℕ
@@ -33,12 +33,12 @@ lowest m = pick (ltb (trailingZeros 32 m) 32) (trailingZeros 32 m) 0
 
 -- what a view keeps over a step to q that moves entries of a set: the entries outside it, and the blocks mined and keys held then
 unfoldable pub viewKept : View → ℕ → Position → View
-viewKept v there q =
+viewKept v members q =
     record {
-      pool = bitAnd (v .pool) (4294967295 - there);
-      block = bitAnd (v .block) (4294967295 - there);
+      pool = bitAnd (v .pool) (4294967295 - members);
+      block = bitAnd (v .block) (4294967295 - members);
       confirmed = v .confirmed;
-      limited = v .limited;
+      expiring = v .expiring;
       mined = q .mined;
       shared = v .shared;
       keys = q .keys;

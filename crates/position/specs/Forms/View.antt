@@ -5,7 +5,7 @@ use mathlib.Core.List.{List}
 use Rattle.laws.specs.Mask.{unionBelow}
 use Rattle.laws.specs.Sets.{setBelow}
 use Rattle.slots.specs.Slot.{sharedAny}
-use Rattle.slots.specs.Forms.Limited.{limitedSet}
+use Rattle.slots.specs.Forms.Expiring.{expiringSet}
 use Rattle.steps.specs.declared.View.{View}
 use Rattle.steps.specs.Forms.Parent.{slotAbove, blockAbove}
 use Rattle.position.specs.declared.Position.{Position}
@@ -18,7 +18,7 @@ viewBelow s n p =
       pool = setBelow n (inPool p);
       block = setBelow n (inBlock p);
       confirmed = setBelow n (isConfirmed p);
-      limited = limitedSet s;
+      expiring = expiringSet s;
       mined = p .mined;
       shared = unionBelow n (λ k. sharedAny (slot p k));
       keys = p .keys;

@@ -14,9 +14,9 @@ use Rattle.sheet.specs.Refusal.{accepted}
 use Rattle.sheet.specs.Field.{count}
 use Rattle.slots.specs.Destination.{destinations, placeOf, isParty}
 use Rattle.output.specs.Forms.Emitted.{places}
-use Rattle.readings.specs.declared.Sight.{Sight}
+use Rattle.readings.specs.declared.Context.{Context}
 use Rattle.steps.specs.declared.View.{View}
-use Rattle.steps.specs.declared.Outlook.{Outlook}
+use Rattle.steps.specs.declared.Guards.{Guards}
 use Rattle.steps.specs.declared.Decoded.{Decoded}
 use Rattle.steps.specs.declared.Decoded.the-variants.{Read, Refused}
 use Rattle.steps.specs.Decode.{noTransaction, decode}
@@ -26,7 +26,7 @@ use Rattle.position.specs.Position.{slotCount}
 use Rattle.position.specs.FirstShares.{firstSharesMade}
 use Rattle.position.specs.Owed.{anyOwed}
 use Rattle.position.specs.Conduct.{isCareful, canPay}
-use Rattle.position.specs.Forms.Outlook.{outlook}
+use Rattle.position.specs.Forms.Guards.{guards}
 use Rattle.position.specs.Forms.View.{viewBelow}
 use Rattle.position.specs.StepRefusal.{stepRefusal}
 use Rattle.position.specs.Open.{kinds}
@@ -64,20 +64,20 @@ unfoldable pub openSets : List ℕ → List ℕ → Position → ℕ → OpenSet
 openSets s u p actor = record { below = belowSets s u p actor; last = lastSet s u p actor }
 
 -- a careful party that can send a transaction that pays it, and so "sends no contract one"
-unfoldable pub keptBack : List ℕ → List ℕ → Position → ℕ → Bool
-keptBack s u p actor = isParty s actor && (isCareful u && canPay s u p actor)
+unfoldable pub isPaying : List ℕ → List ℕ → Position → ℕ → Bool
+isPaying s u p actor = isParty s actor && (isCareful u && canPay s u p actor)
 
 -- what is the same for all steps of an actor
-unfoldable pub sightOf : List ℕ → List ℕ → Position → ℕ → Sight
-sightOf s u p actor =
+unfoldable pub contextOf : List ℕ → List ℕ → Position → ℕ → Context
+contextOf s u p actor =
     record {
       view = viewBelow s (count s) p;
-      outlook = outlook s u p;
-      back = keptBack s u p actor;
+      guards = guards s u p;
+      paying = isPaying s u p actor;
       owed = anyOwed s u p;
       made = firstSharesMade p actor;
     }
 
 -- no transaction and no signature is tested for the actor: a party in phase 0, another while the pool is empty
-unfoldable pub isIdle : List ℕ → View → Outlook → ℕ → Bool
+unfoldable pub isIdle : List ℕ → View → Guards → ℕ → Bool
 isIdle s v o actor = pick (isParty s actor) (not (o .free) && eqb (o .phase) 0) (eqb (v .pool) 0)

@@ -14,14 +14,14 @@ use Rattle.slots.specs.Deadline.{deadline}
 use Rattle.steps.specs.declared.View.{View}
 use Rattle.readings.specs.declared.Row.{Row}
 
--- "Dead": where `struck` has those whose other rival is confirmed
+-- "Dead": where `conflicted` has those whose other rival is confirmed
 unfoldable pub deadIn : List ℕ → ℕ → ℕ → ℕ → Bool
-deadIn s confirmed struck t = not (bit confirmed t) && inAncestry s (bit struck) t
+deadIn s confirmed conflicted t = not (bit confirmed t) && inAncestry s (bit conflicted) t
 
 -- "status (1 pool, 2 block, 4 confirmed, 8 dead, summed)"
 unfoldable pub statusIn : List ℕ → View → ℕ → ℕ → ℕ
-statusIn s v struck t =
-    pick (bit (v .pool) t) 1 0 + pick (bit (v .block) t) 2 0 + pick (bit (v .confirmed) t) 4 0 + pick (deadIn s (v .confirmed) struck t) 8 0
+statusIn s v conflicted t =
+    pick (bit (v .pool) t) 1 0 + pick (bit (v .block) t) 2 0 + pick (bit (v .confirmed) t) 4 0 + pick (deadIn s (v .confirmed) conflicted t) 8 0
 
 -- "payee (destination, 255 unconfirmed)"
 unfoldable pub payeeIn : Slot → ℕ
@@ -29,11 +29,11 @@ payeeIn x = pick (ltb 0 (x .height)) (entryTo (x .confirmed)) 255
 
 -- the row of t
 unfoldable pub rowIn : List ℕ → ℕ → View → ℕ → Slot → ℕ → ℕ → Row
-rowIn s d v struck x since t =
+rowIn s d v conflicted x since t =
     record {
       block = x .height;
       lock = lockHeight s d (λ k. since) t;
       deadline = deadline s d (λ k. since) t;
-      status = statusIn s v struck t;
+      status = statusIn s v conflicted t;
       payee = payeeIn x;
     }

@@ -20,12 +20,12 @@ use Rattle.steps.specs.declared.View.{View}
 use Rattle.steps.specs.Mined.{confirmEntry}
 
 -- those with another rival among the block's entries; none where the whole pool is in the block, since there nobody else leaves
-unfoldable pub struckIn : List ℕ → View → ℕ
-struckIn s v = pick (eqb (bitOr (v .pool) (v .block)) (v .block)) 0 (setBelow (count s) (foundIn s (bit (v .block)) true))
+unfoldable pub conflictedIn : List ℕ → View → ℕ
+conflictedIn s v = pick (eqb (bitOr (v .pool) (v .block)) (v .block)) 0 (setBelow (count s) (foundIn s (bit (v .block)) true))
 
--- the slots that a mined block may change: its entries', and where somebody is struck those of what waits too
-unfoldable pub touchedIn : View → ℕ → ℕ
-touchedIn v leaving = pick (eqb leaving 0) (v .block) (bitOr (v .pool) (v .block))
+-- the slots that a mined block may change: its entries', and where somebody is conflicted those of what waits too
+unfoldable pub affectedIn : View → ℕ → ℕ
+affectedIn v leaving = pick (eqb leaving 0) (v .block) (bitOr (v .pool) (v .block))
 
 -- confirmed in block b if it was in the block, out of the pool if it enters the chain or its line meets the set
 unfoldable pub minedSlot : List ℕ → ℕ → ℕ → ℕ → ℕ → Slot → Slot
@@ -40,9 +40,9 @@ bumpedSlot s entering leaving t x =
 unfoldable pub displacedIn : List ℕ → View → ℕ → ℕ
 displacedIn s v entering = pick (eqb (v .block) 0) 0 (setBelow (count s) (foundIn s (bit entering) false))
 
--- the slots of the transactions outside the set `there` stay as they are by f
-pub record Outside (s : List ℕ) (f : ℕ → Slot → Slot) (there : ℕ) (l : List Slot) : Type 0 where
-  pub same : (t : ℕ) → t < count s → bit there t ≡ false → f t (getD l t emptySlot) ≡ getD l t emptySlot
+-- the slots of the transactions outside the set `members` stay as they are by f
+pub record Outside (s : List ℕ) (f : ℕ → Slot → Slot) (members : ℕ) (l : List Slot) : Type 0 where
+  pub same : (t : ℕ) → t < count s → bit members t ≡ false → f t (getD l t emptySlot) ≡ getD l t emptySlot
 
 -- k waits outside the block and is of a line
 unfoldable pub entersIn : View → ℕ → ℕ → Bool

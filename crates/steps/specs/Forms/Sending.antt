@@ -12,18 +12,18 @@ use Rattle.sheet.specs.LockHeight.{lockHeight}
 use Rattle.slots.specs.declared.Slot.{Slot}
 use Rattle.slots.specs.Conflict.{noConflict}
 use Rattle.slots.specs.Ancestry.{hasParent}
-use Rattle.slots.specs.Forms.Limited.{deadlineBy}
+use Rattle.slots.specs.Forms.Expiring.{deadlineBy}
 use Rattle.slots.specs.Destination.{isPayee}
 use Rattle.slots.specs.Signatures.{signed}
 use Rattle.steps.specs.declared.View.{View}
 use Rattle.steps.specs.Forms.View.{sentSet, placedSet, senderIn}
 
--- what kinds 3 and 4 share, against the set `there`, for a sender who has `have`; Slip 3: "The lock is now tested first."
+-- what kinds 3 and 4 share, against the set `members`, for a sender who has `have`; Slip 3: "The lock is now tested first."
 unfoldable pub sendTestsIn : Bool → List ℕ → ℕ → ℕ → ℕ → ℕ → ℕ → ℕ → List (ℕ × Bool)
-sendTestsIn allowed s d there have since mined t =
+sendTestsIn allowed s d members have since mined t =
     (stepConduct, allowed)
-    ∷ (stepConflict, noConflict s (bit there) t)
-    ∷ (stepParent, hasParent s (bit there) t)
+    ∷ (stepConflict, noConflict s (bit members) t)
+    ∷ (stepParent, hasParent s (bit members) t)
     ∷ (stepLock, leb (lockHeight s d (λ k. since) t) mined)
     ∷ (stepSignatures, signed s have t)
     ∷ []
@@ -32,7 +32,7 @@ sendTestsIn allowed s d there have since mined t =
 unfoldable pub poolTestsIn : Bool → List ℕ → List ℕ → View → Slot → ℕ → ℕ → ℕ → ℕ → List (ℕ × Bool)
 poolTestsIn allowed s u v x since party t destination =
     sendTestsIn allowed s (perDay u) (sentSet v) (senderIn s v x party destination) since (v .mined) t
-    ++ ((stepDeadline, ltb (v .mined) (deadlineBy s (perDay u) (v .limited) since t)) ∷ [])
+    ++ ((stepDeadline, ltb (v .mined) (deadlineBy s (perDay u) (v .expiring) since t)) ∷ [])
 
 -- 4 "Hand to miner"
 unfoldable pub minerTestsIn : Bool → List ℕ → List ℕ → View → Slot → ℕ → ℕ → ℕ → ℕ → List (ℕ × Bool)

@@ -7,8 +7,8 @@ use Rattle.call_list.proofs.listing.write_list.Tie as tie
 view-requires : tie.Need-view-requires
 view-requires c κs = c .before .before .before .pre .checked
 
-outlook-requires : tie.Need-outlook-requires
-outlook-requires c κs = let q = c .before .before .before .before .pre in (q, c .view .ensures)
+guards-requires : tie.Need-guards-requires
+guards-requires c κs = let q = c .before .before .before .before .pre in (q, c .view .ensures)
 
 any-owed-requires : tie.Need-any-owed-requires
 any-owed-requires c κs = let q = c .before .before .before .before .before .pre in (q, c .before .view .ensures)
@@ -16,22 +16,22 @@ any-owed-requires c κs = let q = c .before .before .before .before .before .pre
 open-sets-requires : tie.Need-open-sets-requires
 open-sets-requires c κs =
     let q = c .before .before .before .before .before .before .pre in
-    (q, (c .before .before .view .ensures, (c .before .outlook .ensures, c .any-owed .ensures)))
+    (q, (c .before .before .view .ensures, (c .before .guards .ensures, c .any-owed .ensures)))
 
 open-sets-requires-2 : tie.Need-open-sets-requires-2
 open-sets-requires-2 c κs =
     let q = c .before .before .before .before .before .before .before .pre in
-    (q, (c .before .before .before .view .ensures, (c .before .before .outlook .ensures, c .before .any-owed .ensures)))
+    (q, (c .before .before .before .view .ensures, (c .before .before .guards .ensures, c .before .any-owed .ensures)))
 
 open-sets-requires-3 : tie.Need-open-sets-requires-3
 open-sets-requires-3 c κs =
     let q = c .before .before .before .before .before .before .before .before .pre in
-    (q, (c .before .before .before .before .view .ensures, (c .before .before .before .outlook .ensures, c .before .before .any-owed .ensures)))
+    (q, (c .before .before .before .before .view .ensures, (c .before .before .before .guards .ensures, c .before .before .any-owed .ensures)))
 
 open-sets-requires-4 : tie.Need-open-sets-requires-4
 open-sets-requires-4 c κs =
     let q = c .before .before .before .before .before .before .before .before .before .pre in
-    (q, (c .before .before .before .before .before .view .ensures, (c .before .before .before .before .outlook .ensures, c .before .before .before .any-owed .ensures)))
+    (q, (c .before .before .before .before .before .view .ensures, (c .before .before .before .before .guards .ensures, c .before .before .before .any-owed .ensures)))
 
 returns : tie.Need-returns
 returns c = gives-sets _ _ _ _ _ _ _ _ _ _ _ (c .before .before .before .before .before .before .before .open-sets .ensures)
@@ -43,7 +43,7 @@ write-list-spec =
     tie.close
     (tie.spec
     view-requires
-    outlook-requires
+    guards-requires
     any-owed-requires
     open-sets-requires
     open-sets-requires-2

@@ -12,10 +12,10 @@ use Rattle.call_outage.proofs.rows.write_rows.Statement.{statement}
 use Rattle.call_outage.proofs.rows.write_rows.Tie as tie
 
 abbrev Inv-loop : tie.InvT-loop
-Inv-loop sheet setup blocks out₀ position n per-day view struck soonest lines at₀ t₀ out at t = Turns (outageRow sheet setup position blocks) n out₀ out at t
+Inv-loop sheet setup blocks out₀ position n per-day view conflicted soonest lines at₀ t₀ out at t = Turns (outageRow sheet setup position blocks) n out₀ out at t
 
 abbrev μ-loop : tie.MeasureT-loop
-μ-loop sheet setup blocks out₀ position n per-day view struck soonest lines at₀ t₀ out at t = n - t
+μ-loop sheet setup blocks out₀ position n per-day view conflicted soonest lines at₀ t₀ out at t = n - t
 
 loop-holds : tie.Need-loop-holds Inv-loop μ-loop
 loop-holds c =

@@ -12,10 +12,10 @@ use Rattle.position.proofs.Position.after_bump.Statement.{statement}
 use Rattle.position.proofs.Position.after_bump.Tie as tie
 
 abbrev Inv-loop : tie.InvT-loop
-Inv-loop sheet t self₀ entering leaving there n k₀ self k = (k ≤ n) × Rewritten (bumpedSlot sheet entering leaving) k self₀ self
+Inv-loop sheet t self₀ entering leaving members n k₀ self k = (k ≤ n) × Rewritten (bumpedSlot sheet entering leaving) k self₀ self
 
 abbrev μ-loop : tie.MeasureT-loop
-μ-loop sheet t self₀ entering leaving there n k₀ self k = n - k
+μ-loop sheet t self₀ entering leaving members n k₀ self k = n - k
 
 loop-holds : tie.Need-loop-holds Inv-loop μ-loop
 loop-holds c =

@@ -1,6 +1,6 @@
 -- Some transaction pays. None below t does.
 use Rattle.position.specs.Position.{slot}
-use Rattle.position.proofs.Outlooks.{paysAt, pays-turn, pays-found, pays-none}
+use Rattle.position.proofs.Guards.{paysAt, pays-turn, pays-found, pays-none}
 use Rattle.laws.specs.Below.{anyBelow, any-start, any-more}
 use Rattle.laws.specs.Each.{length-of-map}
 use Rattle.laws.proofs.Prelude.{_-_, _≤_, _≡_, sym, _∙_, false, length, needs}
@@ -22,7 +22,7 @@ returns c =
     let c12 = c .before .before .before .before .before .before .before .before .before .before .before .before in
     let l : length (c12 .args .t1 .slots) ≡ 32 = search (length-of-map, c12 .good) in
     let c4 = c .before .before .before .before in let c6 = c4 .before .before in let c8 = c6 .before .before in let c9 = c8 .before in
-    pays-found _ _ _ _ _ _ (c12 .pre .0) l (c12 .pre .1) (c9 .send-outlook .ensures) _ _ (c8 .count .ensures .is) (c6 .loop-test .taken)
+    pays-found _ _ _ _ _ _ (c12 .pre .0) l (c12 .pre .1) (c9 .send-guards .ensures) _ _ (c8 .count .ensures .is) (c6 .loop-test .taken)
     (sym (pays-turn _ _ _ _ _ _ _ _ _ _ (c4 .slot-above .ensures .0) (c .before .before .block-above .ensures)
     (c .before .pays .ensures)) ∙ c .if1 .taken)
 
@@ -37,7 +37,7 @@ returns-2 c =
     let c6 = c .before .before .before .before .before .before in
     let l : length (c6 .args .t1 .slots) ≡ 32 = search (length-of-map, c6 .good) in
     let c3 = c .before .before .before in
-    pays-none _ _ _ _ _ _ (c6 .pre .0) l (c6 .pre .1) (c3 .send-outlook .ensures) _ _ (c .before .before .count .ensures .is) (c .before .loop .inv .0) (c .loop-test .left) (c .before .loop .inv .1)
+    pays-none _ _ _ _ _ _ (c6 .pre .0) l (c6 .pre .1) (c3 .send-guards .ensures) _ _ (c .before .before .count .ensures .is) (c .before .loop .inv .0) (c .loop-test .left) (c .before .loop .inv .1)
 
 pub can-pay-spec : {M : Type 1} → statement M
 can-pay-spec =

@@ -7,13 +7,13 @@ use Rattle.position.proofs.Position.view.Statement.{statement}
 use Rattle.position.proofs.Position.view.Tie as tie
 
 abbrev Inv-loop : tie.InvT-loop
-Inv-loop sheet self n limited v₀ k₀ v k = (k ≤ n) × (v ≡ viewBelow sheet k self)
+Inv-loop sheet self n expiring v₀ k₀ v k = (k ≤ n) × (v ≡ viewBelow sheet k self)
 
 abbrev μ-loop : tie.MeasureT-loop
-μ-loop sheet self n limited v₀ k₀ v k = n - k
+μ-loop sheet self n expiring v₀ k₀ v k = n - k
 
 loop-holds : tie.Need-loop-holds Inv-loop μ-loop
-loop-holds c = (search needs, view-start _ _ _ (c .before .limited .ensures))
+loop-holds c = (search needs, view-start _ _ _ (c .before .expiring .ensures))
 
 loop-again : tie.Need-loop-again Inv-loop μ-loop
 unfolding slot

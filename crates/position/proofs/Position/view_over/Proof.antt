@@ -8,10 +8,10 @@ use Rattle.position.proofs.Position.view_over.Statement.{statement}
 use Rattle.position.proofs.Position.view_over.Tie as tie
 
 abbrev Inv-loop : tie.InvT-loop
-Inv-loop sheet there self n v₀ k₀ v k = (k ≤ n) × (k < n → bit there k ≡ true) × (v ≡ viewJoined k (bit there) self v₀)
+Inv-loop sheet members self n v₀ k₀ v k = (k ≤ n) × (k < n → bit members k ≡ true) × (v ≡ viewJoined k (bit members) self v₀)
 
 abbrev μ-loop : tie.MeasureT-loop
-μ-loop sheet there self n v₀ k₀ v k = n - k
+μ-loop sheet members self n v₀ k₀ v k = n - k
 
 loop-holds : tie.Need-loop-holds Inv-loop μ-loop
 loop-holds c = (c .next .ensures .high, c .next .ensures .here, joined-start _ _ _ _ _ (c .next .ensures))

@@ -6,10 +6,10 @@ use Rattle.queries.proofs.open.below_sets.Statement.{statement}
 use Rattle.queries.proofs.open.below_sets.Tie as tie
 
 abbrev Inv-loop : tie.InvT-loop
-Inv-loop position sheet setup sight goes actor below₀ i₀ below i = (i ≤ 28) × (below ≡ rewriteFirst i (λ j x. openSet sheet setup position actor (j / 4 + 1) (j % 4)) (replicate 28 0)) × (length below ≡ 28)
+Inv-loop position sheet setup context dests actor below₀ i₀ below i = (i ≤ 28) × (below ≡ rewriteFirst i (λ j x. openSet sheet setup position actor (j / 4 + 1) (j % 4)) (replicate 28 0)) × (length below ≡ 28)
 
 abbrev μ-loop : tie.MeasureT-loop
-μ-loop position sheet setup sight goes actor below₀ i₀ below i = 28 - i
+μ-loop position sheet setup context dests actor below₀ i₀ below i = 28 - i
 
 loop-holds : tie.Need-loop-holds Inv-loop μ-loop
 loop-holds c = (search needs, rewrite-start _ _, search needs)

@@ -10,10 +10,10 @@ use Rattle.queries.proofs.open.sheet_set.Statement.{statement}
 use Rattle.queries.proofs.open.sheet_set.Tie as tie
 
 abbrev Inv-loop : tie.InvT-loop
-Inv-loop sheet setup sight actor kind to position n c found₀ t₀ found t = (t ≤ n) × (found ≡ setBelow t (λ j. isOpenStep sheet setup position kind actor j to)) × (t < n → bit c t ≡ true)
+Inv-loop sheet setup context actor kind to position n c found₀ t₀ found t = (t ≤ n) × (found ≡ setBelow t (λ j. isOpenStep sheet setup position kind actor j to)) × (t < n → bit c t ≡ true)
 
 abbrev μ-loop : tie.MeasureT-loop
-μ-loop sheet setup sight actor kind to position n c found₀ t₀ found t = n - t
+μ-loop sheet setup context actor kind to position n c found₀ t₀ found t = n - t
 
 loop-holds : tie.Need-loop-holds Inv-loop μ-loop
 loop-holds c = (

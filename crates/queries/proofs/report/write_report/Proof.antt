@@ -14,10 +14,10 @@ use Rattle.queries.proofs.report.write_report.Statement.{statement}
 use Rattle.queries.proofs.report.write_report.Tie as tie
 
 abbrev Inv-loop : tie.InvT-loop
-Inv-loop view sheet setup out₀ position opened n per-day struck at₀ t₀ out at t = Turns (fullRow sheet setup position opened) n out₀ out at t
+Inv-loop view sheet setup out₀ position opened n per-day conflicted at₀ t₀ out at t = Turns (fullRow sheet setup position opened) n out₀ out at t
 
 abbrev μ-loop : tie.MeasureT-loop
-μ-loop view sheet setup out₀ position opened n per-day struck at₀ t₀ out at t = n - t
+μ-loop view sheet setup out₀ position opened n per-day conflicted at₀ t₀ out at t = n - t
 
 loop-holds : tie.Need-loop-holds Inv-loop μ-loop
 loop-holds c =

@@ -1,5 +1,5 @@
 -- By the kind.
-use Rattle.readings.specs.Forms.Sight.{refusalAs}
+use Rattle.readings.specs.Forms.Context.{refusalAs}
 use Rattle.laws.proofs.Prelude.{ne-eqb, needs}
 use Rattle.readings.proofs.open.accepted_as.Statement.{statement}
 use Rattle.readings.proofs.open.accepted_as.Tie as tie

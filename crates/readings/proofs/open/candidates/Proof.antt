@@ -1,5 +1,5 @@
 -- By the kind.
-use Rattle.readings.specs.Forms.Sight.{candidatesIn}
+use Rattle.readings.specs.Forms.Context.{candidatesIn}
 use Rattle.laws.proofs.Prelude.{le-leb, lt-leb, needs}
 use Rattle.readings.proofs.open.candidates.Statement.{statement}
 use Rattle.readings.proofs.open.candidates.Tie as tie

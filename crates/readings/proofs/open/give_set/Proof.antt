@@ -1,15 +1,15 @@
 -- The set of those below i.
 use Rattle.laws.specs.Sets.{setBelow, set-start, set-more, set-done}
-use Rattle.readings.specs.Forms.Sight.{givesIn}
+use Rattle.readings.specs.Forms.Context.{givesIn}
 use Rattle.laws.proofs.Prelude.{_-_, _≤_, _≡_, needs}
 use Rattle.readings.proofs.open.give_set.Statement.{statement}
 use Rattle.readings.proofs.open.give_set.Tie as tie
 
 abbrev Inv-loop : tie.InvT-loop
-Inv-loop sheet sight actor destination n found₀ i₀ found i = (i ≤ n) × (found ≡ setBelow i (λ j. givesIn sight actor j destination))
+Inv-loop sheet context actor destination n found₀ i₀ found i = (i ≤ n) × (found ≡ setBelow i (λ j. givesIn context actor j destination))
 
 abbrev μ-loop : tie.MeasureT-loop
-μ-loop sheet sight actor destination n found₀ i₀ found i = n - i
+μ-loop sheet context actor destination n found₀ i₀ found i = n - i
 
 loop-holds : tie.Need-loop-holds Inv-loop μ-loop
 loop-holds c = (search needs, set-start _)

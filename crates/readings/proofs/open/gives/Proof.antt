@@ -1,5 +1,5 @@
 -- Allowed, and the receiver lacks it.
-use Rattle.readings.specs.Forms.Sight.{givesIn}
+use Rattle.readings.specs.Forms.Context.{givesIn}
 use borrow.Author.Needs.{needs}
 use Rattle.readings.proofs.open.gives.Statement.{statement}
 use Rattle.readings.proofs.open.gives.Tie as tie

@@ -1,5 +1,5 @@
 -- By the destination.
-use Rattle.readings.specs.Forms.Sight.{goesTo}
+use Rattle.readings.specs.Forms.Context.{goesTo}
 use Rattle.laws.proofs.Prelude.{ne-eqb, needs}
 use Rattle.readings.proofs.open.goes_to.Statement.{statement}
 use Rattle.readings.proofs.open.goes_to.Tie as tie

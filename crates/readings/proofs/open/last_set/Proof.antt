@@ -1,5 +1,5 @@
 -- By the actor.
-use Rattle.readings.specs.Forms.Sight.{lastIn}
+use Rattle.readings.specs.Forms.Context.{lastIn}
 use borrow.Author.Needs.{needs}
 use Rattle.readings.proofs.open.last_set.Statement.{statement}
 use Rattle.readings.proofs.open.last_set.Tie as tie

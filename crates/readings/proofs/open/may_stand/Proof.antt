@@ -1,6 +1,6 @@
 -- By the actor, then the kind.
 use Rattle.laws.proofs.Prelude.{ne-eqb, needs}
-use Rattle.readings.specs.Forms.Sight.{mayStand}
+use Rattle.readings.specs.Forms.Context.{mayStand}
 use Rattle.readings.proofs.open.may_stand.Statement.{statement}
 use Rattle.readings.proofs.open.may_stand.Tie as tie
 

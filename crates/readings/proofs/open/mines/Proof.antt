@@ -1,5 +1,5 @@
 -- The miner, and no test fails.
-use Rattle.readings.specs.Forms.Sight.{minesIn}
+use Rattle.readings.specs.Forms.Context.{minesIn}
 use Rattle.laws.proofs.Prelude.{ne-eqb, needs}
 use Rattle.readings.proofs.open.mines.Statement.{statement}
 use Rattle.readings.proofs.open.mines.Tie as tie

@@ -1,6 +1,6 @@
 -- By the kind.
 use Rattle.laws.proofs.Prelude.{ne-eqb, needs}
-use Rattle.readings.specs.Forms.Sight.{partyMay}
+use Rattle.readings.specs.Forms.Context.{partyMay}
 use Rattle.readings.proofs.open.party_may.Statement.{statement}
 use Rattle.readings.proofs.open.party_may.Tie as tie
 

@@ -1,5 +1,5 @@
 -- By the phase.
-use Rattle.readings.specs.Forms.Sight.{senders}
+use Rattle.readings.specs.Forms.Context.{senders}
 use borrow.Author.Tests.{ne-eqb}
 use Rattle.readings.proofs.open.senders.Statement.{statement}
 use Rattle.readings.proofs.open.senders.Tie as tie

@@ -1,5 +1,5 @@
 -- By the phase and the party.
-use Rattle.readings.specs.Forms.Sight.{sharers}
+use Rattle.readings.specs.Forms.Context.{sharers}
 use borrow.Author.Tests.{ne-eqb, eq-eqb}
 use Rattle.readings.proofs.open.sharers.Statement.{statement}
 use Rattle.readings.proofs.open.sharers.Tie as tie

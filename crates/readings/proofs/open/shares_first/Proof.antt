@@ -1,5 +1,5 @@
 -- Not under open conduct; else allowed and new.
-use Rattle.readings.specs.Forms.Sight.{sharesFirst}
+use Rattle.readings.specs.Forms.Context.{sharesFirst}
 use Rattle.laws.proofs.Prelude.{ne-eqb, needs}
 use Rattle.readings.proofs.open.shares_first.Statement.{statement}
 use Rattle.readings.proofs.open.shares_first.Tie as tie

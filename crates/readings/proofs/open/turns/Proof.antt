@@ -1,5 +1,5 @@
 -- By the kind.
-use Rattle.readings.specs.Forms.Sight.{turnsIn}
+use Rattle.readings.specs.Forms.Context.{turnsIn}
 use Rattle.laws.proofs.Prelude.{ne-eqb, needs}
 use Rattle.readings.proofs.open.turns.Statement.{statement}
 use Rattle.readings.proofs.open.turns.Tie as tie

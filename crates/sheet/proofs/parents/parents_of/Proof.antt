@@ -7,10 +7,10 @@ use Rattle.sheet.proofs.parents.parents_of.Statement.{statement}
 use Rattle.sheet.proofs.parents.parents_of.Tie as tie
 
 abbrev Inv-loop : tie.InvT-loop
-Inv-loop sheet there n parents₀ k₀ parents k = (k ≤ n) × Parents sheet (bit there) k parents
+Inv-loop sheet members n parents₀ k₀ parents k = (k ≤ n) × Parents sheet (bit members) k parents
 
 abbrev μ-loop : tie.MeasureT-loop
-μ-loop sheet there n parents₀ k₀ parents k = n - k
+μ-loop sheet members n parents₀ k₀ parents k = n - k
 
 loop-holds : tie.Need-loop-holds Inv-loop μ-loop
 loop-holds c = (search needs, parents-start _ _)

@@ -8,10 +8,10 @@ use Rattle.slots.proofs.conflict.child_in.Statement.{statement}
 use Rattle.slots.proofs.conflict.child_in.Tie as tie
 
 abbrev Inv-loop : tie.InvT-loop
-Inv-loop sheet there up n k₀ k = (k ≤ n) × (k < n → bit there k ≡ true) × (isParentBelow sheet (bit there) k up ≡ false)
+Inv-loop sheet members up n k₀ k = (k ≤ n) × (k < n → bit members k ≡ true) × (isParentBelow sheet (bit members) k up ≡ false)
 
 abbrev μ-loop : tie.MeasureT-loop
-μ-loop sheet there up n k₀ k = n - k
+μ-loop sheet members up n k₀ k = n - k
 
 loop-holds : tie.Need-loop-holds Inv-loop μ-loop
 loop-holds c = (c .next .ensures .high, c .next .ensures .here, child-first _ _ _ _ _ (search needs) (search needs) (c .next .ensures))

@@ -8,10 +8,10 @@ use Rattle.slots.proofs.conflict.conflicts_of.Statement.{statement}
 use Rattle.slots.proofs.conflict.conflicts_of.Tie as tie
 
 abbrev Inv-loop : tie.InvT-loop
-Inv-loop sheet there others parents n found₀ t₀ found t = (t ≤ n) × (found ≡ setBelow t (foundIn sheet (bit there) others))
+Inv-loop sheet members others parents n found₀ t₀ found t = (t ≤ n) × (found ≡ setBelow t (foundIn sheet (bit members) others))
 
 abbrev μ-loop : tie.MeasureT-loop
-μ-loop sheet there others parents n found₀ t₀ found t = n - t
+μ-loop sheet members others parents n found₀ t₀ found t = n - t
 
 returns : tie.Need-returns Inv-loop μ-loop
 returns c = rw (c .if1 .taken) (conflicts-none _ _)

@@ -17,7 +17,7 @@ returns-3 : tie.Need-returns-3
 unfolding hasParent
 returns-3 c =
     let c3 = c .before .before .before in let c5 = c3 .before .before in
-    rw (← (c3 .opening .ensures), c .before .before .if1 .left, ← (c .before .parent .ensures .is)) (sym (bit-above (c5 .args .there) 32 (c .before .parent .result) (search needs) (c .if2 .left)))
+    rw (← (c3 .opening .ensures), c .before .before .if1 .left, ← (c .before .parent .ensures .is)) (sym (bit-above (c5 .args .members) 32 (c .before .parent .result) (search needs) (c .if2 .left)))
 
 pub parent-there-spec : {M : Type 1} → statement M
 parent-there-spec =
