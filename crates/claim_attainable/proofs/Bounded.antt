@@ -102,9 +102,6 @@ module _ (s u : List ℕ) (ok : Checked s) (p : Position) (x : ℕ) (who : isPar
     few : count s ≤ length (q .slots)
     few = wide s u ok q (b .sound)
 
-    low-pool : (t : ℕ) → inPool q t ≡ true → t < count s
-    low-pool t i = split (ltb t (count s)) (ltb-true t (count s)) (λ y. clash i (out-pool s q few (b .sound .beyond) t (ltb-false t (count s) y)))
-
     low-block : (t : ℕ) → inBlock q t ≡ true → t < count s
     low-block t i = split (ltb t (count s)) (ltb-true t (count s)) (λ y. clash i (out-block s q few (b .sound .beyond) t (ltb-false t (count s) y)))
 
