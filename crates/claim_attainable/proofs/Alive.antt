@@ -15,7 +15,7 @@ use Rattle.position.specs.Position.{inPool, inBlock, blockOf, isConfirmed}
 use Rattle.claim_ledger.proofs.Sound.{Waits, Sound}
 use Rattle.claim_ledger.proofs.BumpedBlock.{settled-up, waits-up}
 use Rattle.claim_outage.proofs.Play.{LaterIn}
-use Rattle.claim_attainable.specs.Attainable.{gone}
+use Rattle.attainable.specs.Attainable.{gone}
 use Rattle.claim_attainable.proofs.Actors.{There, pool, block, chain}
 
 pub has-block : (p : Position) (t : ℕ) → isConfirmed p t ≡ true → 0 < blockOf p t

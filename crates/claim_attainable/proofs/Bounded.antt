@@ -26,9 +26,9 @@ use Rattle.claim_ledger.proofs.EachKind.{right-to, wide}
 use Rattle.claim_careful.proofs.Has.{Has, held, shown, secret, has-by}
 use Rattle.claim_outage.proofs.Between.{between}
 use Rattle.claim_outage.proofs.Play.{LaterIn, later-same}
-use Rattle.claim_attainable.specs.Attainable.{secretsOf, otherKeys, othersKeys, knownFrom, neverSent, waitsFor, comes, Closed}
-use Rattle.claim_attainable.proofs.Masks.{union-has, subset-else}
-use Rattle.claim_attainable.proofs.Parts.{othersHave, Way, waits, lent, signs, Parent, comes-from, known-shared, known-member, have-keys, have-known, have-shared}
+use Rattle.attainable.specs.Attainable.{secretsOf, otherKeys, othersKeys, knownFrom, neverSent, waitsFor, comes, Closed}
+use Rattle.attainable.proofs.Masks.{union-has, subset-else}
+use Rattle.attainable.proofs.Parts.{othersHave, Way, waits, lent, signs, Parent, comes-from, known-shared, known-member, have-keys, have-known, have-shared}
 use Rattle.claim_attainable.proofs.Actors.{Place, in-pool, in-block, in-chain, There, pool, block, chain, SentBy, ShownBy, by-share, by-send, by-block, MovedBy}
 use Rattle.claim_attainable.proofs.Alive.{has-block, stays, sent-alive, there-alive}
 

@@ -13,7 +13,7 @@ use Rattle.position.specs.Position.{isConfirmed}
 use Rattle.position.specs.Play.{FourBytes, journalSteps, play}
 use Rattle.position.proofs.Opened.{opened}
 use Rattle.claim_ledger.specs.Claim.{positionOf}
-use Rattle.claim_attainable.specs.Attainable.{gone, secretsOf, otherKeys, othersKeys, shownBy, knownFrom, neverSent, waitsFor, signable, comes, grown, rounds, attainable, attainableElsewhere, Closed}
+use Rattle.attainable.specs.Attainable.{gone, secretsOf, otherKeys, othersKeys, shownBy, knownFrom, neverSent, waitsFor, signable, comes, grown, rounds, attainable, attainableElsewhere, Closed}
 use Rattle.claim_attainable.specs.Words.{stepOf, sendOf, without, sendsOnly}
 use Rattle.claim_attainable.specs.Claim.{Foreseen}
 use Rattle.claim_attainable.proofs.Theorems.{attainability}

@@ -1,6 +1,3 @@
-pub mod Masks
-pub mod Parts
-pub mod Rounds
 pub mod Actors
 pub mod Shown
 pub mod Moves

@@ -20,7 +20,7 @@ use Rattle.step_laws.proofs.Rises.{fourOf}
 use Rattle.claim_ledger.proofs.EachKind.{wide}
 use Rattle.claim_ledger.proofs.SoundSteps.{sound-step}
 use Rattle.claim_outage.proofs.Play.{later-step, later-then}
-use Rattle.claim_attainable.specs.Attainable.{Closed}
+use Rattle.attainable.specs.Attainable.{Closed}
 use Rattle.claim_attainable.specs.Words.{stepOf, sendOf, sendsOnly}
 use Rattle.claim_attainable.proofs.Actors.{Apart, Idle}
 use Rattle.claim_attainable.proofs.Moves.{moved-by}

@@ -21,7 +21,7 @@ use Rattle.position.specs.FirstShares.{firstShares}
 use Rattle.position.specs.Owed.{enters}
 use Rattle.position.specs.Effect.{withSlots, changeSlot, changeSlots, withKey, shareOne, shareEach, afterShare, afterGive, afterSend, afterHandIn, afterInclude}
 use Rattle.position.specs.Effect.{leavesPool, mineSlot, withMined, afterMine, leavesBlock, bumpSlot, afterBump}
-use Rattle.claim_attainable.proofs.Masks.{or-last}
+use Rattle.attainable.proofs.Masks.{or-last}
 
 -- shared signatures where one slot, or each, is changed
 pub one-shared : (t : ℕ) (f : Slot → Slot) (p : Position) (k e i : ℕ) → bit (shared (changeSlot t f p) k e) i ≡ true

@@ -22,9 +22,9 @@ use Rattle.position.specs.Position.{slot, inPool, poolTo, inBlock, blockTo, blo
 use Rattle.claim_careful.proofs.Has.{somewhere}
 use Rattle.claim_outage.proofs.Between.{between}
 use Rattle.claim_outage.proofs.Play.{LaterIn}
-use Rattle.claim_attainable.specs.Attainable.{gone, secretsOf, otherKeys, othersKeys, shownBy, knownFrom, neverSent, waitsFor, comes, Closed}
-use Rattle.claim_attainable.proofs.Masks.{subset-else}
-use Rattle.claim_attainable.proofs.Parts.{othersHave, Way, waits, lent, signs, Parent, Comes, comes-parts, comes-from, known-member, have-keys, have-known, picked-bit}
+use Rattle.attainable.specs.Attainable.{gone, secretsOf, otherKeys, othersKeys, shownBy, knownFrom, neverSent, waitsFor, comes, Closed}
+use Rattle.attainable.proofs.Masks.{subset-else}
+use Rattle.attainable.proofs.Parts.{othersHave, Way, waits, lent, signs, Parent, Comes, comes-parts, comes-from, known-member, have-keys, have-known, picked-bit}
 use Rattle.claim_attainable.proofs.Actors.{in-pool, in-block, chain}
 use Rattle.claim_attainable.proofs.Alive.{has-block, stays}
 use Rattle.claim_attainable.proofs.Bounded.{Bounded, stood}

@@ -15,10 +15,10 @@ use Rattle.position.specs.Position.{start, isConfirmed, confirmedTo}
 use Rattle.position.specs.Play.{FourBytes, play}
 use Rattle.claim_ledger.proofs.Sound.{Sound}
 use Rattle.claim_ledger.proofs.SoundSteps.{sound-start, sound-play}
-use Rattle.claim_attainable.specs.Attainable.{comes, attainable, attainableElsewhere, Closed}
+use Rattle.attainable.specs.Attainable.{comes, attainable, attainableElsewhere, Closed}
 use Rattle.claim_attainable.specs.Words.{stepOf, without, sendsOnly}
 use Rattle.claim_attainable.specs.Claim.{Foreseen, Attainability}
-use Rattle.claim_attainable.proofs.Rounds.{least}
+use Rattle.attainable.proofs.Rounds.{least}
 use Rattle.claim_attainable.proofs.Actors.{in-chain}
 use Rattle.claim_attainable.proofs.Alive.{has-block}
 use Rattle.claim_attainable.proofs.Bounded.{Bounded, right-small, first}

@@ -15,13 +15,8 @@ use Rattle.position.specs.declared.Position.{Position}
 use Rattle.position.specs.Position.{isConfirmed, confirmedTo}
 use Rattle.position.specs.Play.{FourBytes, play}
 use Rattle.claim_ledger.specs.Claim.{positionOf}
-use Rattle.claim_attainable.specs.Attainable.{attainable, attainableElsewhere, Closed}
+use Rattle.attainable.specs.Attainable.{attainable, attainableElsewhere, Least}
 use Rattle.claim_attainable.specs.Words.{without, sendsOnly}
-
--- the attainable set is closed, and it is within every closed one
-pub record Least (s u : List ℕ) (p : Position) (x : ℕ) (also : ℕ → Bool) : Type 0 where
-  pub closed : Closed s u p x also (attainable s u p x also)
-  pub least : (members : ℕ) → Closed s u p x also members → (t : ℕ) → t < count s → bit (attainable s u p x also) t ≡ true → bit members t ≡ true
 
 -- every transaction confirmed in q was confirmed in p or is attainable there; for another payee than X, with a destination other than X.
 -- What is attainable in q was so in p

@@ -1,3 +1,2 @@
-pub mod Attainable
 pub mod Words
 pub mod Claim

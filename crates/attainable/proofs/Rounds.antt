@@ -10,10 +10,9 @@ use Rattle.sheet.specs.Field.{count}
 use Rattle.sheet.specs.Checked.{Checked}
 use Rattle.slots.specs.Destination.{destinations}
 use Rattle.position.specs.declared.Position.{Position}
-use Rattle.claim_attainable.specs.Attainable.{comes, grown, rounds, attainable, Closed}
-use Rattle.claim_attainable.specs.Claim.{Least}
-use Rattle.claim_attainable.proofs.Masks.{size, size-grows, size-all}
-use Rattle.claim_attainable.proofs.Parts.{comes-more}
+use Rattle.attainable.specs.Attainable.{comes, grown, rounds, attainable, Closed, Least}
+use Rattle.attainable.proofs.Masks.{size, size-grows, size-all}
+use Rattle.attainable.proofs.Parts.{comes-more}
 
 module _ (s u : List ℕ) (ok : Checked s) (p : Position) (x : ℕ) (also : ℕ → Bool) where
   abbrev Within : ℕ → ℕ → Type 0

@@ -87,3 +87,8 @@ attainableElsewhere s u p x also =
 abbrev pub Closed : List ℕ → List ℕ → Position → ℕ → (ℕ → Bool) → ℕ → Type 0
 Closed s u p x also members =
     (t : ℕ) → t < count s → (d : ℕ) → d < destinations → comes s u p x also members t d ≡ true → bit members t ≡ true
+
+-- the attainable set is closed, and it is within every closed one
+pub record Least (s u : List ℕ) (p : Position) (x : ℕ) (also : ℕ → Bool) : Type 0 where
+  pub closed : Closed s u p x also (attainable s u p x also)
+  pub least : (members : ℕ) → Closed s u p x also members → (t : ℕ) → t < count s → bit (attainable s u p x also) t ≡ true → bit members t ≡ true

@@ -14,8 +14,8 @@ use Rattle.slots.proofs.Parents.{parent-below}
 use Rattle.position.specs.declared.Position.{Position}
 use Rattle.position.specs.Position.{slot, isConfirmed, shared}
 use Rattle.steps.specs.Decode.{sendsTo, sharesTo}
-use Rattle.claim_attainable.specs.Attainable.{gone, secretsOf, othersKeys, shownBy, knownFrom, neverSent, waitsFor, signable, comes}
-use Rattle.claim_attainable.proofs.Masks.{or-left, or-last, union-has, subset-from}
+use Rattle.attainable.specs.Attainable.{gone, secretsOf, othersKeys, shownBy, knownFrom, neverSent, waitsFor, signable, comes}
+use Rattle.attainable.proofs.Masks.{or-left, or-last, union-has, subset-from}
 
 -- the signatures that the others have for t and d, by a set
 abbrev pub othersHave : List ℕ → Position → ℕ → ℕ → ℕ → ℕ → ℕ

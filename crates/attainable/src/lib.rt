@@ -1,0 +1,1 @@
+// What can come without a party.
