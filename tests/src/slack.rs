@@ -121,6 +121,7 @@ fn settled(sheet: &Sheet, setup: &Setup, position: &Position, party: u8) -> Posi
 }
 
 impl<'a> Outlook<'a> {
+    /// The whole definition.
     pub fn of(sheet: &'a Sheet, setup: &'a Setup, position: &Position, party: u8) -> Outlook<'a> {
         let after = settled(sheet, setup, position, party);
         let never = never_sent(sheet, setup, &after, party);
@@ -130,13 +131,38 @@ impl<'a> Outlook<'a> {
         };
         let shown = after.shared_secrets(sheet) & !position.shared_secrets(sheet);
         Outlook {
+            shown,
+            wont,
+            ..Outlook::over(sheet, setup, after, party, never)
+        }
+    }
+
+    /// The definition as the call has it: the block's entries are not settled, and any party may send what it can sign.
+    pub fn plain(
+        sheet: &'a Sheet,
+        setup: &'a Setup,
+        position: &Position,
+        party: u8,
+    ) -> Outlook<'a> {
+        let never = Others::of(sheet, setup, position, party).never;
+        Outlook::over(sheet, setup, position.clone(), party, never)
+    }
+
+    fn over(
+        sheet: &'a Sheet,
+        setup: &'a Setup,
+        position: Position,
+        party: u8,
+        never: Set,
+    ) -> Outlook<'a> {
+        Outlook {
             sheet,
             setup,
             party,
-            position: after,
-            shown,
+            position,
+            shown: 0,
             never,
-            wont,
+            wont: Set::new(),
             can: RefCell::default(),
             elsewhere: RefCell::default(),
         }
