@@ -301,8 +301,9 @@ uint32_t swap_report(const uint8_t *sheet, size_t sheet_length,
 
 /*
  * Tells what an outage of the next `blocks` blocks can cost after a journal: 10 bytes (SWAP_OUTAGE_ROW) for each
- * transaction, in the sheet's order. Any number of blocks is taken. Refusals 1 to 24 and 32 are the journal's; the count
- * is 0.
+ * transaction, in the sheet's order. Any number of blocks is taken; one that with the blocks mined comes to 2,147,483,647
+ * or more covers "never" too, so every transaction that is neither settled nor safe is COVERED then. Refusals 1 to 24 and
+ * 32 are the journal's; the count is 0.
  *
  *   byte 0        verdict, a sum of SWAP_OUTAGE_..; PASSED alone: no hand-in is left to lose (stealth 0); PASSED with
  *                 COVERED: a hand-in may still save it (stealth 1), so any outage risks it

@@ -125,6 +125,18 @@ static void safe_and_dead(void)
     expect_row("refund_2 is still covered", rows, REFUND_2, SWAP_OUTAGE_COVERED, 1, 434, 577);
 }
 
+/* So many blocks cover "never", and one fewer does not: lock_A has no deadline. */
+static void never_covered(void)
+{
+    static const struct journal none;
+    uint8_t rows[SWAP_OUTAGE_SIZE];
+
+    expect_answer("all but never", outage(careful, &none, NEVER - 1, rows, sizeof rows), 0, 0);
+    expect_row("never is not reached", rows, LOCK_A, 0, 3, 1, NEVER);
+    expect_answer("never", outage(careful, &none, NEVER, rows, sizeof rows), 0, 0);
+    expect_row("never is covered", rows, LOCK_A, SWAP_OUTAGE_COVERED, 3, 1, NEVER);
+}
+
 /* Whether a buffer has its first values from a place on. */
 static int kept(const uint8_t *buffer, size_t from, size_t length)
 {
@@ -161,6 +173,7 @@ int main(void)
 {
     revoke_to_come();
     safe_and_dead();
+    never_covered();
     refusals();
     return finish();
 }
