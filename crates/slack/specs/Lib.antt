@@ -1,2 +1,3 @@
 pub mod Beaten
 pub mod Kept
+pub mod Counted
