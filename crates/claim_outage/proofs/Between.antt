@@ -16,7 +16,8 @@ use Rattle.claim_ledger.proofs.Sound.{Sound}
 use Rattle.claim_ledger.proofs.SoundSteps.{sound-play}
 use Rattle.call_outage.specs.Verdict.{soonestBlockIn, soonestDeadlineIn}
 use Rattle.claim_outage.specs.Claim.{Fixed, Below, Between}
-use Rattle.claim_outage.proofs.Chain.{soonest-there, soonest-rises}
+use Rattle.soonest.proofs.SoonestParents.{soonest-there}
+use Rattle.claim_outage.proofs.Chain.{soonest-rises}
 use Rattle.claim_outage.proofs.Sandwich.{soonest-under, soonest-meets, soonest-deadline-rises, deadline-falls, no-surprise}
 use Rattle.claim_outage.proofs.Play.{LaterIn, later-play}
 

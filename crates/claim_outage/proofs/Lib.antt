@@ -1,4 +1,3 @@
-pub mod Locks
 pub mod Chain
 pub mod Sandwich
 pub mod Play

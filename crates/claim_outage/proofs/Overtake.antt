@@ -30,9 +30,9 @@ use Rattle.claim_ledger.specs.Claim.{entriesOf, positionOf}
 use Rattle.soonest.specs.Soonest.{lockAt, sinceLocked, soonestParent, soonestDeadline}
 use Rattle.call_outage.specs.Verdict.{soonestDeadlineIn}
 use Rattle.claim_outage.specs.Claim.{Overtaken}
-use Rattle.claim_outage.proofs.Locks.{Form, fixed, hangs, form}
+use Rattle.soonest.proofs.Locks.{Form, fixed, hangs, form}
 use Rattle.claim_outage.proofs.Entries.{order-behind}
-use Rattle.claim_outage.proofs.Chain.{parent-some}
+use Rattle.soonest.proofs.SoonestParents.{parent-some}
 use Rattle.claim_outage.proofs.Sandwich.{Counts, above, rises, rival-spends, counts-other, soonest-counted}
 use Rattle.claim_outage.proofs.Reach.{from-by, order-then, enter-on, Alive, Reach, reach-parent, parent-later, alive}
 use Rattle.ledger.proofs.Rising.{before-number}

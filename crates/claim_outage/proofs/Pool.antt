@@ -38,8 +38,8 @@ use Rattle.claim_ledger.proofs.Standing.{Stands, met-at, not-owed}
 use Rattle.claim_ledger.proofs.SoundSteps.{sound-step}
 use Rattle.claim_outage.specs.Claim.{Fate, waits, done, ousted}
 use Rattle.soonest.specs.Soonest.{lockAt}
-use Rattle.claim_outage.proofs.Locks.{lock-is, lock-after, lock-reached}
-use Rattle.claim_outage.proofs.Sandwich.{deadline-le, deadline-from, rival-lock}
+use Rattle.soonest.proofs.Locks.{lock-is, rival-lock, lock-after, lock-reached}
+use Rattle.soonest.proofs.Deadlines.{deadline-le, deadline-from}
 use Rattle.claim_outage.proofs.Play.{LaterIn, later-step, later-play}
 use Rattle.claim_ledger.proofs.EachKind.{wide}
 
@@ -131,7 +131,7 @@ module _ (s u : List ℕ) (ok : Checked s) (p : Position) (g : Sound s u p) wher
     parent-mined day t l i z b h =
         let limit = g .settled .limit in
         let from =
-        deadline-from s (perDay u) (blockOf mined) (p .mined) t (p .mined + 2) (omega arith) (λ k lk c f.
+        deadline-from s (perDay u) (blockOf mined) t (p .mined + 2) (omega arith) (λ k lk c f.
         let lock = g .pool .locks t l i in
         let t0 : lockHeight s (perDay u) (blockOf p) t ≡ lockAt s (perDay u) 0 t = lock-is s (perDay u) (blockOf p) t ∙ ap (λ x. lockAt s (perDay u) x t) z in
         let t1 : lockHeight s (perDay u) (blockOf mined) t ≡ lockAt s (perDay u) (p .mined + 1) t = lock-is s (perDay u) (blockOf mined) t ∙ ap (λ x. lockAt s (perDay u) x t) b in
@@ -139,7 +139,7 @@ module _ (s u : List ℕ) (ok : Checked s) (p : Position) (g : Sound s u p) wher
         let k1 : lockHeight s (perDay u) (blockOf mined) k ≡ lockAt s (perDay u) (p .mined + 1) k = rival-lock s (perDay u) (blockOf mined) t k c ∙ ap (λ x. lockAt s (perDay u) x k) b in
         let same = lock-reached ok (perDay u) t l (p .mined + 1) (omega arith) in
         either (lock-after ok (perDay u) k day lk (p .mined + 1) (omega arith))
-        (λ y. let w = deadline-le s (perDay u) (blockOf p) (p .mined) t k lk c (omega arith) in omega arith)
+        (λ y. let w = deadline-le s (perDay u) (blockOf p) t k lk c (omega arith) in omega arith)
         (λ y. omega arith)) in
         omega arith
 
@@ -177,7 +177,7 @@ module _ (s u : List ℕ) (ok : Checked s) (p : Position) (g : Sound s u p) wher
         let low = g .block .locks k lk b in
         split (ltb (lockHeight s (perDay u) (blockOf p) t) (lockHeight s (perDay u) (blockOf p) k))
         (λ y.
-        let z = deadline-le s (perDay u) (blockOf p) (p .mined) t k lk c (ltb-true (lockHeight s (perDay u) (blockOf p) t) (lockHeight s (perDay u) (blockOf p) k) y) in
+        let z = deadline-le s (perDay u) (blockOf p) t k lk c (ltb-true (lockHeight s (perDay u) (blockOf p) t) (lockHeight s (perDay u) (blockOf p) k) y) in
         absurd (omega arith))
         (λ y. ltb-false (lockHeight s (perDay u) (blockOf p) t) (lockHeight s (perDay u) (blockOf p) k) y)
 

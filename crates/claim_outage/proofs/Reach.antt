@@ -37,7 +37,7 @@ use Rattle.soonest.specs.Soonest.{greater, lockAt, soonestBlock, soonestParent}
 use Rattle.call_outage.specs.Verdict.{soonestBlockIn}
 use Rattle.soonest.proofs.Bounds.{greater-left, greater-right}
 use Rattle.claim_outage.proofs.Entries.{order-behind}
-use Rattle.claim_outage.proofs.Chain.{soonest-there, soonest-open, parent-soonest, parent-some, opening-none}
+use Rattle.soonest.proofs.SoonestParents.{soonest-there, soonest-open, parent-soonest, parent-some, opening-none}
 use Rattle.ledger.proofs.Rising.{before-number}
 
 -- the ledger's lock is the lock height

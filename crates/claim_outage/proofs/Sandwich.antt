@@ -15,8 +15,10 @@ use Rattle.claim_ledger.proofs.Sound.{Settled}
 use Rattle.soonest.specs.Soonest.{greater, lockAt, sinceLocked, mayRise, countsAt, soonestParent, soonestDeadline}
 use Rattle.soonest.proofs.Bounds.{greater-left, greater-le, greater-mono}
 use Rattle.laws.specs.Least.{least-top, least-le, least-from, least-reached}
-use Rattle.claim_outage.proofs.Locks.{Form, fixed, hangs, form, lock-is}
-use Rattle.claim_outage.proofs.Chain.{Later, lock-at-rises, parent-rises, parent-there, parent-some}
+use Rattle.soonest.proofs.Locks.{Form, fixed, hangs, form, lock-is, rival-lock}
+use Rattle.soonest.proofs.Deadlines.{deadline-top, deadline-le, deadline-from}
+use Rattle.soonest.proofs.SoonestParents.{parent-there, parent-some}
+use Rattle.claim_outage.proofs.Chain.{Later, lock-at-rises, parent-rises}
 
 -- a rival counts: its lock height stands above t's with the parent in block e, or may rise
 pub data Counts (s : List ℕ) (perDay : ℕ) (block : ℕ → ℕ) (e t k : ℕ) : Type 0 where
@@ -101,33 +103,6 @@ module _ (s : List ℕ) (perDay : ℕ) (block : ℕ → ℕ) (mined t : ℕ) whe
       ))
       (λ y. absurd (omega (arith, y, w .3, h)))
 
-  -- the same of the deadline
-  pub deadline-top : deadline s perDay block t ≤ never
-  unfolding deadline
-  deadline-top =
-      least-top (λ k. conflict s k t && ltb (lockHeight s perDay block t) (lockHeight s perDay block k)) (lockHeight s perDay block) never (count s)
-
-  pub deadline-le : (k : ℕ) → k < count s → conflict s k t ≡ true → lockHeight s perDay block t < lockHeight s perDay block k
-      → deadline s perDay block t ≤ lockHeight s perDay block k
-  unfolding deadline
-  deadline-le k l c h =
-      least-le (λ k. conflict s k t && ltb (lockHeight s perDay block t) (lockHeight s perDay block k)) (lockHeight s perDay block) never (count s) k l
-      (rw (c, lt-ltb (lockHeight s perDay block t) (lockHeight s perDay block k) h))
-
-  pub deadline-from : (x : ℕ) → x ≤ never
-      → ((k : ℕ) → k < count s → conflict s k t ≡ true → lockHeight s perDay block t < lockHeight s perDay block k → x ≤ lockHeight s perDay block k)
-      → x ≤ deadline s perDay block t
-  unfolding deadline
-  deadline-from x h g =
-      least-from (λ k. conflict s k t && ltb (lockHeight s perDay block t) (lockHeight s perDay block k)) (lockHeight s perDay block) never x (count s) h
-      (λ k l y.
-      let w = and-parts (conflict s k t) (ltb (lockHeight s perDay block t) (lockHeight s perDay block k)) y in
-      g k l (w .0) (ltb-true (lockHeight s perDay block t) (lockHeight s perDay block k) (w .1)))
-
--- a rival's lock height hangs on the same parent
-pub rival-lock : (s : List ℕ) (perDay : ℕ) (block : ℕ → ℕ) (t k : ℕ) → conflict s k t ≡ true → lockHeight s perDay block k ≡ lockAt s perDay (block (parent s t)) k
-rival-lock s perDay block t k c = lock-is s perDay block k ∙ ap (λ q. lockAt s perDay (block q) k) (conflict-parent s k t c)
-
 module _ {s : List ℕ} (ok : Checked s) (perDay : ℕ) where
   -- rivals that count are no openings
   pub rival-spends : (t k : ℕ) → conflict s k t ≡ true → (k ≡ t → ⊥) → opening s t ≡ false
@@ -174,7 +149,7 @@ module _ {s : List ℕ} (ok : Checked s) (perDay : ℕ) where
 
     -- the soonest deadline is at most the deadline
     pub soonest-under : soonestDeadline s perDay block mined t ≤ deadline s perDay block t
-    soonest-under = deadline-from s perDay block mined t (soonestDeadline s perDay block mined t) (soonest-top s perDay block mined t) under
+    soonest-under = deadline-from s perDay block t (soonestDeadline s perDay block mined t) (soonest-top s perDay block mined t) under
 
     over : (opening s t ≡ true) ⊎ (0 < block (parent s t)) → (k : ℕ) → k < count s → conflict s k t ≡ true → Counts s perDay block soonest t k
         → deadline s perDay block t ≤ greater (lockAt s perDay soonest k) (lockAt s perDay soonest t + 1)
@@ -191,7 +166,7 @@ module _ {s : List ℕ} (ok : Checked s) (perDay : ℕ) where
         met : Counts s perDay block soonest t k → lockHeight s perDay block t ≡ lockAt s perDay soonest t → lockHeight s perDay block k ≡ lockAt s perDay soonest k → 0 < block (parent s t)
             → deadline s perDay block t ≤ greater (lockAt s perDay soonest k) (lockAt s perDay soonest t + 1)
         met (above z) a b y =
-            let w = deadline-le s perDay block mined t k lk c (omega arith) in
+            let w = deadline-le s perDay block t k lk c (omega arith) in
             let v = greater-left (lockAt s perDay soonest k) (lockAt s perDay soonest t + 1) in
             omega arith
         met (rises z f g) a b y = absurd (omega (arith, z))
@@ -199,7 +174,7 @@ module _ {s : List ℕ} (ok : Checked s) (perDay : ℕ) where
     -- and equal to it once the parent is confirmed, or for an opening
     pub soonest-meets : (opening s t ≡ true) ⊎ (0 < block (parent s t)) → soonestDeadline s perDay block mined t ≡ deadline s perDay block t
     soonest-meets there =
-        le-antisymm soonest-under (soonest-from s perDay block mined t (deadline s perDay block t) (deadline-top s perDay block mined t) (over there))
+        le-antisymm soonest-under (soonest-from s perDay block mined t (deadline s perDay block t) (deadline-top s perDay block t) (over there))
 
   module _ (block : ℕ → ℕ) (mined : ℕ) (block′ : ℕ → ℕ) (mined′ : ℕ) (later : Later s block mined block′ mined′) (st : Settled s perDay block′ mined′) (t : ℕ) (l : t < count s) where
     abbrev before : ℕ
@@ -247,9 +222,9 @@ module _ {s : List ℕ} (ok : Checked s) (perDay : ℕ) where
         let b = rival-lock s perDay block t k c in
         let a′ = lock-is s perDay block′ t in
         let b′ = rival-lock s perDay block′ t k c in
-        let top = deadline-top s perDay block′ mined′ t in
+        let top = deadline-top s perDay block′ t in
         let via : lockAt s perDay (block′ (parent s t)) t ≡ lockHeight s perDay block t → lockAt s perDay (block′ (parent s t)) k ≡ lockHeight s perDay block k → deadline s perDay block′ t ≤ lockHeight s perDay block k
-        = λ x y. let z = deadline-le s perDay block′ mined′ t k lk c (omega arith) in omega arith in
+        = λ x y. let z = deadline-le s perDay block′ t k lk c (omega arith) in omega arith in
         either (later .blocks (parent s t) (parent-below ok t l o))
         (λ q. via (rw q (sym a)) (rw q (sym b)))
         (λ q.
@@ -261,7 +236,7 @@ module _ {s : List ℕ} (ok : Checked s) (perDay : ℕ) where
 
     -- and no deadline rises
     pub deadline-falls : deadline s perDay block′ t ≤ deadline s perDay block t
-    deadline-falls = deadline-from s perDay block mined t (deadline s perDay block′ t) (deadline-top s perDay block′ mined′ t) fallen
+    deadline-falls = deadline-from s perDay block t (deadline s perDay block′ t) (deadline-top s perDay block′ t) fallen
 
     -- a rival that is confirmed with a lock height above t's
     pub no-surprise : (r : ℕ) → r < count s → conflict s r t ≡ true → 0 < block′ r → lockHeight s perDay block′ t < lockHeight s perDay block′ r
@@ -269,6 +244,6 @@ module _ {s : List ℕ} (ok : Checked s) (perDay : ℕ) where
     no-surprise r lr c y h =
         let a = soonest-deadline-rises in
         let b = soonest-under block′ mined′ t l in
-        let e = deadline-le s perDay block′ mined′ t r lr c h in
+        let e = deadline-le s perDay block′ t r lr c h in
         let f = st .locks r lr y in
         omega arith

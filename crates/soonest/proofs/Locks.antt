@@ -1,13 +1,15 @@
 -- A lock height by its kind: fixed, or so many blocks since the parent's.
 -- Assumes nothing.
-use Rattle.laws.proofs.Prelude.{ℕ, _+_, _≤_, _<_, _≡_, refl, sym, _∙_, true, false, List, _⊎_, inl, inr, eq-eqb, ne-eqb, arith}
+use Rattle.laws.proofs.Prelude.{ℕ, _+_, _≤_, _<_, _≡_, refl, sym, ap, _∙_, true, false, List, _⊎_, inl, inr, eq-eqb, ne-eqb, arith}
 use native.Mathlib.Nat.{mul-le-mul}
 use Rattle.laws.specs.Booleans.{clash}
 use Rattle.sheet.specs.Field.{count, parent, opening, lockType, days}
 use Rattle.sheet.specs.LockHeight.{never, lockBlocks, sinceParent, lockHeight}
 use Rattle.sheet.specs.Checked.{Checked, LockPair, none, absolute, since}
+use Rattle.slots.specs.Conflict.{conflict}
+use Rattle.slots.proofs.Conflicts.{conflict-parent}
 use Rattle.slots.proofs.Since.{lockHeight-since}
 use Rattle.soonest.specs.Soonest.{lockAt, sinceLocked}
 
 pub data Form (s : List ℕ) (perDay t : ℕ) : Type 0 where
   fixed : (h : ℕ) → ((e : ℕ) → lockAt s perDay e t ≡ h) → sinceLocked s t ≡ false → Form s perDay t
@@ -33,6 +35,10 @@ form {s} ok perDay t l = form-by s perDay t (ok .entries t l .lock-pair)
 pub lock-is : (s : List ℕ) (perDay : ℕ) (block : ℕ → ℕ) (t : ℕ) → lockHeight s perDay block t ≡ lockAt s perDay (block (parent s t)) t
 unfolding lockAt
 lock-is s perDay block t = lockHeight-since s perDay block (block (parent s t)) t refl
+
+-- a rival's lock height hangs on the same parent
+pub rival-lock : (s : List ℕ) (perDay : ℕ) (block : ℕ → ℕ) (t k : ℕ) → conflict s k t ≡ true → lockHeight s perDay block k ≡ lockAt s perDay (block (parent s t)) k
+rival-lock s perDay block t k c = lock-is s perDay block k ∙ ap (λ q. lockAt s perDay (block q) k) (conflict-parent s k t c)
 
 -- a later block of the parent, no lower lock height
 rises-by : (s : List ℕ) (perDay t a b : ℕ) → 0 < a → a ≤ b → Form s perDay t → lockAt s perDay a t ≤ lockAt s perDay b t
