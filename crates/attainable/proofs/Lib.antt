@@ -1,3 +1,4 @@
 pub mod Masks
 pub mod Parts
 pub mod Rounds
+pub mod Also
