@@ -46,6 +46,7 @@ pub record Waiting (s u : List ℕ) (p : Position) : Type 0 where
   pub locks : (t : ℕ) → t < count s → inPool p t ≡ true → lockHeightIn s u p t ≤ p .mined
   pub early : (t : ℕ) → t < count s → inPool p t ≡ true → p .mined < deadlineIn s u p t
   pub pooled : stealth u ≡ 0 → (t : ℕ) → t < count s → inBlock p t ≡ true → (inPool p t ≡ true) × (poolTo p t ≡ blockTo p t)
+  pub block-to : (t : ℕ) → t < count s → inBlock p t ≡ true → blockTo p t < destinations
 
 -- a step without X leads from p to q
 pub record Onward (s u : List ℕ) (p q : Position) (x : ℕ) : Type 0 where
