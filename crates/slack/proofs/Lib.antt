@@ -5,3 +5,4 @@ pub mod Compared
 pub mod AboveSets
 pub mod Comparing
 pub mod SamePosition
+pub mod NextPosition
