@@ -6,3 +6,4 @@ pub mod AboveSets
 pub mod Comparing
 pub mod SamePosition
 pub mod NextPosition
+pub mod Confirming
