@@ -7,3 +7,5 @@ pub mod Comparing
 pub mod SamePosition
 pub mod NextPosition
 pub mod Confirming
+pub mod Parts
+pub mod Rounds
