@@ -9,3 +9,5 @@ pub mod NextPosition
 pub mod Confirming
 pub mod Parts
 pub mod Rounds
+pub mod Dead
+pub mod Living

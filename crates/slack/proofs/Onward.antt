@@ -88,10 +88,11 @@ pub record Steady (s u : List ℕ) (p q : Position) (x most : ℕ) : Type 0 wher
   pub last-less : (off more t : ℕ) → t < count s → off ≤ more → more ≤ most
       → last s u q x (knownAt s q x t) off t ≤ last s u p x (knownAt s p x t) more t
 
--- what X counts on is not dead in q: a child of what is not gone, and a line of another coin
+-- what is confirmed stays so, and what X counts on is not dead in q: a child of what is not gone, and a line of another coin
 pub record Alive (s u : List ℕ) (p q : Position) (x : ℕ) : Type 0 where
+  pub stays : (t : ℕ) → t < count s → isConfirmed p t ≡ true → isConfirmed q t ≡ true
   pub child : (know off c : ℕ) → c < count s → opening s c ≡ false → stands s u p x know off c ≡ true → gone s q (parent s c) ≡ false → gone s q c ≡ false
-  pub line : (know b off t w : ℕ) → t < count s → w < count s → p .mined ≤ off → free s u p x know b off t ≡ true → isSelfOrAncestor s w t ≡ true
+  pub line : (know b off t w : ℕ) → t < count s → w < count s → free s u p x know b off t ≡ true → isSelfOrAncestor s w t ≡ true
       → isConfirmed q w ≡ false → gone s q w ≡ false
   pub unpaid : (know b off t : ℕ) → t < count s → free s u p x know b off t ≡ true → paid s q x ≡ false → isConfirmed q t ≡ false
 
