@@ -11,3 +11,5 @@ pub mod Parts
 pub mod Rounds
 pub mod Dead
 pub mod Living
+pub mod Carried
+pub mod Falling
