@@ -13,3 +13,5 @@ pub mod Dead
 pub mod Living
 pub mod Carried
 pub mod Falling
+pub mod Lines
+pub mod Keeping
