@@ -5,6 +5,7 @@ pub mod Same
 pub mod Climb
 pub mod Each
 pub mod Least
+pub mod Greatest
 pub mod Mask
 pub mod Gather
 pub mod Little

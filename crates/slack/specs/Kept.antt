@@ -5,8 +5,8 @@ use mathlib.Core.Bool.{Bool, not, _&&_, _||_}
 use mathlib.Core.List.{List}
 use lib.Dec.{eqb}
 use lib.Bits.{bitOr}
-use Rattle.laws.specs.Booleans.{pick}
 use Rattle.laws.specs.Below.{allBelow, anyBelow}
+use Rattle.laws.specs.Greatest.{greatestTo}
 use Rattle.laws.specs.Mask.{bit}
 use Rattle.laws.specs.Sets.{setBelow}
 use Rattle.sheet.specs.Field.{count, parent, opening}
@@ -85,14 +85,9 @@ keptTo s u p x off = paid s p x || anyBelow (count s) (reached s u p x off)
 unfoldable pub kept : List ℕ → List ℕ → Position → ℕ → ℕ → Bool
 kept s u p x k = keptTo s u p x (p .mined + k)
 
--- the greatest number up to a bound that passes, never where none does
-unfoldable pub greatestTo : ℕ → (ℕ → Bool) → ℕ
-greatestTo zero f = pick (f 0) 0 never
-greatestTo (suc n) f = pick (f (suc n)) (suc n) (greatestTo n f)
-
--- "The slack of X is the greatest k ≤ 10,000 with kept(k); none where kept(0) is false."
+-- "The slack of X is the greatest k ≤ 10,000 with kept(k); none where kept(0) is false.": never then
 abbrev pub longest : ℕ
 longest = 10000
 
 unfoldable pub slack : List ℕ → List ℕ → Position → ℕ → ℕ
-slack s u p x = greatestTo longest (kept s u p x)
+slack s u p x = greatestTo longest (kept s u p x) never
