@@ -1,6 +1,6 @@
 -- What a step without X confirms was in the way of what X counted on.
 -- Assumes nothing.
-use Rattle.laws.proofs.Prelude.{ℕ, _<_, _≡_, refl, sym, _∙_, true, false, not, _&&_, List, eqb, eqb-true, eq-eqb, not-true}
+use Rattle.laws.proofs.Prelude.{ℕ, _<_, _≡_, refl, sym, _∙_, true, false, not, _&&_, List, eqb, eqb-true, eq-eqb}
 use lib.Bits.{bitOr}
 use Rattle.laws.specs.Booleans.{split, either, clash, and-parts, or-right, or-neither, fails-by}
 use Rattle.laws.specs.Below.{any-found}
@@ -16,6 +16,7 @@ use Rattle.position.specs.Position.{inPool, poolTo, inBlock, blockTo, isConfirm
 use Rattle.attainable.specs.Attainable.{gone, waitsFor}
 use Rattle.slack.specs.Beaten.{destinationOf, above, canCome, canComeElsewhere, pooled, stands, waitsBefore, comesBeside, beats}
 use Rattle.slack.proofs.Onward.{Onward, Forth}
+use Rattle.slack.proofs.Parts.{stands-live}
 
 -- what waits in the way beats
 beats-from : (s u : List ℕ) (p : Position) (x also off t r : ℕ) → (eqb (stealth u) 0 && pooled s p x t) ≡ false → conflict s r t ≡ true
@@ -24,10 +25,9 @@ unfolding beats
 beats-from s u p x also off t r a b c d = rw (a, b, c, d)
 
 -- what stands is not confirmed
-stands-new : (s u : List ℕ) (p : Position) (x know off t : ℕ) → stands s u p x know off t ≡ true → isConfirmed p t ≡ false
-unfolding stands gone
-stands-new s u p x know off t h =
-    or-neither (isConfirmed p t) (invalidated s (isConfirmed p) t) (not-true (gone s p t) (and-parts (not (gone s p t)) _ h .0)) .0
+pub stands-new : (s u : List ℕ) (p : Position) (x know off t : ℕ) → stands s u p x know off t ≡ true → isConfirmed p t ≡ false
+unfolding gone
+stands-new s u p x know off t h = or-neither (isConfirmed p t) (invalidated s (isConfirmed p) t) (stands-live s u p x know off t h) .0
 
 module _ (s u : List ℕ) (p q : Position) (x : ℕ) (o : Onward s u p q x) where
   -- it was in the block
@@ -91,7 +91,6 @@ module _ (s u : List ℕ) (p q : Position) (x : ℕ) (o : Onward s u p q x) wher
   pub forth : Forth s u p q x
   forth =
       record {
-        before = o .before;
         after = o .after;
         stays = o .stays;
         in-the-way = in-the-way;

@@ -1,28 +1,28 @@
 -- What X keeps up to a height, it keeps after a step without it.
 -- Assumes nothing.
 use Rattle.laws.proofs.Prelude.{ℕ, zero, suc, _≤_, _<_, _≡_, refl, true, false, not, _&&_, List, eqb, eqb-false, eq-eqb, not-true, arith}
-use Rattle.laws.specs.Booleans.{split, either, clash, and-parts, or-right, fails-by}
+use Rattle.laws.specs.Booleans.{split, either, clash, and-parts, fails-by}
 use Rattle.laws.specs.Below.{any-some}
 use Rattle.laws.specs.Mask.{bit}
 use Rattle.laws.specs.Bits.{no-bit}
-use Rattle.sheet.specs.Field.{count, parent, opening}
+use Rattle.sheet.specs.Field.{count}
 use Rattle.sheet.specs.LockHeight.{never}
-use Rattle.sheet.specs.Checked.{Checked}
+use Rattle.sheet.specs.Checked.{Checked, Fit}
 use Rattle.slots.specs.Destination.{isContract}
 use Rattle.slots.specs.Conflict.{conflict}
-use Rattle.slots.specs.Ancestry.{hasParent}
 use Rattle.slots.proofs.Ancestors.{here, above-le}
-use Rattle.slots.proofs.Conflicts.{parent-member}
-use Rattle.slots.proofs.Parents.{parent-below}
 use Rattle.position.specs.declared.Position.{Position}
 use Rattle.position.specs.Position.{isConfirmed, confirmedTo}
 use Rattle.attainable.specs.Attainable.{gone}
 use Rattle.slack.specs.Beaten.{fixed, canComeElsewhere}
 use Rattle.slack.specs.Kept.{knownAt, comesForParty, goodChild, elsewhereFree, goodRounds, good, paid, keptTo}
-use Rattle.slack.proofs.Onward.{Steady, Forth}
+use Rattle.slack.proofs.Onward.{Onward, Steady, Forth}
+use Rattle.slack.proofs.Fixed.{fixed-from, fixed-stays}
+use Rattle.slack.proofs.NextPosition.{steady}
+use Rattle.slack.proofs.Confirming.{stands-new, forth}
 use Rattle.slack.proofs.Parts.{stands-live, child-some, Answer, party, child, line, Good, elsewhere-some, kept-parts, kept-paid, kept-good}
 use Rattle.slack.proofs.Rounds.{round-parts, round-good}
-use Rattle.slack.proofs.Dead.{gone-confirmed, gone-met, gone-find}
+use Rattle.slack.proofs.Dead.{gone-met, gone-find}
 use Rattle.slack.proofs.Living.{paid-by, still-confirmed, alive}
 use Rattle.slack.proofs.Carried.{round-carried}
 use Rattle.slack.proofs.Lines.{above-fixed, line-kept}
@@ -34,12 +34,11 @@ module _ (s u : List ℕ) (ok : Checked s) (p q : Position) (x most : ℕ) (stea
       (t : ℕ) (l : t < count s) (f : fixed s q t ≡ true) (g : Good s u p x off (goodRounds s u p x off n) t) where
     -- a good child of what is confirmed
     child-kept : (r : ℕ) → isConfirmed q r ≡ true → goodChild s (goodRounds s u p x off n) r ≡ true → keptTo s u q x off ≡ true
-    unfolding fixed hasParent
     child-kept r y h =
         let w = child-some s (goodRounds s u p x off n) r h in
         let c = w .0 in
         let k = w .1 in
-        rest c (k .low) (or-right (opening s c) (isConfirmed q (parent s c)) (rw (k .parent-is) y)) (k .member)
+        rest c (k .low) (fixed-from s q c (rw (k .parent-is) y)) (k .member)
 
     elsewhere-kept : (r : ℕ) → r < count s → isConfirmed p r ≡ false → isConfirmed q r ≡ true → elsewhereFree s u p x off t r ≡ true
         → keptTo s u q x off ≡ true
@@ -57,15 +56,11 @@ module _ (s u : List ℕ) (ok : Checked s) (p q : Position) (x most : ℕ) (stea
     answer-kept r m new now (child e h) = child-kept r now h
     answer-kept r m new now (line h) = elsewhere-kept r m new now h
 
-    -- t was not gone
+    -- t was not gone, so no rival of it was confirmed
     fresh : (r : ℕ) → r < count s → conflict s r t ≡ true → eqb r t ≡ false → isConfirmed p r ≡ false
     fresh r m c e =
         fails-by (isConfirmed p r)
         (λ y. clash (gone-met s p t t r here m c y e) (stands-live s u p x (knownAt s p x t) off t (g .stood)))
-
-    fresh-self : isConfirmed p t ≡ false
-    fresh-self =
-        fails-by (isConfirmed p t) (λ y. clash (gone-confirmed s p t y) (stands-live s u p x (knownAt s p x t) off t (g .stood)))
 
     -- t is confirmed for another than X: only a free line answers
     self-answer : Answer s u p x off (goodRounds s u p x off n) t t → elsewhereFree s u p x off t t ≡ true
@@ -80,7 +75,7 @@ module _ (s u : List ℕ) (ok : Checked s) (p q : Position) (x most : ℕ) (stea
         split (eqb (confirmedTo q t) x)
         (λ e. kept-paid s u q x off (paid-by s q x t l now e))
         (λ e.
-        elsewhere-kept t l fresh-self now
+        elsewhere-kept t l (stands-new s u p x (knownAt s p x t) off t (g .stood)) now
         (self-answer (g .answers t l (forth .pays-other (knownAt s p x t) 0 off t l pays (g .stood) now e)))))
         (child-kept t now)
 
@@ -122,21 +117,17 @@ module _ (s u : List ℕ) (ok : Checked s) (p q : Position) (x most : ℕ) (stea
       let c = and-parts (isConfirmed p (w .0)) (eqb (confirmedTo p (w .0)) x) (w .2) in
       paid-by s q x (w .0) (w .1) (still-confirmed s u p q x forth (w .0) (w .1) (c .0)) (rw (forth .stays (w .0) (w .1) (c .0) .1) (c .1))
 
-  still-fixed : (t : ℕ) → t < count s → fixed s p t ≡ true → fixed s q t ≡ true
-  unfolding fixed hasParent
-  still-fixed t l h =
-      split (opening s t)
-      (λ o. rw o)
-      (λ o.
-      or-right (opening s t) (isConfirmed q (parent s t))
-      (still-confirmed s u p q x forth (parent s t) (parent-below ok t l o) (parent-member s (isConfirmed p) t h o)))
-
-  pub keeping : keptTo s u p x off ≡ true → keptTo s u q x off ≡ true
+  kept-by : keptTo s u p x off ≡ true → keptTo s u q x off ≡ true
   unfolding good
-  keeping h =
+  kept-by h =
       split (paid s q x)
       (kept-paid s u q x off)
       (λ unpaid.
       either (kept-parts s u p x off h)
       (λ y. kept-paid s u q x off (still-paid y))
-      (λ k. round-kept unpaid (count s) (omega arith) (k .0) (k .1) (still-fixed (k .0) (k .1) (k .2)) (k .3)))
+      (λ k. round-kept unpaid (count s) (omega arith) (k .0) (k .1) (fixed-stays s ok p q (still-confirmed s u p q x forth) (k .0) (k .1) (k .2)) (k .3)))
+
+pub keeping : (s u : List ℕ) → Fit s u → (p q : Position) (x : ℕ) → Onward s u p q x → (off : ℕ) → p .mined ≤ off → off ≤ 20000
+    → keptTo s u p x off ≡ true → keptTo s u q x off ≡ true
+keeping s u fit p q x o off late small h =
+    kept-by s u (fit .checked) p q x 20000 (steady s u fit p q x o) (forth s u p q x o) off small late (omega arith) h

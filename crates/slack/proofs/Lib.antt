@@ -1,13 +1,14 @@
 pub mod Onward
 pub mod Heights
 pub mod Locks
+pub mod Fixed
 pub mod Compared
 pub mod AboveSets
 pub mod Comparing
 pub mod SamePosition
 pub mod NextPosition
-pub mod Confirming
 pub mod Parts
+pub mod Confirming
 pub mod Rounds
 pub mod Dead
 pub mod Living

@@ -1,28 +1,26 @@
 -- Where a free line of p answers what is confirmed in q for a t whose parent is, X counts in q on that line.
 -- Assumes nothing.
-use Rattle.laws.proofs.Prelude.{ℕ, zero, suc, _+_, _≤_, _<_, _≡_, refl, sym, _∙_, true, false, not, _&&_, List, _⊎_, inl, inr, eqb, eq-eqb, not-true, arith}
+use Rattle.laws.proofs.Prelude.{ℕ, zero, suc, _+_, _≤_, _<_, _≡_, refl, true, false, List, _⊎_, inl, inr, eq-eqb, arith}
 use native.Mathlib.Nat.{not-suc-le-zero}
 use lib.Bits.{bitOr}
-use Rattle.laws.specs.Booleans.{split, either, clash, and-parts, or-neither, fails-by}
-use Rattle.laws.specs.Mask.{bit, unionBelow}
-use Rattle.laws.specs.Bits.{no-bit, or-bit, union-bit}
-use Rattle.laws.specs.Sets.{set-bit}
-use Rattle.sheet.specs.Field.{count, parent, opening}
+use Rattle.laws.specs.Booleans.{split, either, clash, fails-by}
+use Rattle.laws.specs.Mask.{bit}
+use Rattle.laws.specs.Bits.{no-bit, or-bit}
+use Rattle.sheet.specs.Field.{count, parent}
 use Rattle.sheet.specs.LockHeight.{never}
 use Rattle.sheet.specs.Checked.{Checked}
 use Rattle.slots.specs.Destination.{isContract}
-use Rattle.slots.specs.Ancestry.{hasParent, isSelfOrAncestor}
 use Rattle.slots.proofs.Ancestors.{Above, here, up, above-le, above-all, holds-above, ancestor-above, above-ancestor}
 use Rattle.slots.proofs.Conflicts.{parent-member}
 use Rattle.slots.proofs.Parents.{parent-lower, parent-below, parent-has}
 use Rattle.position.specs.declared.Position.{Position}
-use Rattle.position.specs.Position.{isConfirmed, keys}
-use Rattle.attainable.specs.Attainable.{secretsOf, shownBy, knownFrom}
-use Rattle.attainable.proofs.Masks.{or-left, or-last}
-use Rattle.attainable.proofs.Parts.{known-shared, picked-bit}
+use Rattle.position.specs.Position.{isConfirmed}
+use Rattle.attainable.specs.Attainable.{secretsOf}
 use Rattle.slack.specs.Beaten.{above, fixed, last}
 use Rattle.slack.specs.Kept.{knownAt, goodChild, goodRounds, good, paid, keptTo}
-use Rattle.slack.proofs.Onward.{Chained, Fewer, Steady, Forth, secretsShown}
+use Rattle.slack.proofs.Onward.{Chained, Fewer, Steady, Forth}
+use Rattle.slack.proofs.Fixed.{open-parts}
+use Rattle.slack.proofs.AboveSets.{above-parts, Knows, held, shown, told, knows-parts, knows-from}
 use Rattle.slack.proofs.Parts.{child-found, Unbeaten, free-parts, Elsewhere, kept-good}
 use Rattle.slack.proofs.Rounds.{round-from}
 use Rattle.slack.proofs.Living.{payee-pays, still-confirmed, alive}
@@ -39,31 +37,15 @@ module _ (s : List ℕ) (ok : Checked s) (q : Position) (chained : Chained s q) 
       (holds-above (λ k. isConfirmed q k ≡ true) (λ k i b c. chained .parents k i c (parent-has ok k i b)) r (parent-below ok t l o)
       (parent-member s (isConfirmed q) t f o))
 
-  above-none : (k : ℕ) → k < count s → bit (above s q t) k ≡ false
-  unfolding above
-  above-none k m =
-      fails-by (bit (above s q t) k)
-      (λ y.
-      let a =
-      and-parts (not (isConfirmed q k)) (not (eqb k t) && isSelfOrAncestor s k t)
-      (sym (set-bit (count s) (λ j. not (isConfirmed q j) && (not (eqb j t) && isSelfOrAncestor s j t)) (ok .sized .few) k m) ∙ y) in
-      let b = and-parts (not (eqb k t)) (isSelfOrAncestor s k t) (a .1) in
-      either (above-fixed k (ancestor-above s k t (b .1)))
-      (λ e. clash (eq-eqb k t e) (not-true (eqb k t) (b .0)))
-      (λ c. clash c (not-true (isConfirmed q k) (a .0))))
-
   -- so what X knows at t is known at each other transaction
-  known-anywhere : (x h i : ℕ) → bit (knownAt s q x t) i ≡ true → bit (knownAt s q x h) i ≡ true
-  unfolding knownAt knownFrom shownBy
-  known-anywhere x h i b =
-      either (or-bit (keys q x) (knownFrom s q (above s q t)) i b)
-      (or-left (keys q x) (knownFrom s q (above s q h)) i)
-      (λ y.
-      either (or-bit (secretsShown s q) (unionBelow (count s) (shownBy s (above s q t))) i y)
-      (λ z. or-last (keys q x) (knownFrom s q (above s q h)) i (known-shared s q (above s q h) i z))
-      (λ z.
-      let w = union-bit (count s) (shownBy s (above s q t)) i z in
-      clash (picked-bit (bit (above s q t) (w .0)) (secretsOf s (w .0)) i (w .2) .0) (above-none (w .0) (w .1))))
+  known-anywhere : (x h i : ℕ) → Knows s q x t i → Knows s q x h i
+  known-anywhere x h i (held b) = held b
+  known-anywhere x h i (shown b) = shown b
+  known-anywhere x h i (told k m a b) =
+      let w = above-parts s ok q t k m a in
+      either (above-fixed k (ancestor-above s k t (w .2)))
+      (λ e. clash (eq-eqb k t e) (w .1))
+      (λ c. clash c (w .0))
 
 module _ (s u : List ℕ) (ok : Checked s) (p q : Position) (x most : ℕ) (steady : Steady s u p q x most) (forth : Forth s u p q x)
     (unpaid : paid s q x ≡ false) (off : ℕ) (late : p .mined ≤ off) (limit : off ≤ never)
@@ -71,11 +53,11 @@ module _ (s u : List ℕ) (ok : Checked s) (p q : Position) (x most : ℕ) (stea
     (e : Elsewhere s u p x off t r w) where
   -- what X knows then at each transaction is no less
   knows : (h : ℕ) → Fewer (bitOr (knownAt s p x t) (secretsOf s r)) (knownAt s q x h)
-  unfolding knownAt
   knows h i n b =
-      either (or-bit (knownAt s p x t) (secretsOf s r) i b)
-      (λ y. known-anywhere s ok q (forth .after) t l f x h i (steady .known-more t l i n y))
-      (λ y. or-last (keys q x) (knownFrom s q (above s q h)) i (known-shared s q (above s q h) i (forth .shown r m new now i n y)))
+      knows-from s q x h i
+      (either (or-bit (knownAt s p x t) (secretsOf s r) i b)
+      (λ y. known-anywhere s ok q (forth .after) t l f x h i (knows-parts s q x t i (steady .known-more t l i n y)))
+      (λ y. shown (forth .shown r m new now i n y)))
 
   -- nothing comes before one of the line
   stood : (h : ℕ) → Above s h w → isConfirmed q h ≡ false → Unbeaten s u q x (knownAt s q x h) 0 off h
@@ -128,14 +110,13 @@ module _ (s u : List ℕ) (ok : Checked s) (p q : Position) (x most : ℕ) (stea
 
   -- and the topmost that is not confirmed has its parent confirmed, or none
   topmost : (k h : ℕ) → h < k → Above s h w → isConfirmed q h ≡ false → keptTo s u q x off ≡ true
-  unfolding fixed hasParent
   topmost zero h i a c = absurd (not-suc-le-zero i)
   topmost (suc k) h i a c =
       let low : h < count s = omega (arith, above-le a, e .low) in
       split (fixed s q h)
       (λ y. kept-good s u q x off h low y (line-good h a c))
       (λ y.
-      let z = or-neither (opening s h) (isConfirmed q (parent s h)) y in
+      let z = open-parts s q h y in
       let b = parent-lower ok h low (z .0) in
       topmost k (parent s h) (omega (arith, i, b)) (above-all (up b here) a) (z .1))
 

@@ -16,6 +16,7 @@ use Rattle.position.specs.Position.{isConfirmed, confirmedTo}
 use Rattle.attainable.specs.Attainable.{gone}
 use Rattle.slack.specs.Kept.{paid}
 use Rattle.slack.proofs.Onward.{Alive, Forth}
+use Rattle.slack.proofs.Fixed.{same-block}
 use Rattle.slack.proofs.Parts.{stands-live, Free, free-parts}
 use Rattle.slack.proofs.Dead.{gone-confirmed, gone-met, gone-find}
 
@@ -45,8 +46,7 @@ paid-by s p x t l c e = any-found (count s) t (λ k. isConfirmed p k && eqb (con
 
 module _ (s u : List ℕ) (p q : Position) (x : ℕ) (f : Forth s u p q x) where
   pub still-confirmed : (t : ℕ) → t < count s → isConfirmed p t ≡ true → isConfirmed q t ≡ true
-  unfolding isConfirmed
-  still-confirmed t l h = rw (f .stays t l h .0) h
+  still-confirmed t l h = same-block p q t (f .stays t l h .0) h
 
   -- a rival of the line of c, whose parent is not gone: there is none
   none-above : (c h r : ℕ) → c < count s → opening s c ≡ false → gone s q (parent s c) ≡ false → Above s h c → r < count s → conflict s r h ≡ true

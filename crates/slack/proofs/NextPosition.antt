@@ -2,7 +2,7 @@
 -- Assumes nothing.
 use Rattle.laws.proofs.Prelude.{ℕ, _+_, _≤_, _<_, _≡_, true, false, not, _&&_, _||_, List, _⊎_, inl, inr, eqb, ltb, leb}
 use Rattle.laws.proofs.Prelude.{ltb-true, ltb-false, leb-true, leb-false, ne-eqb, le-leb, arith}
-use Rattle.laws.specs.Booleans.{split, either, clash, and-parts, or-parts, or-right, or-neither, fails-by}
+use Rattle.laws.specs.Booleans.{split, either, clash, and-parts, or-parts, or-right, fails-by}
 use Rattle.laws.specs.Below.{any-some, any-found}
 use Rattle.laws.specs.Mask.{bit}
 use Rattle.sheet.specs.Field.{count, parent, opening}
@@ -24,6 +24,7 @@ use Rattle.attainable.specs.Attainable.{gone, waitsFor, attainable}
 use Rattle.slack.specs.Beaten.{destinationOf, fixed, runs, lockBeside, pooled, signs, waitsBefore, sooner}
 use Rattle.slack.specs.Kept.{knownAt}
 use Rattle.slack.proofs.Onward.{Fewer, Onward, Steady}
+use Rattle.slack.proofs.Fixed.{open-parts, same-block, fixed-stays}
 use Rattle.slack.proofs.Locks.{lock-met, not-since, own-small}
 use Rattle.slack.proofs.AboveSets.{above-parts, above-from, Knows, held, shown, told, knows-parts, knows-from}
 use Rattle.slack.proofs.Compared.{Parent, there, came, waits, Compared, same-locks, shifted}
@@ -36,13 +37,9 @@ module _ (s : List ℕ) (p : Position) (t : ℕ) where
   fixed-parts h =
       either (or-parts (opening s t) (ltb 0 (blockOf p (parent s t))) h) inl (λ y. inr (ltb-true 0 (blockOf p (parent s t)) y))
 
-  open-parts : fixed s p t ≡ false → (opening s t ≡ false) × (isConfirmed p (parent s t) ≡ false)
-  unfolding fixed hasParent
-  open-parts h = or-neither (opening s t) (isConfirmed p (parent s t)) h
-
   open-none : fixed s p t ≡ false → blockOf p (parent s t) ≡ 0
   unfolding isConfirmed
-  open-none h = let y = ltb-false 0 (blockOf p (parent s t)) (open-parts h .1) in omega arith
+  open-none h = let y = ltb-false 0 (blockOf p (parent s t)) (open-parts s p t h .1) in omega arith
 
 -- a number that is no destination's has the last one's mask
 shared-past : (p : Position) (t d : ℕ) → destinations ≤ d → shared p t d ≡ shared p t 3
@@ -54,15 +51,7 @@ module _ (s u : List ℕ) (fit : Fit s u) (p q : Position) (x : ℕ) (o : Onward
   ok = fit .checked
 
   confirmed : (t : ℕ) → t < count s → isConfirmed p t ≡ true → isConfirmed q t ≡ true
-  unfolding isConfirmed
-  confirmed t l h = rw (o .stays t l h .0) h
-
-  fixed-stays : (t : ℕ) → t < count s → fixed s p t ≡ true → fixed s q t ≡ true
-  unfolding fixed hasParent
-  fixed-stays t l h =
-      split (opening s t)
-      (λ y. rw y)
-      (λ y. or-right (opening s t) (isConfirmed q (parent s t)) (confirmed (parent s t) (parent-below ok t l y) (rw y at h)))
+  confirmed t l h = same-block p q t (o .stays t l h .0) h
 
   runs-first : (t : ℕ) → t < count s → fixed s p t ≡ false → fixed s q t ≡ true → runs s u p x t ≡ true
   unfolding runs fixed hasParent
@@ -89,7 +78,7 @@ module _ (s u : List ℕ) (fit : Fit s u) (p q : Position) (x : ℕ) (o : Onward
       (λ z. there z y (o .same t l y))
       (λ z. came z y (o .same t l y) (runs-first t l z y)))
       (λ y.
-      let z = fails-by (fixed s p t) (λ k. clash (fixed-stays t l k) y) in
+      let z = fails-by (fixed s p t) (λ k. clash (fixed-stays s ok p q confirmed t l k) y) in
       waits z y (o .rises t l) (runs-falls t l z))
 
   pool-stays : (t : ℕ) → t < count s → pooled s p x t ≡ true → gone s q t ≡ false → pooled s q x t ≡ true

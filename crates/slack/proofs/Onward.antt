@@ -98,7 +98,6 @@ pub record Alive (s u : List ℕ) (p q : Position) (x : ℕ) : Type 0 where
 
 -- what a block can do to what X counts on
 pub record Forth (s u : List ℕ) (p q : Position) (x : ℕ) : Type 0 where
-  pub before : Chained s p
   pub after : Chained s q
   pub stays : (t : ℕ) → t < count s → isConfirmed p t ≡ true → (blockOf q t ≡ blockOf p t) × (confirmedTo q t ≡ confirmedTo p t)
   -- what is confirmed in q and was not in p was in the way of each rival that stood, and of itself if it pays another than X
