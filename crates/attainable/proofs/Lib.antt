@@ -1,4 +1,11 @@
+pub mod Answers
+pub mod Attained
+pub mod Lacking
 pub mod Masks
 pub mod Parts
+pub mod Reaching
+pub mod Reading
 pub mod Rounds
 pub mod Also
+pub mod Signing
+pub mod Ways

@@ -1,7 +1,8 @@
 -- Bits of unions and subsets, and the number of a set's members.
 -- Assumes nothing.
-use Rattle.laws.proofs.Prelude.{ℕ, zero, suc, _≤_, _<_, _≡_, refl, _∙_, Bool, true, false, not, _||_, _⊎_, inl, inr, arith}
-use native.Mathlib.Nat.{not-suc-le-zero, le-of-suc-le-suc, eq-or-lt-of-le}
+use Rattle.laws.proofs.Prelude.{ℕ, zero, suc, _+_, _≤_, _<_, _≡_, refl, _∙_, Bool, true, false, not, _||_, _⊎_, inl, inr, arith}
+use native.Mathlib.Nat.{not-suc-le-zero, le-of-suc-le-suc, eq-or-lt-of-le, le-antisymm}
+use native.Mathlib.Numerals.{add-one}
 use lib.Bits.{bitOr}
 use Rattle.laws.specs.Booleans.{pick, split, either, or-right}
 use Rattle.laws.specs.Below.{allBelow, all-from}
@@ -24,6 +25,18 @@ union-has (suc n) f i k l h =
     either (eq-or-lt-of-le (le-of-suc-le-suc l))
     (λ e. or-last (unionBelow n f) (f n) i (rw e at h))
     (λ m. or-left (unionBelow n f) (f n) i (union-has n f i k m h))
+
+-- a loop that joins masks: its start, a turn, its end
+pub union-start : (f : ℕ → ℕ) → 0 ≡ unionBelow 0 f
+unfolding unionBelow
+union-start f = refl
+
+pub union-more : (n : ℕ) (f : ℕ → ℕ) (a x : ℕ) → a ≡ unionBelow n f → x ≡ f n → bitOr a x ≡ unionBelow (n + 1) f
+unfolding unionBelow
+union-more n f a x e h = rw (add-one, e, h)
+
+pub union-done : (k n : ℕ) (f : ℕ → ℕ) (a : ℕ) → k ≤ n → n ≤ k → a ≡ unionBelow k f → a ≡ unionBelow n f
+union-done k n f a l m e = rw (le-antisymm m l) e
 
 pub subset-from : (n a b : ℕ) → ((i : ℕ) → i < n → bit a i ≡ true → bit b i ≡ true) → subset n a b ≡ true
 unfolding subset

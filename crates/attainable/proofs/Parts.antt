@@ -38,14 +38,14 @@ pub record Comes (s u : List ℕ) (p : Position) (x : ℕ) (also : ℕ → Bool)
   pub way : Way s u p x also members t d
 
 module _ (s u : List ℕ) (p : Position) (x : ℕ) (also : ℕ → Bool) (members t d : ℕ) where
-  parent-parts : hasParent s (λ k. isConfirmed p k || bit members k) t ≡ true → Parent s p members t
+  pub parent-parts : hasParent s (λ k. isConfirmed p k || bit members k) t ≡ true → Parent s p members t
   unfolding hasParent
   parent-parts h =
       either (or-parts (opening s t) (isConfirmed p (parent s t) || bit members (parent s t)) h)
       inl
       (λ y. inr (or-parts (isConfirmed p (parent s t)) (bit members (parent s t)) y))
 
-  parent-from : Parent s p members t → hasParent s (λ k. isConfirmed p k || bit members k) t ≡ true
+  pub parent-from : Parent s p members t → hasParent s (λ k. isConfirmed p k || bit members k) t ≡ true
   unfolding hasParent
   parent-from h =
       let rest = isConfirmed p (parent s t) || bit members (parent s t) in

@@ -5,7 +5,7 @@ use Rattle.laws.specs.Booleans.{split, either, clash, and-parts}
 use Rattle.laws.specs.Below.{anyBelow, any-some, any-none, any-found}
 use Rattle.laws.specs.Mask.{bit}
 use Rattle.laws.specs.Bits.{no-bit}
-use Rattle.laws.specs.Sets.{set-bit}
+use Rattle.laws.specs.Sets.{setBelow, set-bit, set-same, none-set}
 use Rattle.sheet.specs.Field.{count}
 use Rattle.sheet.specs.Checked.{Checked}
 use Rattle.slots.specs.Destination.{destinations}
@@ -98,3 +98,21 @@ module _ (s u : List ℕ) (ok : Checked s) (p : Position) (x : ℕ) (also : ℕ 
   pub least : Least s u p x also
   unfolding attainable round rounds grow
   least = record { closed = closed-by (round (count s)) closes; least = λ members c. inside members c (count s) }
+
+  -- a member of it comes by it, for some destination
+  pub attained-comes : (t : ℕ) → t < count s → bit (attainable s u p x also) t ≡ true
+      → (d : ℕ) × (d < destinations) × (comes s u p x also (attainable s u p x also) t d ≡ true)
+  unfolding attainable round rounds grow
+  attained-comes t l h = grown-some (round (count s)) t l (round-more (count s) t l h)
+
+  -- it has no bits but those of transactions
+  round-set : (k : ℕ) → round k ≡ setBelow (count s) (bit (round k))
+  unfolding round rounds grow grown
+  round-set zero = sym (none-set (count s) (bit 0) (λ k l. no-bit k))
+  round-set (suc k) =
+      let came : ℕ → Bool = λ t. anyBelow destinations (comes s u p x also (round k) t) in
+      set-same (count s) came (bit (setBelow (count s) came)) (λ t l. sym (set-bit (count s) came (ok .sized .few) t l))
+
+  pub attained-set : attainable s u p x also ≡ setBelow (count s) (bit (attainable s u p x also))
+  unfolding attainable round
+  attained-set = round-set (count s)

@@ -1,1 +1,2 @@
 pub mod Attainable
+pub mod Forms

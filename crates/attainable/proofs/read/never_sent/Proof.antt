@@ -1,0 +1,19 @@
+-- Without stealth, by the deadline.
+use Rattle.laws.specs.Booleans.{tests}
+use borrow.Author.Needs.{needs}
+use Rattle.attainable.specs.Attainable.{neverSent}
+use Rattle.attainable.proofs.read.never_sent.Statement.{statement}
+use Rattle.attainable.proofs.read.never_sent.Tie as tie
+
+returns : tie.Need-returns
+unfolding neverSent
+returns c = simp (tests, ← (c .before .stealth .ensures), c .if1 .taken)
+
+returns-2 : tie.Need-returns-2
+unfolding neverSent
+returns-2 c =
+    let c2 = c .before .before in
+    simp (tests, ← (c2 .before .stealth .ensures), c2 .if1 .left, ← (c .before .deadline-in .ensures .is), ← (c .wide .ensures .0))
+
+pub never-sent-spec : {M : Type 1} → statement M
+never-sent-spec = tie.close (tie.spec (λ c κs. search needs) returns (λ c κs. search needs) (λ c κs. search needs) returns-2)
