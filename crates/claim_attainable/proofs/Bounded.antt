@@ -5,19 +5,19 @@ use Rattle.laws.proofs.Prelude.{length, eqb-true, ltb-true, ltb-false, leb-true
 use native.Mathlib.Nat.{not-suc-le-zero}
 use lib.Bits.{bitAnd}
 use Rattle.laws.specs.Booleans.{split, either, clash, and-parts, fails-by, or-right}
-use Rattle.laws.specs.Mask.{bit, unionBelow, without}
+use Rattle.laws.specs.Mask.{bit, without}
 use Rattle.laws.specs.Bits.{bit-and, no-bit}
 use Rattle.sheet.specs.Field.{parties, place, partyAt, count, parent, opening, signatures, secrets, required}
 use Rattle.sheet.specs.Setup.{perDay, stealth}
 use Rattle.sheet.specs.Checked.{Checked}
 use Rattle.sheet.proofs.Parties.{place-below, at-place, party-small, party-not-miner}
 use Rattle.slots.specs.Destination.{alice, bob, contract, destinations, isParty, isPayee, isContract}
-use Rattle.slots.specs.Slot.{emptySlot, sharedFor, sharedAny}
-use Rattle.slots.specs.Signatures.{sharedSecrets, signed, shareMask, exposedMask}
+use Rattle.slots.specs.Slot.{emptySlot, sharedFor}
+use Rattle.slots.specs.Signatures.{signed, shareMask, exposedMask}
 use Rattle.slots.proofs.Conflicts.{conflict-self}
 use Rattle.slots.proofs.Parents.{parent-below, parent-lower}
 use Rattle.position.specs.declared.Position.{Position}
-use Rattle.position.specs.Position.{slot, inPool, poolTo, inBlock, blockTo, blockOf, isConfirmed, confirmedTo, shared, holds, deadlineIn}
+use Rattle.position.specs.Position.{inPool, poolTo, inBlock, blockTo, blockOf, isConfirmed, confirmedTo, shared, holds, deadlineIn}
 use Rattle.position.specs.Position as at
 use Rattle.steps.specs.Decode.{sendsTo, sharesTo}
 use Rattle.step_laws.proofs.AfterBlocks.{out-pool, out-block}
@@ -30,6 +30,7 @@ use Rattle.attainable.specs.Attainable.{secretsOf, otherKeys, othersKeys, known
 use Rattle.attainable.proofs.Masks.{union-has, subset-else}
 use Rattle.attainable.proofs.Parts.{othersHave, Way, waits, lent, signs, Parent, comes-from, known-shared, known-member, have-keys, have-known, have-shared}
 use Rattle.claim_attainable.proofs.Actors.{Place, in-pool, in-block, in-chain, There, pool, block, chain, SentBy, ShownBy, by-share, by-send, by-block, MovedBy}
+use Rattle.claim_attainable.proofs.Shown.{secret-shown}
 use Rattle.claim_attainable.proofs.Alive.{has-block, stays, sent-alive, there-alive}
 
 -- a destination that is right for a transaction is one of the four
@@ -270,14 +271,10 @@ module _ (s u : List ℕ) (ok : Checked s) (p : Position) (x : ℕ) (who : isPar
 
     -- a shared secret is known
     start-known : (t e i : ℕ) → e < destinations → bit (secrets s) i ≡ true → bit (shared p t e) i ≡ true → bit (knownFrom s p members) i ≡ true
-    unfolding sharedSecrets shared sharedAny
+    unfolding shared
     start-known t e i m a h =
         split (ltb t (count s))
-        (λ y.
-        let all = unionBelow (count s) (λ k. sharedAny (slot p k)) in
-        let any : bit (sharedAny (slot p t)) i ≡ true = union-has destinations (sharedFor (slot p t)) i e m h in
-        let one : bit all i ≡ true = union-has (count s) (λ k. sharedAny (slot p k)) i t (ltb-true t (count s) y) any in
-        known-shared s p members i (bit-and (secrets s) all i ∙ rw (a, one)))
+        (λ y. known-shared s p members i (secret-shown s p t e i (ltb-true t (count s) y) m a h))
         (λ y. clash (rw (g .beyond t (ltb-false t (count s) y), nothing-shared e) at h) (no-bit i))
 
     pub first : Bounded p

@@ -3,15 +3,15 @@
 use Rattle.laws.proofs.Prelude.{ℕ, _+_, _^_, _<_, _≡_, refl, sym, _∙_, true, List, [], _∷_, _⊎_, inl, inr, eqb, eqb-true}
 use lib.Bits.{bitOr}
 use Rattle.laws.specs.Booleans.{split, either}
-use Rattle.laws.specs.Bits.{or-bit, no-bit}
+use Rattle.laws.specs.Bits.{or-bit, no-bit, bit-and}
 use Rattle.laws.specs.Sets.{joined, bit-joined}
 use Rattle.laws.specs.Cases.{stored, rewrote}
-use Rattle.laws.specs.Mask.{bit}
-use Rattle.sheet.specs.Field.{count}
+use Rattle.laws.specs.Mask.{bit, unionBelow}
+use Rattle.sheet.specs.Field.{count, secrets}
 use Rattle.slots.specs.declared.Slot.{Slot}
 use Rattle.slots.specs.Destination.{contract, destinations}
-use Rattle.slots.specs.Slot.{emptySlot, standing, entryTo, entryFor, sharedFor, withPool, withBlock, withShared, withMark}
-use Rattle.slots.specs.Signatures.{shareMask, exposedMask}
+use Rattle.slots.specs.Slot.{emptySlot, standing, entryTo, entryFor, sharedFor, withPool, withBlock, withShared, withMark, sharedAny}
+use Rattle.slots.specs.Signatures.{shareMask, exposedMask, sharedSecrets}
 use Rattle.slots.proofs.SharedBits.{shared-from, shared-pool, shared-block, shared-confirmed, shared-mark}
 use Rattle.position.specs.declared.Position.{Position}
 use Rattle.position.specs.Position.{slot, inBlock, blockTo, shared, keys, holds}
@@ -21,7 +21,7 @@ use Rattle.position.specs.FirstShares.{firstShares}
 use Rattle.position.specs.Owed.{enters}
 use Rattle.position.specs.Effect.{withSlots, changeSlot, changeSlots, withKey, shareOne, shareEach, afterShare, afterGive, afterSend, afterHandIn, afterInclude}
 use Rattle.position.specs.Effect.{leavesPool, mineSlot, withMined, afterMine, leavesBlock, bumpSlot, afterBump}
-use Rattle.attainable.proofs.Masks.{or-last}
+use Rattle.attainable.proofs.Masks.{or-last, union-has}
 
 -- shared signatures where one slot, or each, is changed
 pub one-shared : (t : ℕ) (f : Slot → Slot) (p : Position) (k e i : ℕ) → bit (shared (changeSlot t f p) k e) i ≡ true
@@ -187,3 +187,13 @@ mined-shown s p k e i l h =
     either (each-shared s (mineSlot s p) p k e i h)
     inl
     (mine-shown s p k (slot p k) e i l)
+
+-- a secret that is shared somewhere is in shared knowledge
+pub secret-shown : (s : List ℕ) (q : Position) (k e i : ℕ) → k < count s → e < destinations → bit (secrets s) i ≡ true → bit (shared q k e) i ≡ true
+    → bit (sharedSecrets s (λ j. sharedAny (slot q j))) i ≡ true
+unfolding sharedSecrets shared sharedAny
+secret-shown s q k e i l m a h =
+    let all = unionBelow (count s) (λ j. sharedAny (slot q j)) in
+    let any : bit (sharedAny (slot q k)) i ≡ true = union-has destinations (sharedFor (slot q k)) i e m h in
+    let one : bit all i ≡ true = union-has (count s) (λ j. sharedAny (slot q j)) i k l any in
+    bit-and (secrets s) all i ∙ rw (a, one)

@@ -57,7 +57,7 @@ module _ (s u : List ℕ) (ok : Checked s) (p : Position) (g : Sound s u p) wher
       (λ z. omega (arith, ltb-false 0 (blockOf p k) z)))
 
   -- confirmed afterwards: the mined ones and those before
-  mined-confirmed : (k : ℕ) → inBlock p k ≡ true → isConfirmed (afterMine s p) k ≡ true
+  pub mined-confirmed : (k : ℕ) → inBlock p k ≡ true → isConfirmed (afterMine s p) k ≡ true
   unfolding isConfirmed
   mined-confirmed k b = rw (mine-blocks s p (wide s u ok p g) (g .beyond), b) (lt-ltb 0 (p .mined + 1) (omega arith))
 

@@ -1,7 +1,7 @@
 -- Pool entries: before their deadline; and where the parent is confirmed or there is none, in the pool until they or a rival are confirmed.
 -- Assumes nothing.
 use Rattle.laws.proofs.Prelude.{ℕ, _+_, _≤_, _<_, _≡_, refl, sym, ap, _∙_, true, false, not, false≢true, List, [], _∷_, _⊎_, inl, inr, eqb}
-use Rattle.laws.proofs.Prelude.{ltb, eqb-true, eqb-false, ltb-true, ltb-false, lt-ltb, not-true, arith}
+use Rattle.laws.proofs.Prelude.{ltb, eqb-true, eqb-false, ltb-true, ltb-false, not-true, arith}
 use Rattle.laws.specs.Booleans.{split, either, clash, and-parts, or-parts, or-neither}
 use Rattle.sheet.specs.Field.{count, parent, opening}
 use Rattle.sheet.specs.LockHeight.{lockHeight}
@@ -34,6 +34,7 @@ use Rattle.step_laws.proofs.AfterBlocks.{none-stands, mine-blocks, mine-pool, m
 use Rattle.step_laws.proofs.Sending.{sent-to-pool, before-deadline}
 use Rattle.step_laws.proofs.Quiet.{Quiet, lasting}
 use Rattle.claim_ledger.proofs.Sound.{Sound}
+use Rattle.claim_ledger.proofs.PoolLeft.{mined-confirmed}
 use Rattle.claim_ledger.proofs.Standing.{Stands, met-at, not-owed}
 use Rattle.claim_ledger.proofs.SoundSteps.{sound-step}
 use Rattle.claim_outage.specs.Claim.{Fate, waits, done, ousted}
@@ -181,21 +182,17 @@ module _ (s u : List ℕ) (ok : Checked s) (p : Position) (g : Sound s u p) wher
         absurd (omega arith))
         (λ y. ltb-false (lockHeight s (perDay u) (blockOf p) t) (lockHeight s (perDay u) (blockOf p) k) y)
 
-    mined-now : (k : ℕ) → inBlock p k ≡ true → isConfirmed mined k ≡ true
-    unfolding isConfirmed
-    mined-now k b = lt-ltb 0 (blockOf mined k) (rw (mine-blocks s p (wide s u ok p g) (g .beyond), b) (omega arith))
-
     fate-mine : LaterIn s p mined → Early s u mined → (t : ℕ) → t < count s → inPool p t ≡ true → Stands s p t → Fate s u mined t
     unfolding leavesPool
     fate-mine later after t l i at =
         split (inBlock p t)
-        (λ b. done (mined-now t b))
+        (λ b. done (mined-confirmed s u ok p g t b))
         (λ b.
         split (meetsOther s (inBlock p) t)
         (λ h.
         let w = other-find s (inBlock p) t h in
         let c = met-at s u ok p g (w .2) l at (w .1) (w .3) (w .4) (w .5) in
-        ousted (w .1) (w .3) c (mined-now (w .1) (w .5)) (no-later-on s u ok p mined later t l at (w .1) c (ousted-by t l i (w .1) (w .3) c (w .5))))
+        ousted (w .1) (w .3) c (mined-confirmed s u ok p g (w .1) (w .5)) (no-later-on s u ok p mined later t l at (w .1) c (ousted-by t l i (w .1) (w .3) c (w .5))))
         (λ h.
         let j : inPool mined t ≡ true = rw (mine-pool s p (wide s u ok p g) (g .beyond), i, b, h) in
         waits j (after t l j)))
