@@ -16,3 +16,4 @@ pub mod Carried
 pub mod Falling
 pub mod Lines
 pub mod Keeping
+pub mod Greatest
