@@ -1,0 +1,168 @@
+-- Pool entries: they keep their destination while they stand, and without stealth the block being filled is of pool entries.
+-- Assumes nothing.
+use Rattle.laws.proofs.Prelude.{ℕ, _<_, _≡_, refl, sym, _∙_, true, false, not, _&&_, _||_, false≢true, List, [], _∷_, _⊎_, inl, inr, eqb, ltb}
+use Rattle.laws.proofs.Prelude.{length, eqb-true, ltb-true, not-true, arith}
+use Rattle.laws.specs.Booleans.{split, either, clash, and-parts, or-parts, or-neither}
+use Rattle.laws.specs.Failing.{passed}
+use Rattle.sheet.specs.Field.{count}
+use Rattle.sheet.specs.Check.{sheetRefusal}
+use Rattle.sheet.specs.Setup.{setupRefusal, stealth}
+use Rattle.sheet.specs.Checked.{Checked}
+use Rattle.sheet.proofs.Theorems.{sheet-checked}
+use Rattle.slots.specs.declared.Step.{Step}
+use Rattle.slots.specs.declared.Step.the-variants.{Share, Give, SendToPool, HandToMiner, Include, Mine, Bump}
+use Rattle.slots.specs.Destination.{miner, contract, destinationNumber}
+use Rattle.slots.specs.Ancestry.{meetsConflict}
+use Rattle.slots.specs.Invalidated.{invalidated}
+use Rattle.slots.proofs.Conflicts.{conflict-self, no-conflict}
+use Rattle.position.specs.declared.Position.{Position}
+use Rattle.position.specs.Position.{start, inPool, poolTo, inBlock, blockTo, isConfirmed, sent}
+use Rattle.steps.specs.Decode.{fieldsRight}
+use Rattle.position.specs.Owed.{enters}
+use Rattle.position.specs.Tests.{sendTests, poolTests, minerTests, includeTests}
+use Rattle.position.specs.StepRefusal.{tests, stepRefusal}
+use Rattle.position.specs.Effect.{afterShare, afterGive, afterSend, leavesPool, afterMine, afterBump, effect}
+use Rattle.position.specs.Play.{FourBytes, step, play}
+use Rattle.position.proofs.Starts.{start-slot}
+use Rattle.position.proofs.StepCases.{StepCase, taken, turned-down, step-case}
+use Rattle.step_laws.proofs.Untouched.{SamePool, SameBlock}
+use Rattle.step_laws.proofs.AfterShares.{share-pool, share-block, give-pool, give-block}
+use Rattle.step_laws.proofs.AfterSends.{send-pool, send-to, send-block, hand-pool, include-block, include-to, include-pool}
+use Rattle.step_laws.proofs.AfterBlocks.{none-stands, mine-block, mine-pool, mine-pool-to, bump-block, bump-to-entered, bump-to-kept, bump-pool, enters-in}
+use Rattle.step_laws.proofs.Sending.{sent-to-pool}
+use Rattle.claim_ledger.proofs.Sound.{Sound}
+use Rattle.claim_ledger.proofs.EachKind.{wide}
+use Rattle.claim_ledger.proofs.PoolLeft.{mined-confirmed, left-by}
+use Rattle.claim_ledger.proofs.SoundSteps.{sound-step}
+
+-- each entry of p's pool is one of q's
+abbrev pub PoolIn : Position → Position → Type 0
+PoolIn p q = (t : ℕ) → inPool p t ≡ true → (inPool q t ≡ true) × (poolTo q t ≡ poolTo p t)
+
+-- each entry of p's block is one of q's pool
+abbrev BlockIn : List ℕ → Position → Position → Type 0
+BlockIn s p q = (t : ℕ) → t < count s → inBlock p t ≡ true → (inPool q t ≡ true) × (poolTo q t ≡ blockTo p t)
+
+-- without stealth each block entry is one of the pool
+abbrev pub Pooled : List ℕ → List ℕ → Position → Type 0
+Pooled s u p = stealth u ≡ 0 → BlockIn s p p
+
+same-in : (p q : Position) → SamePool p q → PoolIn p q
+same-in p q a t h = (rw (a .there) h, rw (a .to))
+
+module _ (s u : List ℕ) (ok : Checked s) (p : Position) (g : Sound s u p) where
+  -- what is sent was not in the pool
+  module _ (party t : ℕ) (to : _) (f : fieldsRight s u (SendToPool party t to) ≡ true) (r : stepRefusal s u p (SendToPool party t to) ≡ 0) where
+    outside : inPool p t ≡ false
+    unfolding stepRefusal tests poolTests sendTests sent
+    outside =
+        let low = sent-to-pool s u p party t to f r .low in
+        let test = passed (tests s u p (SendToPool party t to)) refl r 14 in
+        or-neither (inPool p t) (isConfirmed p t) (no-conflict s (sent p) t test t low (conflict-self s t)) .0
+
+    room : t < length (p .slots)
+    room = let low = sent-to-pool s u p party t to f r .low in omega (arith, wide s u ok p g, low)
+
+    send-in : PoolIn p (effect s p (SendToPool party t to))
+    unfolding effect
+    send-in k h =
+        let d = destinationNumber to in
+        split (eqb k t)
+        (λ e. clash h (rw (eqb-true k t e) outside))
+        (λ e. (rw (send-pool s t d p room, e) h, rw (send-to s t d p room, e)))
+
+  -- every step keeps the pool entries, but for a mined block
+  pub pool-in : (y : Step) → fieldsRight s u y ≡ true → stepRefusal s u p y ≡ 0 → PoolIn p (effect s p y) ⊎ (effect s p y ≡ afterMine s p)
+  unfolding effect
+  pool-in (Share party t to) f r = inl (same-in p _ (share-pool s party t (destinationNumber to) p))
+  pool-in (Give party i to) f r = inl (same-in p _ (give-pool i (destinationNumber to) p))
+  pool-in (SendToPool party t to) f r = inl (send-in party t to f r)
+  pool-in (HandToMiner party t to) f r = inl (same-in p _ (hand-pool t (destinationNumber to) p))
+  pool-in (Include party t to) f r = inl (same-in p _ (include-pool t p))
+  pool-in (Mine party t to) f r = inr refl
+  pool-in (Bump party t to) f r = inl (same-in p _ (bump-pool s p (wide s u ok p g) (g .beyond) t))
+
+  -- a mined block takes those from the pool that are confirmed or dead afterwards
+  pub mine-in : (t : ℕ) → inPool p t ≡ true → isConfirmed (afterMine s p) t ≡ false → invalidated s (isConfirmed (afterMine s p)) t ≡ false
+      → (inPool (afterMine s p) t ≡ true) × (poolTo (afterMine s p) t ≡ poolTo p t)
+  mine-in t h c d =
+      let q = afterMine s p in
+      let there : inPool q t ≡ true =
+      split (inPool q t)
+      (λ y. y)
+      (λ y.
+      let b : (inBlock p t || false) ≡ true = sym (rw (y, d) at (left-by s u ok p g t h)) in
+      either (or-parts (inBlock p t) false b) (λ z. clash (mined-confirmed s u ok p g t z) c) (λ z. absurd (false≢true z))) in
+      let w = and-parts (inPool p t) (not (leavesPool s (inBlock p) t)) (rw (mine-pool s p (wide s u ok p g) (g .beyond)) at there) in
+      (there, mine-pool-to s p (wide s u ok p g) (g .beyond) t (not-true (leavesPool s (inBlock p) t) (w .1)))
+
+  module _ (e : stealth u ≡ 0) (in-pool : BlockIn s p p) where
+    same-pooled : (q : Position) → PoolIn p q → SameBlock p q → BlockIn s q q
+    same-pooled q a b t l h =
+        let w = in-pool t l (rw (b .there) at h) in
+        let z = a t (w .0) in
+        (z .0, rw (b .to) (z .1 ∙ w .1))
+
+    no-hand-in : (party t : ℕ) (to : _) → stepRefusal s u p (HandToMiner party t to) ≡ 0 → ⊥
+    unfolding stepRefusal tests minerTests sendTests
+    no-hand-in party t to r =
+        let b = eqb-true (stealth u) 1 (passed (tests s u p (HandToMiner party t to)) refl r 12) in
+        omega (arith, e, b)
+
+    -- an included entry stands in both places for one destination
+    include-pooled : (party t : ℕ) (to : _) → fieldsRight s u (Include party t to) ≡ true → stepRefusal s u p (Include party t to) ≡ 0
+        → BlockIn s (effect s p (Include party t to)) (effect s p (Include party t to))
+    unfolding effect stepRefusal tests includeTests fieldsRight
+    include-pooled party t to f r k l h =
+        let there = passed (tests s u p (Include party t to)) refl r 19 in
+        let d = eqb (destinationNumber to) contract in
+        let low = ltb-true t (count s) (and-parts (ltb t (count s)) d (and-parts (eqb party miner) (ltb t (count s) && d) f .1) .0) in
+        let room : t < length (p .slots) = omega (arith, wide s u ok p g, low) in
+        let a = include-pool t p in
+        split (eqb k t)
+        (λ y. (rw (a .there, eqb-true k t y) there, rw (include-to t p room, a .to, y)))
+        (λ y.
+        let w = in-pool k l (rw (include-block t p room there, y) at h) in
+        (rw (a .there) (w .0), rw (include-to t p room, a .to, y) (w .1)))
+
+    bump-pooled : (t : ℕ) → BlockIn s (afterBump s t p) (afterBump s t p)
+    bump-pooled t k l h =
+        let few = wide s u ok p g in
+        let a = bump-pool s p few (g .beyond) t in
+        split (enters s p t k)
+        (λ y. (rw (a .there) (enters-in s p few (g .beyond) t k y), rw (bump-to-entered s p few (g .beyond) t k y, a .to)))
+        (λ y.
+        let w = and-parts (inBlock p k) (not (meetsConflict s (enters s p t) k)) (rw (bump-block s p few (g .beyond) t, y) at h) in
+        let z = in-pool k l (w .0) in
+        (rw (a .there) (z .0), rw (bump-to-kept s p few (g .beyond) t k y (not-true (meetsConflict s (enters s p t) k) (w .1)), a .to) (z .1)))
+
+    pooled-after : (y : Step) → fieldsRight s u y ≡ true → stepRefusal s u p y ≡ 0 → BlockIn s (effect s p y) (effect s p y)
+    unfolding effect
+    pooled-after (Share party t to) f r =
+        let d = destinationNumber to in
+        same-pooled (afterShare s party t d p) (same-in p (afterShare s party t d p) (share-pool s party t d p)) (share-block s party t d p)
+    pooled-after (Give party i to) f r =
+        let d = destinationNumber to in
+        same-pooled (afterGive i d p) (same-in p (afterGive i d p) (give-pool i d p)) (give-block i d p)
+    pooled-after (SendToPool party t to) f r =
+        let d = destinationNumber to in
+        same-pooled (afterSend s t d p) (send-in party t to f r) (send-block s t d p)
+    pooled-after (HandToMiner party t to) f r = absurd (no-hand-in party t to r)
+    pooled-after (Include party t to) f r = include-pooled party t to f r
+    pooled-after (Mine party t to) f r = λ k l h. absurd (false≢true (rw (mine-block s p (wide s u ok p g) (g .beyond)) at h))
+    pooled-after (Bump party t to) f r = bump-pooled t
+
+  pooled-case : Pooled s u p → (b : FourBytes) → StepCase s u p b → Pooled s u (step s u p b .position)
+  pooled-case w b (taken y d f r e) z = rw e (pooled-after z (w z) y f r)
+  pooled-case w b (turned-down n m e) z = rw e (w z)
+
+module _ (s u : List ℕ) (h : sheetRefusal s ≡ 0) (k : setupRefusal s u ≡ 0) where
+  pub pooled-play : (bs : List FourBytes) (p : Position) → Sound s u p → Pooled s u p → Pooled s u (play s u bs p)
+  unfolding play
+  pooled-play [] p g w = w
+  pooled-play (b ∷ bs) p g w =
+      pooled-play bs (step s u p b .position) (sound-step s u h k p b g) (pooled-case s u (sheet-checked s h) p g w b (step-case s u p b))
+
+pub pooled-start : (s u : List ℕ) → Pooled s u (start s)
+unfolding inBlock
+pooled-start s u z t l h = absurd (false≢true (rw (start-slot s t, none-stands) at h))

@@ -1,0 +1,59 @@
+-- Secrets in shared knowledge: they stay there, and a mined block adds those of its entries.
+-- Assumes nothing.
+use Rattle.laws.proofs.Prelude.{ℕ, zero, suc, _<_, _≡_, sym, _∙_, true, List, length, arith}
+use Rattle.laws.specs.Booleans.{split, and-parts}
+use Rattle.laws.specs.Bits.{bit-and, union-bit}
+use Rattle.laws.specs.Mask.{bit, unionBelow}
+use Rattle.sheet.specs.Field.{count, secrets}
+use Rattle.slots.specs.declared.Slot.{Slot}
+use Rattle.slots.specs.Destination.{destinations}
+use Rattle.slots.specs.Slot.{standing, entryTo, sharedFor, sharedAny, withPool, withBlock, withConfirmed, withShared}
+use Rattle.slots.specs.Signatures.{sharedSecrets, exposedMask}
+use Rattle.slots.proofs.SharedBits.{shared-any}
+use Rattle.position.specs.declared.Position.{Position}
+use Rattle.position.specs.Position.{slot, inBlock, blockTo, shared}
+use Rattle.position.proofs.Changed.{all-slot}
+use Rattle.steps.specs.Mined.{confirmEntry}
+use Rattle.position.specs.Effect.{leavesPool, mineSlot, withMined, afterMine}
+use Rattle.step_laws.proofs.Provenance.{Moved}
+use Rattle.attainable.specs.Attainable.{secretsOf}
+use Rattle.attainable.proofs.Masks.{or-last}
+use Rattle.claim_attainable.proofs.Shown.{secret-shown}
+use Rattle.slack.proofs.Onward.{secretsShown}
+
+pub secrets-stay : (s u : List ℕ) (p q : Position) → Moved s u p q → (i : ℕ) → bit (secretsShown s p) i ≡ true → bit (secretsShown s q) i ≡ true
+unfolding sharedSecrets shared
+secrets-stay s u p q m i h =
+    let all = unionBelow (count s) (λ j. sharedAny (slot p j)) in
+    let w = and-parts (bit (secrets s) i) (bit all i) (sym (bit-and (secrets s) all i) ∙ h) in
+    let k = union-bit (count s) (λ j. sharedAny (slot p j)) i (w .1) in
+    let z = shared-any (slot p (k .0)) i (k .2) in
+    secret-shown s q (k .0) (z .0) i (k .1) (z .1) (w .0) (m .slots (k .0) .kept (z .0) i (z .1) (z .2))
+
+-- a mask added for a destination is shared for it
+shared-has : (to m : ℕ) (x : Slot) (i : ℕ) → to < destinations → bit m i ≡ true → bit (sharedFor (withShared to m x) to) i ≡ true
+unfolding sharedFor withShared
+shared-has zero m x i l h = or-last (x .alice) m i h
+shared-has (suc zero) m x i l h = or-last (x .bob) m i h
+shared-has (suc (suc zero)) m x i l h = or-last (x .contract) m i h
+shared-has (suc (suc (suc zero))) m x i l h = or-last (x .carol) m i h
+shared-has (suc (suc (suc (suc to)))) m x i l h = absurd (omega arith)
+
+slot-shows : (s : List ℕ) (p : Position) (t : ℕ) (x : Slot) (i : ℕ) → standing (x .block) ≡ true → entryTo (x .block) < destinations
+    → bit (exposedMask s t) i ≡ true → bit (sharedFor (mineSlot s p t x) (entryTo (x .block))) i ≡ true
+unfolding mineSlot confirmEntry sharedFor withPool withBlock withConfirmed
+slot-shows s p t x i on l h =
+    let w = shared-has (entryTo (x .block)) (exposedMask s t) x i l h in
+    split (leavesPool s (inBlock p) t) (λ y. rw (y, on) w) (λ y. rw (y, on) w)
+
+block-shows : (s : List ℕ) (p : Position) (t i : ℕ) → t < count s → t < length (p .slots) → inBlock p t ≡ true → blockTo p t < destinations
+    → bit (exposedMask s t) i ≡ true → bit (shared (afterMine s p) t (blockTo p t)) i ≡ true
+unfolding shared inBlock blockTo afterMine withMined slot
+block-shows s p t i l m on to h = rw (all-slot s (mineSlot s p) p t l m) (slot-shows s p t (slot p t) i on to h)
+
+pub mined-secrets : (s : List ℕ) (p : Position) (t : ℕ) → t < count s → t < length (p .slots) → inBlock p t ≡ true → blockTo p t < destinations
+    → (i : ℕ) → bit (secretsOf s t) i ≡ true → bit (secretsShown s (afterMine s p)) i ≡ true
+unfolding secretsOf
+mined-secrets s p t l m on to i h =
+    let w = and-parts (bit (secrets s) i) (bit (exposedMask s t) i) (sym (bit-and (secrets s) (exposedMask s t) i) ∙ h) in
+    secret-shown s (afterMine s p) t (blockTo p t) i l to (w .0) (block-shows s p t i l m on to (w .1))
