@@ -3,3 +3,4 @@ pub mod Fewer
 pub mod Pools
 pub mod Onwards
 pub mod Theorems
+pub mod Examples
