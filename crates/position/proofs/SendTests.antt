@@ -1,15 +1,15 @@
 -- The tests of kinds 3 and 4 over a view are those of the rules.
 -- Assumes nothing.
-use Rattle.laws.proofs.Prelude.{ℕ, _≤_, _<_, _≡_, refl, sym, ap, _∙_, Bool, not, List, [], _∷_, _++_, eqb, ltb, length, ltb-false, arith}
+use Rattle.laws.proofs.Prelude.{ℕ, _≤_, _<_, _≡_, refl, sym, ap, _∙_, Bool, not, List, ltb, length, ltb-false, arith}
+use mathlib.Core.Path.{ap₂}
 use lib.ListN.{List·getD-eq-default}
 use Rattle.laws.specs.Booleans.{split}
 use Rattle.laws.specs.Failing.{firstFailing}
 use Rattle.laws.specs.Mask.{bit}
 use Rattle.laws.specs.Bits.{bit-or}
 use Rattle.laws.specs.Sets.{setBelow, set-bit}
-use Rattle.sheet.specs.Refusal.{stepStealth, stepDeadline}
 use Rattle.sheet.specs.Field.{count, parent, opening}
-use Rattle.sheet.specs.Setup.{perDay, stealth}
+use Rattle.sheet.specs.Setup.{perDay}
 use Rattle.sheet.specs.LockHeight.{lockHeight}
 use Rattle.sheet.specs.Checked.{Checked}
 use Rattle.slots.specs.declared.Slot.{Slot}
@@ -23,6 +23,7 @@ use Rattle.slots.proofs.Parents.{parent-below}
 use Rattle.slots.proofs.Deadlines.{deadline-by}
 use Rattle.slots.proofs.Since.{lockHeight-since, deadline-since}
 use Rattle.steps.specs.declared.View.{View}
+use Rattle.steps.specs.Tests.{poolRule, minerRule}
 use Rattle.steps.specs.Forms.Parent.{slotAbove, blockAbove}
 use Rattle.steps.specs.Forms.View.{sentSet, placedSet, keysIn, senderIn}
 use Rattle.steps.specs.Forms.Sending.{sendTestsIn, poolTestsIn, minerTestsIn}
@@ -92,17 +93,13 @@ module _ (allowed : Bool) (s u : List ℕ) (p : Position) (ok : Checked s) (part
       ≡ poolTests allowed s u p party t destination
   unfolding poolTestsIn poolTests viewBelow
   pool-tests =
-      rw (deadline-by s (ok .sized .few) (perDay u) (blockOf p (parent s t)) t l)
-      (ap (λ x. x ++ ((stepDeadline, ltb (p .mined) (deadline s (perDay u) (λ k. blockOf p (parent s t)) t)) ∷ []))
-      (send-tests (sentSet (viewBelow s (count s) p)) (sent p) (sent-bit s p (ok .sized .few)))
-      ∙ ap (λ d. sendTests allowed s u p (sent p) party t destination ++ ((stepDeadline, ltb (p .mined) d) ∷ [])) (deadline-parent s u p t))
+      ap₂ (λ x d. poolRule x (p .mined) d) (send-tests (sentSet (viewBelow s (count s) p)) (sent p) (sent-bit s p (ok .sized .few)))
+      (deadline-by s (ok .sized .few) (perDay u) (blockOf p (parent s t)) t l ∙ deadline-parent s u p t)
 
   pub miner-tests : minerTestsIn allowed s u (viewBelow s (count s) p) (slot p t) (blockOf p (parent s t)) party t destination
       ≡ minerTests allowed s u p party t destination
   unfolding minerTestsIn minerTests viewBelow
-  miner-tests =
-      ap (λ x. (stepStealth, eqb (stealth u) 1) ∷ x)
-      (send-tests (placedSet (viewBelow s (count s) p)) (placed p) (placed-bit s p (ok .sized .few)))
+  miner-tests = ap (minerRule u) (send-tests (placedSet (viewBelow s (count s) p)) (placed p) (placed-bit s p (ok .sized .few)))
 
   -- what the code answers, where v, since and a are what it found
   module _ (v : View) (since r : ℕ) (a : Bool) (e : v ≡ viewBelow s (count s) p) (f : since ≡ blockOf p (parent s t)) (g : a ≡ allowed) where

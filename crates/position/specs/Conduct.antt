@@ -6,9 +6,7 @@ use mathlib.Core.List.{List}
 use lib.Dec.{eqb, leb}
 use Rattle.laws.specs.Booleans.{pick}
 use Rattle.laws.specs.Below.{anyBelow}
-use Rattle.laws.specs.Failing.{firstFailing}
 use Rattle.laws.specs.Mask.{bit}
-use Rattle.sheet.specs.Refusal.{accepted}
 use Rattle.sheet.specs.Field.{count, required}
 use Rattle.sheet.specs.Setup.{conduct}
 use Rattle.slots.specs.declared.Step.{Step}
@@ -19,6 +17,7 @@ use Rattle.position.specs.Position.{isConfirmed, sent, holds, shared, se
 use Rattle.steps.specs.Names.{sigAlice, secretAlice, secretBob, lockA, lockB, success, refund1, spendB}
 use Rattle.steps.specs.Decode.{noTransaction}
 use Rattle.steps.specs.Conduct.{maySend}
+use Rattle.steps.specs.Tests.{passesRule}
 use Rattle.position.specs.FirstShares.{firstSharesMade}
 use Rattle.position.specs.Tests.{poolTests, minerTests}
 
@@ -82,11 +81,11 @@ safeToSend s p party t = not (eqb party alice) || pick (eqb t refund1) (successU
 unfoldable pub sendAllowed : List ℕ → List ℕ → Position → ℕ → ℕ → Bool
 sendAllowed s u p party t = isOpen u || (maySend (phase p) party t && (not (isCareful u) || safeToSend s p party t))
 
--- "whose send of some paying transaction would pass all these rules": of this one, by kind 3 or by kind 4, to the party itself
+-- "whose send of some paying transaction would pass all these rules": of this one, to the party itself
 unfoldable pub payingPasses : List ℕ → List ℕ → Position → ℕ → ℕ → Bool
+unfolding passesRule
 payingPasses s u p party t =
-    eqb (firstFailing (poolTests (sendAllowed s u p party t) s u p party t party)) accepted
-    || eqb (firstFailing (minerTests (sendAllowed s u p party t) s u p party t party)) accepted
+    passesRule (poolTests (sendAllowed s u p party t) s u p party t party) (minerTests (sendAllowed s u p party t) s u p party t party)
 
 -- the same of some transaction that has the party for a payee
 unfoldable pub canPay : List ℕ → List ℕ → Position → ℕ → Bool

@@ -3,19 +3,19 @@
 -- Assumes nothing.
 use Prim.Native.Nat.{ℕ}
 use mathlib.Core.Bool.{Bool, not, _&&_, _||_}
-use mathlib.Core.List.{List, [], _∷_, _++_}
-use lib.Dec.{eqb, ltb, leb}
+use mathlib.Core.List.{List, [], _∷_}
+use lib.Dec.{eqb, ltb}
 use Rattle.laws.specs.Booleans.{pick}
 use Rattle.laws.specs.Below.{anyBelow}
-use Rattle.sheet.specs.Refusal.{stepStealth, stepConduct, stepConflict, stepParent, stepSignatures, stepLock, stepDeadline, stepPool, stepBumpOwed, stepNotOwed, stepEmptyBlock, stepBlocks}
+use Rattle.sheet.specs.Refusal.{stepConduct, stepConflict, stepParent, stepPool, stepBumpOwed, stepNotOwed, stepEmptyBlock, stepBlocks}
 use Rattle.sheet.specs.Field.{count}
-use Rattle.sheet.specs.Setup.{stealth}
 use Rattle.slots.specs.Conflict.{noConflict}
 use Rattle.slots.specs.Ancestry.{hasParent}
-use Rattle.slots.specs.Signatures.{signed, shareMask}
+use Rattle.slots.specs.Signatures.{shareMask}
 use Rattle.position.specs.declared.Position.{Position}
 use Rattle.position.specs.Position.{inPool, inBlock, isConfirmed, sent, placed, keys, holds, marked, senderHas, lockHeightIn, deadlineIn}
 use Rattle.steps.specs.Decode.{noTransaction}
+use Rattle.steps.specs.Tests.{sendRule, poolRule, minerRule}
 use Rattle.position.specs.FirstShares.{firstSharesMade}
 use Rattle.position.specs.Owed.{owed, anyOwed}
 
@@ -38,25 +38,21 @@ giveMet p party i receiver = holds p party i && not (holds p receiver i)
 unfoldable pub giveTests : Bool → Position → ℕ → ℕ → ℕ → List (ℕ × Bool)
 giveTests allowed p party i receiver = (stepConduct, allowed && giveMet p party i receiver) ∷ []
 
--- what kinds 3 and 4 share, against a set of transactions: "no rival .., parent there, signatures, lock height ≤ blocks mined";
--- Slip 3: "The lock is now tested first.", before the signatures
+-- what kinds 3 and 4 share, against a set of transactions
 unfoldable pub sendTests : Bool → List ℕ → List ℕ → Position → (ℕ → Bool) → ℕ → ℕ → ℕ → List (ℕ × Bool)
+unfolding sendRule
 sendTests allowed s u p members party t destination =
-    (stepConduct, allowed)
-    ∷ (stepConflict, noConflict s members t)
-    ∷ (stepParent, hasParent s members t)
-    ∷ (stepLock, leb (lockHeightIn s u p t) (p .mined))
-    ∷ (stepSignatures, signed s (senderHas s p party t destination) t)
-    ∷ []
+    sendRule allowed s members (lockHeightIn s u p t) (p .mined) (senderHas s p party t destination) t
 
--- 3 "Send to pool: no rival in pool or confirmed, parent there, signatures, lock height ≤ blocks mined, blocks mined < deadline."
+-- 3 Send to pool
 unfoldable pub poolTests : Bool → List ℕ → List ℕ → Position → ℕ → ℕ → ℕ → List (ℕ × Bool)
-poolTests allowed s u p party t destination =
-    sendTests allowed s u p (sent p) party t destination ++ ((stepDeadline, ltb (p .mined) (deadlineIn s u p t)) ∷ [])
+unfolding poolRule
+poolTests allowed s u p party t destination = poolRule (sendTests allowed s u p (sent p) party t destination) (p .mined) (deadlineIn s u p t)
 
--- 4 "Hand to miner: the same against confirmed and the block being filled, no deadline"; 12 "kind 4, stealth 0"
+-- 4 Hand to miner
 unfoldable pub minerTests : Bool → List ℕ → List ℕ → Position → ℕ → ℕ → ℕ → List (ℕ × Bool)
-minerTests allowed s u p party t destination = (stepStealth, eqb (stealth u) 1) ∷ sendTests allowed s u p (placed p) party t destination
+unfolding minerRule
+minerTests allowed s u p party t destination = minerRule u (sendTests allowed s u p (placed p) party t destination)
 
 -- 5 "Include: a pool entry, no rival confirmed or in the block, parent confirmed or in the block."
 unfoldable pub includeTests : List ℕ → List ℕ → Position → ℕ → List (ℕ × Bool)
