@@ -4,12 +4,13 @@ use Rattle.laws.proofs.Prelude.{ℕ, zero, suc, _≡_, sym, _∙_, Bool, true, 
 use Rattle.laws.proofs.Prelude.{ltb-true, ne-eqb, arith}
 use Rattle.laws.specs.Booleans.{and-parts, or-right}
 use Rattle.laws.specs.Failing.{firstFailing}
+use Rattle.laws.specs.Mask.{bit}
 use Rattle.sheet.specs.Refusal.{accepted, stepConduct}
 use Rattle.slots.specs.Destination.{alice, bob}
 use Rattle.steps.specs.Names.{lockA, lockB}
 use Rattle.steps.specs.Decode.{noTransaction}
-use Rattle.steps.specs.Forms.Conduct.{conductTests}
-use Rattle.steps.specs.Forms.Sharing.{shareMetIn, giveMetIn}
+use Rattle.steps.specs.Tests.{conductRule, giveMetRule}
+use Rattle.steps.specs.Forms.Sharing.{shareMetIn}
 use Rattle.position.specs.declared.Position.{Position}
 use Rattle.position.specs.Position.{slot, blockOf, isConfirmed, keys, holds, marked}
 use Rattle.position.specs.FirstShares.{firstSharesMade}
@@ -24,15 +25,15 @@ unfolding shareMet shareMetIn marked
 one-met s p party t destination n = rw (ne-eqb t noTransaction n)
 
 -- where allowed and met are what it found
-module _ (s u : List ℕ) (p : Position) (allowed met : Bool) (party t destination r : ℕ) (h : r ≡ firstFailing (conductTests allowed met)) where
+module _ (s u : List ℕ) (p : Position) (allowed met : Bool) (party t destination r : ℕ) (h : r ≡ firstFailing (conductRule allowed met)) where
   pub share-answer : allowed ≡ (isOpen u || mayShare s u p party t) → met ≡ shareMet s p party t destination
       → r ≡ firstFailing (shareTests (isOpen u || mayShare s u p party t) s p party t destination)
-  unfolding shareTests conductTests
+  unfolding shareTests
   share-answer f g = h ∙ rw (f, g)
 
-  pub give-answer : allowed ≡ (isOpen u || mayGive s u p party t) → met ≡ giveMetIn (keys p party) (keys p destination) t
+  pub give-answer : allowed ≡ (isOpen u || mayGive s u p party t) → met ≡ giveMetRule (bit (keys p party) t) (bit (keys p destination) t)
       → r ≡ firstFailing (giveTests (isOpen u || mayGive s u p party t) p party t destination)
-  unfolding giveTests conductTests giveMetIn giveMet holds
+  unfolding giveTests giveMet holds
   give-answer f g = h ∙ rw (f, g)
 
 -- ---- the first shares: one of both is missing; phase 0 by the locks alone; and the returns of their test
@@ -50,10 +51,10 @@ early-phase p party h m =
 
 module _ (s u : List ℕ) (p : Position) (party : ℕ) (made : Bool) (is : made ≡ firstSharesMade p party) where
   abbrev FirstAnswer : ℕ → Type 0
-  FirstAnswer r = r ≡ firstFailing (conductTests (isOpen u || mayShare s u p party noTransaction) (not (firstSharesMade p party)))
+  FirstAnswer r = r ≡ firstFailing (conductRule (isOpen u || mayShare s u p party noTransaction) (not (firstSharesMade p party)))
 
   pub first-made : made ≡ true → FirstAnswer stepConduct
-  unfolding firstFailing conductTests
+  unfolding firstFailing conductRule
   first-made h = rw (sym is ∙ h, and-false (isOpen u || mayShare s u p party noTransaction))
 
   early-shares : made ≡ false → (e : Bool) → e ≡ isEarly party (slot p lockA) (slot p lockB) → e ≡ true → mayShare s u p party noTransaction ≡ true
@@ -61,8 +62,8 @@ module _ (s u : List ℕ) (p : Position) (party : ℕ) (made : Bool) (is : made 
   early-shares h e i j = rw (early-phase p party (sym i ∙ j) (sym is ∙ h))
 
   pub first-early : made ≡ false → (e : Bool) → e ≡ isEarly party (slot p lockA) (slot p lockB) → e ≡ true → FirstAnswer accepted
-  unfolding firstFailing conductTests
+  unfolding firstFailing conductRule
   first-early h e i j = rw (sym is ∙ h, or-right (isOpen u) (mayShare s u p party noTransaction) (early-shares h e i j))
 
-  pub first-else : made ≡ false → (a : Bool) (r : ℕ) → a ≡ (isOpen u || mayShare s u p party noTransaction) → r ≡ firstFailing (conductTests a true) → FirstAnswer r
+  pub first-else : made ≡ false → (a : Bool) (r : ℕ) → a ≡ (isOpen u || mayShare s u p party noTransaction) → r ≡ firstFailing (conductRule a true) → FirstAnswer r
   first-else h a r i j = j ∙ rw (i, sym is ∙ h)

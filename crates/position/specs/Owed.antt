@@ -1,22 +1,24 @@
 -- Bumps: when one is owed, and what it brings into the block.
 -- Assumes nothing.
-use Prim.Native.Nat.{ℕ, _+_}
-use mathlib.Core.Bool.{Bool, not, _&&_}
+use Prim.Native.Nat.{ℕ}
+use mathlib.Core.Bool.{Bool, _&&_}
 use mathlib.Core.List.{List}
-use lib.Dec.{eqb}
 use Rattle.laws.specs.Below.{anyBelow}
 use Rattle.sheet.specs.Field.{count}
 use Rattle.slots.specs.Ancestry.{isSelfOrAncestor}
+use Rattle.steps.specs.Tests.{waitingRule, owedRule}
 use Rattle.position.specs.declared.Position.{Position}
 use Rattle.position.specs.Position.{inPool, inBlock, deadlineIn}
 
--- "a pool entry is outside the block"
+-- it waits outside the block
 unfoldable pub waiting : Position → ℕ → Bool
-waiting p t = inPool p t && not (inBlock p t)
+unfolding waitingRule
+waiting p t = waitingRule (inPool p t) (inBlock p t)
 
--- "Bump: owed when a pool entry is outside the block and blocks mined + 1 is its deadline."
+-- a bump of t is owed
 unfoldable pub owed : List ℕ → List ℕ → Position → ℕ → Bool
-owed s u p t = waiting p t && eqb (p .mined + 1) (deadlineIn s u p t)
+unfolding owedRule
+owed s u p t = owedRule (waiting p t) (p .mined) (deadlineIn s u p t)
 
 -- "a bump owed"
 unfoldable pub anyOwed : List ℕ → List ℕ → Position → Bool

@@ -1,42 +1,39 @@
--- The tests of each kind of step whose fields are right, by rising refusal number but for kinds 3 and 4, where 17 stands before 16.
+-- The tests of each kind of step whose fields are right: the rules of the specs of steps, for what a position holds.
 -- Those of kinds 1 to 4 take what conduct says of the step.
 -- Assumes nothing.
 use Prim.Native.Nat.{ℕ}
-use mathlib.Core.Bool.{Bool, not, _&&_, _||_}
-use mathlib.Core.List.{List, [], _∷_}
-use lib.Dec.{eqb, ltb}
-use Rattle.laws.specs.Booleans.{pick}
+use mathlib.Core.Bool.{Bool}
+use mathlib.Core.List.{List}
 use Rattle.laws.specs.Below.{anyBelow}
-use Rattle.sheet.specs.Refusal.{stepConduct, stepConflict, stepParent, stepPool, stepBumpOwed, stepNotOwed, stepEmptyBlock, stepBlocks}
 use Rattle.sheet.specs.Field.{count}
-use Rattle.slots.specs.Conflict.{noConflict}
-use Rattle.slots.specs.Ancestry.{hasParent}
 use Rattle.slots.specs.Signatures.{shareMask}
+use Rattle.steps.specs.Tests.{conductRule, shareMetRule, shareNewRule, giveMetRule, sendRule, poolRule, minerRule, includeRule, blockMetRule, mineRule, bumpRule}
+pub use Rattle.steps.specs.Tests.{blockLimit}
 use Rattle.position.specs.declared.Position.{Position}
 use Rattle.position.specs.Position.{inPool, inBlock, isConfirmed, sent, placed, keys, holds, marked, senderHas, lockHeightIn, deadlineIn}
-use Rattle.steps.specs.Decode.{noTransaction}
-use Rattle.steps.specs.Tests.{sendRule, poolRule, minerRule}
 use Rattle.position.specs.FirstShares.{firstSharesMade}
 use Rattle.position.specs.Owed.{owed, anyOwed}
 
--- "Refused if this party has shared this before for this destination, or the set is empty."; 255: if its first shares are made
+-- a share of t, or of the first shares, is new and not empty
 unfoldable pub shareMet : List ℕ → Position → ℕ → ℕ → ℕ → Bool
+unfolding shareNewRule shareMetRule
 shareMet s p party t destination =
-    pick (eqb t noTransaction)
-    (not (firstSharesMade p party))
-    (not (marked p party t destination) && not (eqb (shareMask s (keys p party) t) 0))
+    shareNewRule t (firstSharesMade p party) (shareMetRule (marked p party t destination) (shareMask s (keys p party) t))
 
 -- 1 Share
 unfoldable pub shareTests : Bool → List ℕ → Position → ℕ → ℕ → ℕ → List (ℕ × Bool)
-shareTests allowed s p party t destination = (stepConduct, allowed && shareMet s p party t destination) ∷ []
+unfolding conductRule
+shareTests allowed s p party t destination = conductRule allowed (shareMet s p party t destination)
 
--- "giver holds it, receiver (the destination, the other party) doesn't"
+-- the giver holds it, the receiver doesn't
 unfoldable pub giveMet : Position → ℕ → ℕ → ℕ → Bool
-giveMet p party i receiver = holds p party i && not (holds p receiver i)
+unfolding giveMetRule
+giveMet p party i receiver = giveMetRule (holds p party i) (holds p receiver i)
 
 -- 2 Give
 unfoldable pub giveTests : Bool → Position → ℕ → ℕ → ℕ → List (ℕ × Bool)
-giveTests allowed p party i receiver = (stepConduct, allowed && giveMet p party i receiver) ∷ []
+unfolding conductRule
+giveTests allowed p party i receiver = conductRule allowed (giveMet p party i receiver)
 
 -- what kinds 3 and 4 share, against a set of transactions
 unfoldable pub sendTests : Bool → List ℕ → List ℕ → Position → (ℕ → Bool) → ℕ → ℕ → ℕ → List (ℕ × Bool)
@@ -54,31 +51,21 @@ unfoldable pub minerTests : Bool → List ℕ → List ℕ → Position → ℕ 
 unfolding minerRule
 minerTests allowed s u p party t destination = minerRule u (sendTests allowed s u p (placed p) party t destination)
 
--- 5 "Include: a pool entry, no rival confirmed or in the block, parent confirmed or in the block."
+-- 5 Include
 unfoldable pub includeTests : List ℕ → List ℕ → Position → ℕ → List (ℕ × Bool)
-includeTests s u p t =
-    (stepConflict, noConflict s (placed p) t)
-    ∷ (stepParent, hasParent s (placed p) t)
-    ∷ (stepPool, inPool p t)
-    ∷ (stepBumpOwed, not (anyOwed s u p))
-    ∷ []
+unfolding includeRule
+includeTests s u p t = includeRule s (placed p) (inPool p t) (anyOwed s u p) t
 
--- "An empty block needs transaction 0 confirmed."
+-- the block being filled has an entry, or transaction 0 is confirmed
 unfoldable pub blockMet : List ℕ → Position → Bool
-blockMet s p = anyBelow (count s) (inBlock p) || isConfirmed p 0
-
--- 23 "10,000 blocks mined"
-abbrev pub blockLimit : ℕ
-blockLimit = 10000
+blockMet s p = blockMetRule (anyBelow (count s) (inBlock p)) (isConfirmed p 0)
 
 -- 6 Mine
 unfoldable pub mineTests : List ℕ → List ℕ → Position → List (ℕ × Bool)
-mineTests s u p =
-    (stepBumpOwed, not (anyOwed s u p))
-    ∷ (stepEmptyBlock, blockMet s p)
-    ∷ (stepBlocks, ltb (p .mined) blockLimit)
-    ∷ []
+unfolding mineRule
+mineTests s u p = mineRule (anyOwed s u p) (blockMet s p) (p .mined)
 
--- 7 "Where several are owed, here, any of them may be named."
+-- 7 Bump
 unfoldable pub bumpTests : List ℕ → List ℕ → Position → ℕ → List (ℕ × Bool)
-bumpTests s u p t = (stepNotOwed, owed s u p t) ∷ []
+unfolding bumpRule
+bumpTests s u p t = bumpRule (owed s u p t)

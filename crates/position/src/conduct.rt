@@ -28,7 +28,7 @@ ghost use Rattle.sheet.specs.Checked.{Fit};
 ghost use Rattle.slots.specs.Slot.{standing};
 ghost use Rattle.slots.specs.Destination.{isContract};
 ghost use Rattle.steps.specs.Names.{lockA, lockB};
-ghost use Rattle.steps.specs.Forms.Conduct.{conductTests};
+ghost use Rattle.steps.specs.Tests.{conductRule};
 ghost use Rattle.position.specs.Position.{slot};
 ghost use Rattle.position.specs.FirstShares.{firstSharesMade};
 ghost use Rattle.position.specs.Forms.FirstShares.{firstSet, isEarly};
@@ -244,7 +244,7 @@ impl Position {
         requires { ⌜ Fit (now sheet) (now setup) ⌝ }
         requires { ⌜ view ≡ viewBelow (now sheet) (count (now sheet)) self ⌝ }
         requires { ⌜ early ≡ isEarly party (slot self lockA) (slot self lockB) ⌝ }
-        ensures { λ r. ⌜ r ≡ firstFailing (conductTests (isOpen (now (setup .entry)) || mayShare (now (sheet .entry)) (now (setup .entry)) self party 255) (not (firstSharesMade self party))) ⌝ }
+        ensures { λ r. ⌜ r ≡ firstFailing (conductRule (isOpen (now (setup .entry)) || mayShare (now (sheet .entry)) (now (setup .entry)) self party 255) (not (firstSharesMade self party))) ⌝ }
     {
         if self.first_shares_made(party) {
             return refusal::STEP_CONDUCT;

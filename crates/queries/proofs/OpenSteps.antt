@@ -19,9 +19,8 @@ use Rattle.steps.specs.declared.Guards.{Guards}
 use Rattle.steps.specs.Decode.{noTransaction, fieldsRight, decode, stepBytes}
 use Rattle.steps.specs.Conduct.{maySend}
 use Rattle.steps.specs.Forms.View.{keysIn}
-use Rattle.steps.specs.Forms.Conduct.{conductTests, sendHeldIn}
-use Rattle.steps.specs.Forms.Sharing.{shareMetIn, giveMetIn}
-use Rattle.steps.specs.Forms.Mining.{bumpTestsIn}
+use Rattle.steps.specs.Forms.Conduct.{sendHeldIn}
+use Rattle.steps.specs.Forms.Sharing.{shareMetIn}
 use Rattle.readings.specs.Forms.Context.{shareNewIn, refusalIn, isOpenIn}
 use Rattle.steps.proofs.RightFields.{share-listed, pool-listed, miner-listed, include-listed, bump-listed}
 use Rattle.position.specs.declared.Position.{Position}
@@ -42,7 +41,7 @@ use Rattle.position.proofs.MineTests.{owed-view, include-tests, mine-tests}
 
 module _ (s u : List ℕ) (p : Position) (fit : Fit s u) (actor t : ℕ) (x : Slot) (since : ℕ) where
   give-seen : (to : Destination) → refusalIn s u (contextOf s u p actor) x since (Give actor t to) ≡ stepRefusal s u p (Give actor t to)
-  unfolding refusalIn stepRefusal tests conductAllows giveTests conductTests giveMetIn giveMet holds keysIn keys viewBelow contextOf
+  unfolding refusalIn stepRefusal tests conductAllows giveTests giveMet holds keysIn keys viewBelow contextOf
   give-seen to = rw (give-guards s u p actor t)
 
   mine-seen : (to : Destination) → refusalIn s u (contextOf s u p actor) x since (Mine actor t to) ≡ stepRefusal s u p (Mine actor t to)
@@ -62,7 +61,7 @@ module _ (s u : List ℕ) (p : Position) (fit : Fit s u) (actor t : ℕ) (x : Sl
 
     share-seen : (to : Destination) → fieldsRight s u (Share actor t to) ≡ true
         → refusalIn s u (contextOf s u p actor) x since (Share actor t to) ≡ stepRefusal s u p (Share actor t to)
-    unfolding refusalIn stepRefusal tests conductAllows shareTests conductTests contextOf
+    unfolding refusalIn stepRefusal tests conductAllows shareTests contextOf
     share-seen to h =
         rw (share-guards s u p actor t, new-seen (destinationNumber to) (share-listed s u actor t to (Share actor t to) refl h))
 
@@ -90,7 +89,7 @@ module _ (s u : List ℕ) (p : Position) (fit : Fit s u) (actor t : ℕ) (x : Sl
 
     bump-seen : (to : Destination) → fieldsRight s u (Bump actor t to) ≡ true
         → refusalIn s u (contextOf s u p actor) x since (Bump actor t to) ≡ stepRefusal s u p (Bump actor t to)
-    unfolding refusalIn stepRefusal tests contextOf bumpTestsIn bumpTests
+    unfolding refusalIn stepRefusal tests contextOf bumpTests
     bump-seen to h =
         let l = bump-listed s u actor t to (Bump actor t to) refl h in
         rw (place l .1, owed-view s u p (fit .checked .sized .few) t l)

@@ -20,12 +20,13 @@ use Rattle.steps.specs.Decode.{noTransaction}
 use Rattle.steps.specs.Forms.Parent.{slotAbove, blockAbove}
 use Rattle.steps.specs.Names.{success}
 use Rattle.steps.specs.Conduct.{maySend}
-use Rattle.steps.specs.Forms.Conduct.{aliceSharesIn, shareAllowedIn, sendAllowedIn, sendHeldIn, conductTests}
+use Rattle.steps.specs.Forms.Conduct.{aliceSharesIn, shareAllowedIn, sendAllowedIn, sendHeldIn}
+use Rattle.steps.specs.Tests.{conductRule, bumpRule}
 use Rattle.slots.specs.Conflict.{noConflict}
 use Rattle.slots.specs.Ancestry.{hasParent}
 use Rattle.steps.specs.Forms.View.{placedSet}
 use Rattle.steps.specs.Forms.Sending.{sendTestsIn, poolTestsIn, minerTestsIn}
-use Rattle.steps.specs.Forms.Mining.{owedIn, includeTestsIn, bumpTestsIn}
+use Rattle.steps.specs.Forms.Mining.{owedIn, includeTestsIn}
 use Rattle.readings.specs.declared.DestinationSets.{DestinationSets}
 use Rattle.readings.specs.declared.Context.{Context}
 use Rattle.readings.specs.Forms.Context.{mayStand, goesTo, refusalAs, goesSet, destinationSets, destinationSet, full, sharers, senders, turnsIn, candidatesIn}
@@ -81,7 +82,7 @@ module _ (s u : List ℕ) (t : ℕ) (low : t < 32) where
 
   module _ (g : Context) (x : Slot) (since a d : ℕ) where
     not-shared : bit (sharers (g .guards) a) t ≡ false → eqb (refusalAs s u g x since 1 a t d) accepted ≡ false
-    unfolding refusalAs firstFailing conductTests
+    unfolding refusalAs firstFailing conductRule
     not-shared h = rw (not-sharer (g .guards) a h)
 
     not-sent : bit (senders (g .guards)) t ≡ false → eqb (refusalAs s u g x since 3 a t d) accepted ≡ false
@@ -99,8 +100,8 @@ module _ (s u : List ℕ) (t : ℕ) (low : t < 32) where
     unfolding firstFailing includeTestsIn
     not-included h = rw h (third-fails (noConflict s (bit (placedSet (g .view))) t) (hasParent s (bit (placedSet (g .view))) t))
 
-    not-bumped : (day : ℕ) → bit (g .view .pool) t ≡ false → eqb (firstFailing (bumpTestsIn (owedIn s day (g .view) since t))) accepted ≡ false
-    unfolding firstFailing bumpTestsIn owedIn
+    not-bumped : (day : ℕ) → bit (g .view .pool) t ≡ false → eqb (firstFailing (bumpRule (owedIn s day (g .view) since t))) accepted ≡ false
+    unfolding firstFailing bumpRule owedIn
     not-bumped day h = rw h
 
     not-mined : (k : ℕ) → eqb k 1 ≡ false → eqb k 3 ≡ false → eqb k 4 ≡ false → bit (g .view .pool) t ≡ false

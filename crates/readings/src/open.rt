@@ -25,10 +25,11 @@ ghost use Rattle.sheet.specs.Field.{count, signatures, Sized};
 ghost use Rattle.sheet.specs.Setup.{perDay, stealth};
 ghost use Rattle.sheet.specs.Checked.{Checked, Fit};
 ghost use Rattle.steps.specs.Forms.View.{keysIn};
-ghost use Rattle.steps.specs.Forms.Conduct.{shareAllowedIn, sendHeldIn, conductTests};
+ghost use Rattle.steps.specs.Forms.Conduct.{shareAllowedIn, sendHeldIn};
+ghost use Rattle.steps.specs.Tests.{conductRule, bumpRule};
 ghost use Rattle.steps.specs.Forms.Sharing.{shareMetIn};
 ghost use Rattle.steps.specs.Forms.Sending.{poolTestsIn, minerTestsIn};
-ghost use Rattle.steps.specs.Forms.Mining.{owedIn, bumpTestsIn};
+ghost use Rattle.steps.specs.Forms.Mining.{owedIn};
 ghost use Rattle.readings.specs.Forms.Context.{partyMay, mayStand, goesTo, goesSet, destinationSets, destinationSet, sharers, senders, turnsIn, candidatesIn, refusalAs, givesIn, sharesFirst, minesIn, lastIn};
 
 // Whether a sender can name a destination: the contract or itself.
@@ -226,7 +227,7 @@ fn share_refusal(
     requires { ⌜ Sized (now sheet) ⌝ }
     requires { ⌜ t < count (now sheet) ⌝ }
     requires { ⌜ destination < 4 ⌝ }
-    ensures { λ r. ⌜ r ≡ firstFailing (conductTests (shareAllowedIn (context .guards) actor t) (shareMetIn (now (sheet .entry)) (keysIn (context .view) actor) x actor t destination)) ⌝ }
+    ensures { λ r. ⌜ r ≡ firstFailing (conductRule (shareAllowedIn (context .guards) actor t) (shareMetIn (now (sheet .entry)) (keysIn (context .view) actor) x actor t destination)) ⌝ }
 {
     let allowed = context.guards.share_allowed(actor, t as u8);
     let met = sharing::share_met(sheet, context.view.keys(actor), x, actor, t, destination);
@@ -303,7 +304,7 @@ fn miner_accepted(
 fn bump_refusal(sheet: &[u8], setup: &[u8], context: Context, since: u16, t: usize) -> u32
     requires { ⌜ Fit (now sheet) (now setup) ⌝ }
     requires { ⌜ t < count (now sheet) ⌝ }
-    ensures { λ r. ⌜ r ≡ firstFailing (bumpTestsIn (owedIn (now (sheet .entry)) (perDay (now (setup .entry))) (context .view) since t)) ⌝ }
+    ensures { λ r. ⌜ r ≡ firstFailing (bumpRule (owedIn (now (sheet .entry)) (perDay (now (setup .entry))) (context .view) since t)) ⌝ }
 {
     let per_day = sheet::setup::per_day(setup);
     mining::bump_refusal(owed::owed_at(sheet, per_day, context.view, since, t))

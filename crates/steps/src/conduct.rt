@@ -16,11 +16,12 @@ ghost use mathlib.Core.Path.{_≡_};
 ghost use Rattle.laws.specs.Failing.{firstFailing};
 ghost use Rattle.sheet.specs.Field.{count, Sized};
 ghost use Rattle.steps.specs.Conduct.{maySend};
-ghost use Rattle.steps.specs.Forms.Conduct.{aliceSharesIn, shareAllowedIn, aliceGivesIn, bobGivesIn, giveAllowedIn, secretSafeIn, safeToSendIn, sendAllowedIn, sendHeldIn, conductTests};
+ghost use Rattle.steps.specs.Forms.Conduct.{aliceSharesIn, shareAllowedIn, aliceGivesIn, bobGivesIn, giveAllowedIn, secretSafeIn, safeToSendIn, sendAllowedIn, sendHeldIn};
+ghost use Rattle.steps.specs.Tests.{conductRule};
 
 // 13 unless conduct allows the step and its own conditions are met.
 pub fn conduct_refusal(allowed: bool, met: bool) -> u32
-    ensures { λ r. ⌜ r ≡ firstFailing (conductTests allowed met) ⌝ }
+    ensures { λ r. ⌜ r ≡ firstFailing (conductRule allowed met) ⌝ }
 {
     if !allowed {
         return refusal::STEP_CONDUCT;

@@ -6,13 +6,14 @@ use sheet::set;
 use slots::conflict;
 ghost use Prim.Native.Nat.{_<_};
 ghost use mathlib.Core.Path.{_≡_};
-ghost use mathlib.Core.Bool.{not, _||_};
+ghost use mathlib.Core.Bool.{not};
 ghost use lib.Dec.{eqb};
 ghost use Rattle.laws.specs.Mask.{bit};
 ghost use Rattle.laws.specs.Failing.{firstFailing};
 ghost use Rattle.sheet.specs.Field.{count};
 ghost use Rattle.sheet.specs.Checked.{Checked};
-ghost use Rattle.steps.specs.Forms.Mining.{includeTestsIn, mineTestsIn, bumpTestsIn};
+ghost use Rattle.steps.specs.Tests.{blockMetRule, bumpRule};
+ghost use Rattle.steps.specs.Forms.Mining.{includeTestsIn, mineTestsIn};
 
 // The first test of kind 5 that fails, 0 where none does.
 pub fn include_refusal(sheet: &[u8], view: View, any: bool, t: usize) -> u32
@@ -37,7 +38,7 @@ pub fn include_refusal(sheet: &[u8], view: View, any: bool, t: usize) -> u32
 
 // Whether the block being filled has an entry, or transaction 0 is confirmed.
 fn block_met(view: View) -> bool
-    ensures { λ r. ⌜ r ≡ (not (eqb (view .block) 0) || bit (view .confirmed) 0) ⌝ }
+    ensures { λ r. ⌜ r ≡ blockMetRule (not (eqb (view .block) 0)) (bit (view .confirmed) 0) ⌝ }
 {
     if view.block != 0 {
         return true;
@@ -63,7 +64,7 @@ pub fn mine_refusal(view: View, any: bool) -> u32
 
 // The test of kind 7: 0 where the bump is owed.
 pub fn bump_refusal(owed: bool) -> u32
-    ensures { λ r. ⌜ r ≡ firstFailing (bumpTestsIn owed) ⌝ }
+    ensures { λ r. ⌜ r ≡ firstFailing (bumpRule owed) ⌝ }
 {
     if !owed {
         return refusal::STEP_NOT_OWED;

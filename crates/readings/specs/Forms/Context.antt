@@ -7,6 +7,7 @@ use lib.Bits.{bitAnd}
 use lib.Dec.{eqb, leb}
 use Rattle.laws.specs.Booleans.{pick}
 use Rattle.laws.specs.Failing.{firstFailing}
+use Rattle.laws.specs.Mask.{bit}
 use Rattle.laws.specs.Sets.{joined, setBelow}
 use Rattle.sheet.specs.Refusal.{accepted}
 use Rattle.sheet.specs.Field.{count, signatures}
@@ -21,30 +22,31 @@ use Rattle.steps.specs.declared.Guards.{Guards}
 use Rattle.steps.specs.declared.Decoded.{Decoded}
 use Rattle.steps.specs.declared.Decoded.the-variants.{Read, Refused}
 use Rattle.steps.specs.Decode.{noTransaction, isOther}
+use Rattle.steps.specs.Tests.{conductRule, shareNewRule, giveMetRule, bumpRule}
 use Rattle.steps.specs.Forms.View.{keysIn}
-use Rattle.steps.specs.Forms.Conduct.{shareAllowedIn, giveAllowedIn, sendHeldIn, conductTests}
-use Rattle.steps.specs.Forms.Sharing.{shareMetIn, giveMetIn}
+use Rattle.steps.specs.Forms.Conduct.{shareAllowedIn, giveAllowedIn, sendHeldIn}
+use Rattle.steps.specs.Forms.Sharing.{shareMetIn}
 use Rattle.steps.specs.Forms.Sending.{poolTestsIn, minerTestsIn}
-use Rattle.steps.specs.Forms.Mining.{owedIn, includeTestsIn, mineTestsIn, bumpTestsIn}
+use Rattle.steps.specs.Forms.Mining.{owedIn, includeTestsIn, mineTestsIn}
 
 -- a share is new and not empty; of the first shares, 255: they are new
 unfoldable pub shareNewIn : List ℕ → Context → Slot → ℕ → ℕ → ℕ → Bool
-shareNewIn s g x party t destination =
-    pick (eqb t noTransaction) (not (g .made)) (shareMetIn s (keysIn (g .view) party) x party t destination)
+unfolding shareNewRule
+shareNewIn s g x party t destination = shareNewRule t (g .made) (shareMetIn s (keysIn (g .view) party) x party t destination)
 
 -- the first test that fails, by the kind
 unfoldable pub refusalIn : List ℕ → List ℕ → Context → Slot → ℕ → Step → ℕ
 refusalIn s u g x since (Share party t to) =
-    firstFailing (conductTests (shareAllowedIn (g .guards) party t) (shareNewIn s g x party t (destinationNumber to)))
+    firstFailing (conductRule (shareAllowedIn (g .guards) party t) (shareNewIn s g x party t (destinationNumber to)))
 refusalIn s u g x since (Give party i to) =
-    firstFailing (conductTests (giveAllowedIn (g .guards) party i) (giveMetIn (keysIn (g .view) party) (keysIn (g .view) (destinationNumber to)) i))
+    firstFailing (conductRule (giveAllowedIn (g .guards) party i) (giveMetRule (bit (keysIn (g .view) party) i) (bit (keysIn (g .view) (destinationNumber to)) i)))
 refusalIn s u g x since (SendToPool party t to) =
     firstFailing (poolTestsIn (sendHeldIn s (g .guards) (g .paying) party t) s u (g .view) x since party t (destinationNumber to))
 refusalIn s u g x since (HandToMiner party t to) =
     firstFailing (minerTestsIn (sendHeldIn s (g .guards) (g .paying) party t) s u (g .view) x since party t (destinationNumber to))
 refusalIn s u g x since (Include party t to) = firstFailing (includeTestsIn s (g .view) (g .owed) t)
 refusalIn s u g x since (Mine party t to) = firstFailing (mineTestsIn (g .view) (g .owed))
-refusalIn s u g x since (Bump party t to) = firstFailing (bumpTestsIn (owedIn s (perDay u) (g .view) since t))
+refusalIn s u g x since (Bump party t to) = firstFailing (bumpRule (owedIn s (perDay u) (g .view) since t))
 
 -- what four bytes decoded to is a step that is accepted
 unfoldable pub isOpenIn : List ℕ → List ℕ → Context → Slot → ℕ → Decoded → Bool
@@ -72,11 +74,11 @@ goesTo s t destination = pick (eqb destination contract) (isContract s t) (isPay
 -- the first test of a kind other than 2 and 6 that fails
 unfoldable pub refusalAs : List ℕ → List ℕ → Context → Slot → ℕ → ℕ → ℕ → ℕ → ℕ → ℕ
 refusalAs s u g x since kind actor t d =
-    pick (eqb kind 1) (firstFailing (conductTests (shareAllowedIn (g .guards) actor t) (shareMetIn s (keysIn (g .view) actor) x actor t d)))
+    pick (eqb kind 1) (firstFailing (conductRule (shareAllowedIn (g .guards) actor t) (shareMetIn s (keysIn (g .view) actor) x actor t d)))
     (pick (eqb kind 3) (firstFailing (poolTestsIn (sendHeldIn s (g .guards) (g .paying) actor t) s u (g .view) x since actor t d))
     (pick (eqb kind 4) (firstFailing (minerTestsIn (sendHeldIn s (g .guards) (g .paying) actor t) s u (g .view) x since actor t d))
     (pick (eqb kind 5) (firstFailing (includeTestsIn s (g .view) (g .owed) t))
-    (firstFailing (bumpTestsIn (owedIn s (perDay u) (g .view) since t))))))
+    (firstFailing (bumpRule (owedIn s (perDay u) (g .view) since t))))))
 
 -- ---- the transactions that are tested, as sets
 
@@ -121,13 +123,13 @@ candidatesIn u g w kind actor d = pick (leb 5 kind) (turnsIn u g kind actor) (bi
 -- kind 2: a give that is accepted
 unfoldable pub givesIn : Context → ℕ → ℕ → ℕ → Bool
 givesIn g actor i d =
-    eqb (firstFailing (conductTests (giveAllowedIn (g .guards) actor i) (giveMetIn (keysIn (g .view) actor) (keysIn (g .view) d) i))) accepted
+    eqb (firstFailing (conductRule (giveAllowedIn (g .guards) actor i) (giveMetRule (bit (keysIn (g .view) actor) i) (bit (keysIn (g .view) d) i)))) accepted
 
 -- kind 1 with transaction byte 255: first shares that are accepted
 unfoldable pub sharesFirst : List ℕ → Context → ℕ → Bool
 sharesFirst u g actor =
     not (eqb (conduct u) 0)
-    && eqb (firstFailing (conductTests (shareAllowedIn (g .guards) actor noTransaction) (not (g .made)))) accepted
+    && eqb (firstFailing (conductRule (shareAllowedIn (g .guards) actor noTransaction) (not (g .made)))) accepted
 
 -- kind 6: a block that may be mined
 unfoldable pub minesIn : Context → ℕ → Bool

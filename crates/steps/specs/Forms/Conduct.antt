@@ -2,11 +2,10 @@
 -- Assumes nothing.
 use Prim.Native.Nat.{ℕ}
 use mathlib.Core.Bool.{Bool, not, _&&_, _||_}
-use mathlib.Core.List.{List, [], _∷_}
+use mathlib.Core.List.{List}
 use lib.Dec.{eqb, leb}
 use Rattle.laws.specs.Booleans.{pick}
 use Rattle.laws.specs.Mask.{bit}
-use Rattle.sheet.specs.Refusal.{stepConduct}
 use Rattle.sheet.specs.Field.{required}
 use Rattle.slots.specs.Destination.{alice, bob, isContract}
 use Rattle.steps.specs.declared.Guards.{Guards}
@@ -50,7 +49,3 @@ sendAllowedIn s o party t = o .free || (maySend (o .phase) party t && (not (o .c
 -- the lines on sending, where `paying` says that the party sends no contract transaction
 unfoldable pub sendHeldIn : List ℕ → Guards → Bool → ℕ → ℕ → Bool
 sendHeldIn s o paying party t = sendAllowedIn s o party t && not (paying && isContract s t)
-
--- 13 "conduct, or kind 1 or 2 unmet", of kinds 1 and 2
-unfoldable pub conductTests : Bool → Bool → List (ℕ × Bool)
-conductTests allowed met = (stepConduct, allowed && met) ∷ []

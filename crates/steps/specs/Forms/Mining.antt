@@ -1,38 +1,26 @@
--- The tests of kinds 5, 6 and 7 over a view, where `any` says that some bump is owed.
+-- The tests of kinds 5 and 6 over a view, where `any` says that some bump is owed, and when one is.
 -- Assumes nothing.
-use Prim.Native.Nat.{ℕ, _+_}
-use mathlib.Core.Bool.{Bool, not, _&&_, _||_}
-use mathlib.Core.List.{List, [], _∷_}
-use lib.Dec.{eqb, ltb}
+use Prim.Native.Nat.{ℕ}
+use mathlib.Core.Bool.{Bool, not}
+use mathlib.Core.List.{List}
+use lib.Dec.{eqb}
 use Rattle.laws.specs.Mask.{bit}
-use Rattle.sheet.specs.Refusal.{stepConflict, stepParent, stepPool, stepBumpOwed, stepNotOwed, stepEmptyBlock, stepBlocks}
-use Rattle.slots.specs.Conflict.{noConflict}
-use Rattle.slots.specs.Ancestry.{hasParent}
 use Rattle.slots.specs.Deadline.{deadline}
 use Rattle.steps.specs.declared.View.{View}
+use Rattle.steps.specs.Tests.{waitingRule, owedRule, includeRule, blockMetRule, mineRule}
 use Rattle.steps.specs.Forms.View.{placedSet}
 
--- "owed when a pool entry is outside the block and blocks mined + 1 is its deadline": with `since`, its parent's block
+-- with `since`, the parent's block
 unfoldable pub owedIn : List ℕ → ℕ → View → ℕ → ℕ → Bool
-owedIn s d v since t = (bit (v .pool) t && not (bit (v .block) t)) && eqb (v .mined + 1) (deadline s d (λ k. since) t)
+unfolding waitingRule owedRule
+owedIn s d v since t = owedRule (waitingRule (bit (v .pool) t) (bit (v .block) t)) (v .mined) (deadline s d (λ k. since) t)
 
--- 5 Include
+-- kind 5
 unfoldable pub includeTestsIn : List ℕ → View → Bool → ℕ → List (ℕ × Bool)
-includeTestsIn s v any t =
-    (stepConflict, noConflict s (bit (placedSet v)) t)
-    ∷ (stepParent, hasParent s (bit (placedSet v)) t)
-    ∷ (stepPool, bit (v .pool) t)
-    ∷ (stepBumpOwed, not any)
-    ∷ []
+unfolding includeRule
+includeTestsIn s v any t = includeRule s (bit (placedSet v)) (bit (v .pool) t) any t
 
--- 6 Mine
+-- kind 6
 unfoldable pub mineTestsIn : View → Bool → List (ℕ × Bool)
-mineTestsIn v any =
-    (stepBumpOwed, not any)
-    ∷ (stepEmptyBlock, not (eqb (v .block) 0) || bit (v .confirmed) 0)
-    ∷ (stepBlocks, ltb (v .mined) 10000)
-    ∷ []
-
--- 7 Bump
-unfoldable pub bumpTestsIn : Bool → List (ℕ × Bool)
-bumpTestsIn owed = (stepNotOwed, owed) ∷ []
+unfolding mineRule
+mineTestsIn v any = mineRule any (blockMetRule (not (eqb (v .block) 0)) (bit (v .confirmed) 0)) (v .mined)

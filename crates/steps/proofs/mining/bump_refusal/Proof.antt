@@ -1,16 +1,16 @@
 -- Owed, or 21.
-use Rattle.steps.specs.Forms.Mining.{bumpTestsIn}
+use Rattle.steps.specs.Tests.{bumpRule}
 use Rattle.laws.specs.Failing.{none-left, fails, passes}
 use mathlib.Core.Path.{refl}
 use Rattle.steps.proofs.mining.bump_refusal.Statement.{statement}
 use Rattle.steps.proofs.mining.bump_refusal.Tie as tie
 
 returns : tie.Need-returns
-unfolding bumpTestsIn
+unfolding bumpRule
 returns c = fails _ _ _ _ refl (c .if1 .taken)
 
 returns-2 : tie.Need-returns-2
-unfolding bumpTestsIn
+unfolding bumpRule
 returns-2 c = passes _ _ _ _ _ refl (c .if1 .left) none-left
 
 pub bump-refusal-spec : {M : Type 1} → statement M
