@@ -16,7 +16,7 @@ use Rattle.steps.specs.declared.Guards.{Guards}
 use Rattle.steps.specs.Names.{secretBob, success, refund1}
 use Rattle.steps.specs.Forms.Parent.{slotAbove, blockAbove}
 use Rattle.steps.specs.Forms.View.{senderIn}
-use Rattle.steps.specs.Forms.Conduct.{aliceSharesIn, shareAllowedIn, aliceGivesIn, bobGivesIn, giveAllowedIn, secretSafeIn, safeToSendIn, sendAllowedIn, sendHeldIn}
+use Rattle.steps.specs.Forms.Conduct.{shareAllowedIn, giveAllowedIn, sendAllowedIn, sendHeldIn}
 use Rattle.steps.specs.Forms.Sending.{paysIn}
 use Rattle.position.specs.declared.Position.{Position}
 use Rattle.position.specs.Position.{slot, inPool, blockOf, isConfirmed, sent, shared, keys, holds}
@@ -38,20 +38,20 @@ module _ (s u : List ℕ) (p : Position) where
   careful-guards = split (eqb (conduct u) 0) (λ y. rw (y, eqb-true (conduct u) 0 y)) (λ y. rw y)
 
   pub share-guards : (party t : ℕ) → shareAllowedIn (guards s u p) party t ≡ (isOpen u || mayShare s u p party t)
-  unfolding guards openGuards shareAllowedIn aliceSharesIn mayShare aliceShares
+  unfolding guards openGuards shareAllowedIn mayShare aliceShares
   share-guards party t = split (isOpen u) (λ y. rw y) (λ y. rw y)
 
   pub give-guards : (party i : ℕ) → giveAllowedIn (guards s u p) party i ≡ (isOpen u || mayGive s u p party i)
-  unfolding guards openGuards giveAllowedIn aliceGivesIn bobGivesIn mayGive aliceGives bobGives
+  unfolding guards openGuards giveAllowedIn mayGive aliceGives bobGives
   give-guards party i = split (isOpen u) (λ y. rw y) (λ y. rw y)
 
   -- of what sends ask for, and of the whole
   pub send-guards : (party t : ℕ) → sendAllowedIn s (sendGuards u p) party t ≡ sendAllowed s u p party t
-  unfolding sendGuards sendAllowedIn safeToSendIn secretSafeIn sendAllowed safeToSend secretSafe
+  unfolding sendGuards sendAllowedIn sendAllowed safeToSend secretSafe
   send-guards party t = refl
 
   whole-sends : (party t : ℕ) → sendAllowedIn s (guards s u p) party t ≡ sendAllowedIn s (sendGuards u p) party t
-  unfolding guards openGuards sendGuards sendAllowedIn safeToSendIn secretSafeIn
+  unfolding guards openGuards sendGuards sendAllowedIn
   whole-sends party t = split (isOpen u) (λ y. rw y) (λ y. rw y)
 
   -- `paying` says that the party is careful and can send a transaction that pays it

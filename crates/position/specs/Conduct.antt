@@ -1,4 +1,5 @@
 -- Conduct: document 01's section of that name, with document 02's Slip 6. "Open: rules above. Loose and careful follow 001."
+-- What a position supplies to the rules of the specs of steps.
 -- Assumes nothing.
 use Prim.Native.Nat.{ℕ}
 use mathlib.Core.Bool.{Bool, true, false, not, _&&_, _||_}
@@ -6,17 +7,15 @@ use mathlib.Core.List.{List}
 use lib.Dec.{eqb, leb}
 use Rattle.laws.specs.Booleans.{pick}
 use Rattle.laws.specs.Below.{anyBelow}
-use Rattle.laws.specs.Mask.{bit}
-use Rattle.sheet.specs.Field.{count, required}
+use Rattle.sheet.specs.Field.{count}
 use Rattle.sheet.specs.Setup.{conduct}
 use Rattle.slots.specs.declared.Step.{Step}
 use Rattle.slots.specs.declared.Step.the-variants.{Share, Give, SendToPool, HandToMiner, Include, Mine, Bump}
 use Rattle.slots.specs.Destination.{alice, bob, contract, isPayee, isContract}
 use Rattle.position.specs.declared.Position.{Position}
 use Rattle.position.specs.Position.{isConfirmed, sent, holds, shared, senderHas, deadlineIn}
-use Rattle.steps.specs.Names.{sigAlice, secretAlice, secretBob, lockA, lockB, success, refund1, spendB}
-use Rattle.steps.specs.Decode.{noTransaction}
-use Rattle.steps.specs.Conduct.{maySend}
+use Rattle.steps.specs.Names.{secretBob, lockA, lockB, success, refund1}
+use Rattle.steps.specs.Conduct.{aliceSharesRule, mayShareRule, aliceGivesRule, bobGivesRule, mayGiveRule, secretSafeRule, safeToSendRule, sendAllowedRule}
 use Rattle.steps.specs.Tests.{passesRule}
 use Rattle.position.specs.FirstShares.{firstSharesMade}
 use Rattle.position.specs.Tests.{poolTests, minerTests}
@@ -41,45 +40,49 @@ phase p =
 unfoldable pub late : List ℕ → List ℕ → Position → Bool
 late s u p = leb (deadlineIn s u p success) (p .mined)
 
--- "Phase 3: Alice .. shares success if refund_1 is neither in pool nor confirmed and it isn't late"; of phase 2: "she neither shares success nor gives keys there"
+-- Alice's share of success
 unfoldable pub aliceShares : List ℕ → List ℕ → Position → ℕ → Bool
-aliceShares s u p t = eqb (phase p) 3 && (eqb t success && (not (sent p refund1) && not (late s u p)))
+unfolding aliceSharesRule
+aliceShares s u p t = aliceSharesRule (phase p) (sent p refund1) (late s u p) t
 
--- "Phase 0: Alice shares .., Bob .., each as one step (transaction 255, destination 2)."; else Alice's share of success
+-- a share of t, or of the first shares
 unfoldable pub mayShare : List ℕ → List ℕ → Position → ℕ → ℕ → Bool
-mayShare s u p party t = pick (eqb t noTransaction) (eqb (phase p) 0) (eqb party alice && aliceShares s u p t)
+unfolding mayShareRule
+mayShare s u p party t = mayShareRule (phase p) (aliceShares s u p t) party t
 
--- "Phase 3: Alice gives sigAlice if she holds secretBob and it isn't late"
+-- Alice's gift of sigAlice
 unfoldable pub aliceGives : List ℕ → List ℕ → Position → ℕ → Bool
-aliceGives s u p i = eqb (phase p) 3 && (eqb i sigAlice && (holds p alice secretBob && not (late s u p)))
+unfolding aliceGivesRule
+aliceGives s u p i = aliceGivesRule (phase p) (holds p alice secretBob) (late s u p) i
 
--- "Phases 2 and 3: .. He gives secretBob if he has sigAlice and lacks secretAlice for success, and it isn't late."
+-- Bob's gift of secretBob
 unfoldable pub bobGives : List ℕ → List ℕ → Position → ℕ → Bool
-bobGives s u p i =
-    leb 2 (phase p)
-    && (eqb i secretBob
-    && (bit (senderHas s p bob success contract) sigAlice
-    && (not (bit (senderHas s p bob success contract) secretAlice) && not (late s u p))))
+unfolding bobGivesRule
+bobGives s u p i = bobGivesRule (phase p) (senderHas s p bob success contract) (late s u p) i
 
--- "a step of Alice or Bob not named below gets 13": of gives these two are named
+-- a gift of signature i
 unfoldable pub mayGive : List ℕ → List ℕ → Position → ℕ → ℕ → Bool
-mayGive s u p party i = (eqb party alice && aliceGives s u p i) || (eqb party bob && bobGives s u p i)
+unfolding mayGiveRule
+mayGive s u p party i = mayGiveRule (aliceGives s u p i) (bobGives s u p i) party
 
 -- "success has no shared entry (by a share, a pool send or a mined block)"
 unfoldable pub successUnshared : Position → Bool
 successUnshared p = eqb (shared p success contract) 0
 
--- "Of the others that need secretAlice, once she holds secretBob she sends spend_B only."
+-- t needs no secretAlice that Alice keeps
 unfoldable pub secretSafe : List ℕ → Position → ℕ → Bool
-secretSafe s p t = not (bit (required s t) secretAlice) || (not (holds p alice secretBob) || eqb t spendB)
+unfolding secretSafeRule
+secretSafe s p t = secretSafeRule s (holds p alice secretBob) t
 
--- "Careful only: Alice sends refund_1 only while success has no shared entry", and the others as above
+-- a careful party sends t
 unfoldable pub safeToSend : List ℕ → Position → ℕ → ℕ → Bool
-safeToSend s p party t = not (eqb party alice) || pick (eqb t refund1) (successUnshared p) (secretSafe s p t)
+unfolding safeToSendRule
+safeToSend s p party t = safeToSendRule (successUnshared p) (secretSafe s p t) party t
 
--- "To send means kind 3 or 4": the lines on sending, but for paying first
+-- a send of t, but for paying first
 unfoldable pub sendAllowed : List ℕ → List ℕ → Position → ℕ → ℕ → Bool
-sendAllowed s u p party t = isOpen u || (maySend (phase p) party t && (not (isCareful u) || safeToSend s p party t))
+unfolding sendAllowedRule
+sendAllowed s u p party t = sendAllowedRule (isOpen u) (isCareful u) (phase p) (safeToSend s p party t) party t
 
 -- "whose send of some paying transaction would pass all these rules": of this one, to the party itself
 unfoldable pub payingPasses : List ℕ → List ℕ → Position → ℕ → ℕ → Bool

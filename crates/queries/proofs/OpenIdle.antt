@@ -14,7 +14,8 @@ use Rattle.sheet.specs.Checked.{Fit}
 use Rattle.slots.specs.Destination.{alice, bob, miner, destinations, isParty}
 use Rattle.steps.specs.declared.Guards.{Guards}
 use Rattle.steps.specs.declared.View.{View}
-use Rattle.steps.specs.Forms.Conduct.{aliceGivesIn, bobGivesIn, giveAllowedIn}
+use Rattle.steps.specs.Forms.Conduct.{giveAllowedIn}
+use Rattle.steps.specs.Conduct.{aliceGivesRule, bobGivesRule}
 use Rattle.steps.specs.Tests.{conductRule}
 use Rattle.readings.specs.Forms.Context.{partyMay, mayStand, destinationSets, destinationSet, sharers, senders, turnsIn, candidatesIn, givesIn}
 use Rattle.position.specs.declared.Position.{Position}
@@ -61,7 +62,7 @@ module _ (s u : List ℕ) (p : Position) (actor : ℕ) (fit : Fit s u) (v : View
         (λ f. rw (eqb-true k 7 f, other-idle h)))
 
     none-given : (i d : ℕ) → isParty s actor ≡ true → givesIn (contextOf s u p actor) actor i d ≡ false
-    unfolding givesIn giveAllowedIn aliceGivesIn bobGivesIn conductRule firstFailing contextOf
+    unfolding givesIn giveAllowedIn aliceGivesRule bobGivesRule conductRule firstFailing contextOf
     none-given i d h = let w = party-idle h in rw (w .0, w .1, and-false (eqb actor alice), and-false (eqb actor bob))
 
     set-empty : (k d : ℕ) → d < destinations → openSet s u p actor k d ≡ 0

@@ -19,8 +19,8 @@ use Rattle.steps.specs.declared.Guards.{Guards}
 use Rattle.steps.specs.Decode.{noTransaction}
 use Rattle.steps.specs.Forms.Parent.{slotAbove, blockAbove}
 use Rattle.steps.specs.Names.{success}
-use Rattle.steps.specs.Conduct.{maySend}
-use Rattle.steps.specs.Forms.Conduct.{aliceSharesIn, shareAllowedIn, sendAllowedIn, sendHeldIn}
+use Rattle.steps.specs.Conduct.{maySend, aliceSharesRule}
+use Rattle.steps.specs.Forms.Conduct.{shareAllowedIn, sendAllowedIn, sendHeldIn}
 use Rattle.steps.specs.Tests.{conductRule, bumpRule}
 use Rattle.slots.specs.Conflict.{noConflict}
 use Rattle.slots.specs.Ancestry.{hasParent}
@@ -57,7 +57,7 @@ third-fails false b = refl
 -- ---- what is not tested fails a test
 module _ (s u : List ℕ) (t : ℕ) (low : t < 32) where
   not-sharer : (o : Guards) (a : ℕ) → bit (sharers o a) t ≡ false → shareAllowedIn o a t ≡ false
-  unfolding sharers shareAllowedIn aliceSharesIn
+  unfolding sharers shareAllowedIn aliceSharesRule
   not-sharer o a h =
       let z : eqb t noTransaction ≡ false = ne-eqb t noTransaction (λ e. omega (arith, e, low)) in
       split (o .free)

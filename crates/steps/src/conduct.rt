@@ -15,8 +15,8 @@ ghost use Prim.Native.Nat.{_<_};
 ghost use mathlib.Core.Path.{_≡_};
 ghost use Rattle.laws.specs.Failing.{firstFailing};
 ghost use Rattle.sheet.specs.Field.{count, Sized};
-ghost use Rattle.steps.specs.Conduct.{maySend};
-ghost use Rattle.steps.specs.Forms.Conduct.{aliceSharesIn, shareAllowedIn, aliceGivesIn, bobGivesIn, giveAllowedIn, secretSafeIn, safeToSendIn, sendAllowedIn, sendHeldIn};
+ghost use Rattle.steps.specs.Conduct.{maySend, aliceSharesRule, aliceGivesRule, bobGivesRule, secretSafeRule, safeToSendRule};
+ghost use Rattle.steps.specs.Forms.Conduct.{shareAllowedIn, giveAllowedIn, sendAllowedIn, sendHeldIn};
 ghost use Rattle.steps.specs.Tests.{conductRule};
 
 // 13 unless conduct allows the step and its own conditions are met.
@@ -51,7 +51,7 @@ fn may_send(phase: u8, party: u8, t: usize) -> bool
 impl Guards {
     // Alice's share of success.
     fn alice_shares(self, t: u8) -> bool
-        ensures { λ r. ⌜ r ≡ aliceSharesIn self t ⌝ }
+        ensures { λ r. ⌜ r ≡ aliceSharesRule (self .phase) (self .refund) (self .late) t ⌝ }
     {
         if self.phase != 3 { // she shares nothing in phase 2
             return false;
@@ -80,7 +80,7 @@ impl Guards {
 
     // Alice's gift of sigAlice.
     fn alice_gives(self, i: u8) -> bool
-        ensures { λ r. ⌜ r ≡ aliceGivesIn self i ⌝ }
+        ensures { λ r. ⌜ r ≡ aliceGivesRule (self .phase) (self .knows) (self .late) i ⌝ }
     {
         if self.phase != 3 { // she gives nothing in phase 2
             return false;
@@ -93,7 +93,7 @@ impl Guards {
 
     // Bob's gift of secretBob.
     fn bob_gives(self, i: u8) -> bool
-        ensures { λ r. ⌜ r ≡ bobGivesIn self i ⌝ }
+        ensures { λ r. ⌜ r ≡ bobGivesRule (self .phase) (self .«bob_has») (self .late) i ⌝ }
     {
         if self.phase < 2 {
             return false;
@@ -130,7 +130,7 @@ impl Guards {
     fn secret_safe(self, sheet: &[u8], t: usize) -> bool
         requires { ⌜ Sized (now sheet) ⌝ }
         requires { ⌜ t < count (now sheet) ⌝ }
-        ensures { λ r. ⌜ r ≡ secretSafeIn (now (sheet .entry)) self t ⌝ }
+        ensures { λ r. ⌜ r ≡ secretSafeRule (now (sheet .entry)) (self .knows) t ⌝ }
     {
         if !signatures::has(sheet::field::required(sheet, t), SECRET_ALICE) {
             return true;
@@ -145,7 +145,7 @@ impl Guards {
     fn safe_to_send(self, sheet: &[u8], party: u8, t: usize) -> bool
         requires { ⌜ Sized (now sheet) ⌝ }
         requires { ⌜ t < count (now sheet) ⌝ }
-        ensures { λ r. ⌜ r ≡ safeToSendIn (now (sheet .entry)) self party t ⌝ }
+        ensures { λ r. ⌜ r ≡ safeToSendRule (self .unshared) (secretSafeRule (now (sheet .entry)) (self .knows) t) party t ⌝ }
     {
         if party != 0 {
             return true;

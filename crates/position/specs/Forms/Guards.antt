@@ -11,12 +11,12 @@ use Rattle.position.specs.declared.Position.{Position}
 use Rattle.position.specs.Position.{sent, holds, senderHas}
 use Rattle.position.specs.Conduct.{isOpen, isCareful, phase, late, successUnshared}
 
--- "Open: rules above.": nothing is asked for
+-- open conduct: nothing is asked for
 unfoldable pub openGuards : Guards
 openGuards =
     record { free = true; careful = false; phase = 0; late = false; refund = false; unshared = false; knows = false; «bob_has» = 0 }
 
--- "Loose and careful follow 001."
+-- loose and careful conduct
 unfoldable pub guards : List ℕ → List ℕ → Position → Guards
 guards s u p =
     pick (isOpen u)

@@ -51,15 +51,15 @@ viewPassed v mined keys =
       keys = keys;
     }
 
--- "in pool or confirmed"
+-- those in the pool or confirmed
 unfoldable pub sentSet : View → ℕ
 sentSet v = bitOr (v .pool) (v .confirmed)
 
--- "confirmed or in the block"
+-- those confirmed or in the block
 unfoldable pub placedSet : View → ℕ
 placedSet v = bitOr (v .block) (v .confirmed)
 
--- "each party's keys held"
+-- the keys that a party holds
 unfoldable pub keysIn : View → ℕ → ℕ
 keysIn v party = getD (v .keys) party 0
 

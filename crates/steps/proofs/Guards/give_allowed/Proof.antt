@@ -16,7 +16,7 @@ returns-2 c = simp (tests, c .before .before .if1 .left, c .before .if2 .taken, 
 
 returns-3 : tie.Need-returns-3
 unfolding giveAllowedIn
-returns-3 c = simp (tests, c .before .before .before .if1 .left, c .before .before .if2 .left, c .before .if3 .taken, c .bob-gives .ensures)
+returns-3 c = rw (c .before .before .before .if1 .left, c .before .if3 .taken) (c .bob-gives .ensures)
 
 returns-4 : tie.Need-returns-4
 unfolding giveAllowedIn

@@ -1,20 +1,20 @@
 -- Not Alice, or refund_1, or the others.
 use Rattle.laws.specs.Booleans.{tests}
-use Rattle.steps.specs.Forms.Conduct.{safeToSendIn}
+use Rattle.steps.specs.Conduct.{safeToSendRule}
 use borrow.Author.Needs.{needs}
 use Rattle.steps.proofs.Guards.safe_to_send.Statement.{statement}
 use Rattle.steps.proofs.Guards.safe_to_send.Tie as tie
 
 returns : tie.Need-returns
-unfolding safeToSendIn
+unfolding safeToSendRule
 returns c = simp (tests, c .if1 .taken)
 
 returns-2 : tie.Need-returns-2
-unfolding safeToSendIn
+unfolding safeToSendRule
 returns-2 c = simp (tests, c .before .if1 .left, c .if2 .taken)
 
 returns-3 : tie.Need-returns-3
-unfolding safeToSendIn
+unfolding safeToSendRule
 returns-3 c = simp (tests, c .before .before .if1 .left, c .before .if2 .left, c .secret-safe .ensures)
 
 pub safe-to-send-spec : {M : Type 1} → statement M
