@@ -1,7 +1,6 @@
 // The earliest block of a transaction: recursion up the sheet, where a parent is always a lower number.
 use slots::lock_height::lock_blocks;
 ghost use Prim.Native.Nat.{_+_, _*_, _≤_, _<_};
-ghost use mathlib.Core.Path.{_≡_};
 ghost use Rattle.sheet.specs.Field.{count, Sized};
 ghost use Rattle.ledger.specs.Ledger.{lockFrom};
 ghost use Rattle.endings.specs.Earliest.{earliestFrom, earliest};
