@@ -15,6 +15,7 @@ pub mod json;
 pub mod markup;
 pub mod model;
 pub mod older;
+pub mod programs;
 pub mod random;
 pub mod requests;
 pub mod rounds;

@@ -2,46 +2,16 @@
 //! search; and that a step in its words is committed as its bytes.
 
 use std::fs;
-use std::path::{Path, PathBuf};
+use std::path::Path;
 use std::process::{Command, Output, Stdio};
 use swap_tests::calendar::words::Names;
 use swap_tests::model::{calls, setup};
+use swap_tests::programs::{built, folder};
 use swap_tests::random::{self, Case, Random, MINE};
 use swap_tests::swapfile;
 
-fn dealer() -> PathBuf {
-    let top = Path::new(env!("CARGO_MANIFEST_DIR")).join("..");
-    let program = top
-        .canonicalize()
-        .expect("the repository")
-        .join("target/c/dealer");
-    let build = top.join("examples/dealer/build");
-    let mut build = Command::new(build);
-    assert!(build
-        .arg(&program)
-        .arg("-O2")
-        .status()
-        .expect("the build runs")
-        .success());
-    program
-}
-
-/// A folder of a test with this swap.
-fn write(name: &str, (sheet, setup, journal): &Case) -> PathBuf {
-    let folder = Path::new(env!("CARGO_TARGET_TMPDIR"))
-        .join("dealer")
-        .join(name);
-    let _ = fs::remove_dir_all(&folder);
-    fs::create_dir_all(&folder).expect("a folder");
-    for (name, bytes) in [
-        ("sheet.bin", sheet),
-        ("setup.bin", setup),
-        ("journal.bin", journal),
-    ] {
-        fs::write(folder.join(name), bytes).expect("a file");
-    }
-    folder
-}
+/// Where these tests have their folders.
+const FOLDERS: &str = concat!(env!("CARGO_TARGET_TMPDIR"), "/dealer");
 
 fn run(program: &Path, folder: &Path, words: &str) -> (String, String, i32) {
     let mut command = Command::new(program);
@@ -156,12 +126,12 @@ fn misspelt(random: &mut Random, words: &str) -> String {
 
 #[test]
 fn the_list_and_the_nearest_step_are_the_models() {
-    let program = dealer();
+    let program = built("dealer");
     let mut random = Random::new(43);
     let (mut refused, mut unread, mut passed) = (0, 0, 0);
     for round in 0..150 {
         let case = swap(&mut random);
-        let folder = write("nearest", &case);
+        let folder = folder(FOLDERS, "nearest", &case);
         assert_eq!(
             run(&program, &folder, ""),
             (listed(&case), String::new(), 0),
@@ -213,12 +183,12 @@ fn the_list_and_the_nearest_step_are_the_models() {
 
 #[test]
 fn a_step_in_words_is_committed_as_its_bytes() {
-    let program = dealer();
+    let program = built("dealer");
     let mut random = Random::new(44);
     let mut kinds = [0; 8];
     for _ in 0..150 {
         let mut case = swap(&mut random);
-        let folder = write("commit", &case);
+        let folder = folder(FOLDERS, "commit", &case);
         let open = open(&case);
         if open.is_empty() || case.2.len() + 4 > 65_536 {
             continue;

@@ -2,38 +2,16 @@
 //! a refused swap has its steps.
 
 use std::fs;
-use std::path::{Path, PathBuf};
+use std::path::Path;
 use std::process::Command;
 use swap_tests::calendar::words::{self, Names};
 use swap_tests::model::{block_list, calls, ending, setup, sheet, shrink, timelocks, CONTRACT};
+use swap_tests::programs::{built, folder};
 use swap_tests::random::{self, Case, Random};
 use swap_tests::swapfile;
 
-fn built(name: &str) -> PathBuf {
-    let top = Path::new(env!("CARGO_MANIFEST_DIR")).join("..");
-    let top = top.canonicalize().expect("the repository");
-    let program = top.join("target/c").join(name);
-    let mut build = Command::new(top.join("examples").join(name).join("build"));
-    let status = build.arg(&program).arg("-O2").status();
-    assert!(status.expect("the build runs").success());
-    program
-}
-
-fn write(name: &str, (sheet, setup, journal): &Case) -> PathBuf {
-    let folder = Path::new(env!("CARGO_TARGET_TMPDIR"))
-        .join("swap_program")
-        .join(name);
-    let _ = fs::remove_dir_all(&folder);
-    fs::create_dir_all(&folder).expect("a folder");
-    for (name, bytes) in [
-        ("sheet.bin", sheet),
-        ("setup.bin", setup),
-        ("journal.bin", journal),
-    ] {
-        fs::write(folder.join(name), bytes).expect("a file");
-    }
-    folder
-}
+/// Where these tests have their folders.
+const FOLDERS: &str = concat!(env!("CARGO_TARGET_TMPDIR"), "/swap_program");
 
 /// What a command prints, standard error last, and its status.
 fn run(program: &Path, words: &[&str]) -> (String, i32) {
@@ -147,7 +125,7 @@ fn tables_are_the_models() {
     let mut refused = 0;
     for _ in 0..120 {
         let case = swap(&mut random);
-        let folder = write("tables", &case);
+        let folder = folder(FOLDERS, "tables", &case);
         let folder = folder.to_str().expect("text");
         let (base, blocks) = (random.below(900_000) as u32, random.below(400) as u32);
         let (text, status) = run(&program, &["report", folder, &base.to_string()]);
@@ -181,7 +159,7 @@ fn earliest_lists_are_the_models_and_pass_blocks() {
         let (sheet, setup) = game(&mut random);
         let case = (sheet, setup, Vec::new());
         let read = sheet::read(&case.0).expect("a sheet");
-        let (folder, names) = (write("lists", &case), names(&case));
+        let (folder, names) = (folder(FOLDERS, "lists", &case), names(&case));
         let path = folder.to_str().expect("text");
         let line = |entry: &swap_tests::model::ledger::Entry| {
             let paying = match entry.destination {
@@ -281,7 +259,7 @@ fn shrunk_and_refused_journals_are_told_in_words() {
     let mut fields = 0;
     for _ in 0..100 {
         let case = refused(&mut random);
-        let folder = write("refused", &case);
+        let folder = folder(FOLDERS, "refused", &case);
         let path = folder.to_str().expect("text");
         let (sheet, setup, journal) = &case;
         let answer = calls::run_number(sheet, setup, journal);
