@@ -13,6 +13,8 @@ use std::cell::RefCell;
 use std::cmp::max;
 use std::collections::{BTreeMap, BTreeSet};
 
+pub mod row;
+
 type Set = BTreeSet<u8>;
 
 /// A set asked for with its answer, so that each is found once.
@@ -31,6 +33,7 @@ pub struct Outlook<'a> {
     wont: Set,
     can: Found,
     elsewhere: Found,
+    good: RefCell<BTreeMap<(u8, u32), bool>>,
 }
 
 /// What is asked of a transaction's rivals: what X knows, what X sends beside, the height up to which it is off.
@@ -165,6 +168,7 @@ impl<'a> Outlook<'a> {
             wont: Set::new(),
             can: RefCell::default(),
             elsewhere: RefCell::default(),
+            good: RefCell::default(),
         }
     }
 
@@ -314,28 +318,32 @@ impl<'a> Outlook<'a> {
             && unconfirmed.all(free)
     }
 
-    /// "What X can count on. good(u): u pays or has a good child; beat(u; know, {}, b) does not fail, know being X's keys,
-    /// the shared secrets and the secrets of above(u); and each r in it is answered".
+    /// "What X can count on", each found once for a height.
     fn good(&self, u: u8, off: u32) -> bool {
+        let found = self.good.borrow().get(&(u, off)).copied();
+        found.unwrap_or_else(|| {
+            let good = self.find_good(u, off);
+            self.good.borrow_mut().insert((u, off), good);
+            good
+        })
+    }
+
+    /// "good(u): u pays or has a good child; beat(u; know, {}, b) does not fail, know being X's keys,
+    /// the shared secrets and the secrets of above(u); and each r in it is answered".
+    fn find_good(&self, u: u8, off: u32) -> bool {
         let child = |t: u8| self.sheet.children(t).iter().any(|&c| self.good(c, off));
         if !self.pays(u) && !child(u) {
             return false;
         }
-        let above = self.above(u);
-        let keys = self.position.held[usize::from(self.party)];
-        let know = keys | self.position.shared_secrets(self.sheet) | self.secrets(&above);
-        let ask = Ask {
-            know,
-            also: Set::new(),
-            off: max(off, self.at_least(u)),
-        };
+        let ask = self.ask(u, off);
         let Some(beat) = self.beat(u, &ask) else {
             return false;
         };
+        let above = self.above(u);
         beat.rivals.iter().all(|&r| {
             let for_us = r != u && self.pays(r) && !self.elsewhere(&above).contains(&r);
             let ask = Ask {
-                know: know | self.secrets(&Set::from([r])),
+                know: ask.know | self.secrets(&Set::from([r])),
                 also: above.clone(),
                 off: beat.last,
             };
@@ -343,6 +351,23 @@ impl<'a> Outlook<'a> {
             let mut others = (0..self.sheet.count()).filter(|&t| self.sheet.coin(t) != coin);
             for_us || r != u && child(r) || others.any(|t| self.line(t, &ask))
         })
+    }
+
+    /// What is asked of the rivals of what X counts on: "know being X's keys, the shared secrets and the secrets of above(u)".
+    fn ask(&self, u: u8, off: u32) -> Ask {
+        let keys = self.position.held[usize::from(self.party)];
+        let shared = self.position.shared_secrets(self.sheet);
+        Ask {
+            know: keys | shared | self.secrets(&self.above(u)),
+            also: Set::new(),
+            off: max(off, self.at_least(u)),
+        }
+    }
+
+    /// Whether beat(u; know, {}, b) is empty.
+    fn is_unbeaten(&self, u: u8, off: u32) -> bool {
+        let beat = self.beat(u, &self.ask(u, off));
+        beat.is_some_and(|beat| beat.rivals.is_empty())
     }
 
     /// "where fixed and u needs a secret that only the settled block shows: off is at least m + 1".
@@ -355,11 +380,20 @@ impl<'a> Outlook<'a> {
         }
     }
 
+    /// "a confirmed transaction pays X".
+    fn is_paid(&self) -> bool {
+        let mut confirmed = self.position.confirmed.values();
+        confirmed.any(|c| c.destination == self.party)
+    }
+
+    /// "an opening u or one whose parent is confirmed".
+    fn reached(&self) -> impl Iterator<Item = u8> + '_ {
+        (0..self.sheet.count()).filter(|&u| self.fixed(u))
+    }
+
     /// "kept(k): a confirmed transaction pays X, or good(u) for an opening u or one whose parent is confirmed."
     pub fn kept(&self, blocks: u32) -> bool {
-        let mut confirmed = self.position.confirmed.values();
         let off = self.position.mined + blocks;
-        let mut reached = (0..self.sheet.count()).filter(|&u| self.fixed(u));
-        confirmed.any(|c| c.destination == self.party) || reached.any(|u| self.good(u, off))
+        self.is_paid() || self.reached().any(|u| self.good(u, off))
     }
 }
