@@ -321,6 +321,39 @@ uint32_t swap_outage(const uint8_t *sheet, size_t sheet_length,
                      uint32_t blocks,
                      uint8_t *output, size_t output_length);
 
+/* The bytes of a slack's answer: a row for each party, where its fields begin, and 3 rows at most. */
+#define SWAP_SLACK_ROW 8
+#define SWAP_SLACK_BLOCKS 0
+#define SWAP_SLACK_TRANSACTION 4
+#define SWAP_SLACK_DESTINATION 5
+#define SWAP_SLACK_DUE 6
+#define SWAP_SLACK_SIZE (SWAP_SLACK_ROW * SWAP_PARTIES)
+
+/* The most blocks that a slack has. */
+#define SWAP_SLACK_MOST 10000
+
+/*
+ * Tells for how many blocks each party can take no step after a journal and still keep a way to a payout, whatever the
+ * others and the miner do: 8 bytes (SWAP_SLACK_ROW) for each party, Alice, Bob, then Carol on a sheet of three. It looks at
+ * who can sign what, and may say fewer blocks than would do. Refusals 1 to 24 and 32 are the journal's; the count is 0.
+ *
+ *   bytes 0 to 3  slack: the greatest number of blocks, 10,000 (SWAP_SLACK_MOST) at most, for which a way is kept; 10,000
+ *                 where the party is paid; never where not even for 0 blocks: no payout is secured, yet or any more
+ *   byte 4        the transaction that the party counts on over that outage; 255 where it is paid or none is secured
+ *   byte 5        its destination: the party, or 2 for the contract; 255 with it
+ *   byte 6        1 where it is to be sent before the next block: the slack is 0, and the party's send or hand-in of it is
+ *                 open now; else 0
+ *   byte 7        0
+ *
+ * A slack of 2,147,483,647 is "never". The output takes up 16 bytes, and 24 (SWAP_SLACK_SIZE) of three parties. Refusal 25
+ * says that the buffer is shorter than that. Bytes after the output keep their values, and under a refusal all bytes do.
+ */
+SWAP_MUST_USE
+uint32_t swap_slack(const uint8_t *sheet, size_t sheet_length,
+                    const uint8_t *setup, size_t setup_length,
+                    const uint8_t *journal, size_t journal_length,
+                    uint8_t *output, size_t output_length);
+
 /* The bytes of a page: a line for the header and for each transaction, and 33 lines at most. */
 #define SWAP_PAGE_LINE 73
 #define SWAP_PAGE_SIZE (SWAP_PAGE_LINE * (SWAP_TRANSACTIONS + 1))

@@ -116,6 +116,24 @@ static void expect_outage(void)
     expect("the opening's deadline", swap_number(output + SWAP_OUTAGE_SOONEST_DEADLINE) == SWAP_NEVER);
 }
 
+/* The slack of a ring without Carol's gift: she alone can take the coin. With it Bob can as well, so nothing is hers or his. */
+static void expect_slack(void)
+{
+    uint8_t output[SWAP_SLACK_SIZE];
+    const uint8_t *carol = output + 2 * SWAP_SLACK_ROW;
+
+    expect_answer("slack",
+                  swap_slack(ring, sizeof ring, setup, sizeof setup, ring_journal + STEPS(1), STEPS(3), output, sizeof output),
+                  SWAP_ACCEPTED, 0);
+    expect("nothing is Alice's", swap_number(output + SWAP_SLACK_BLOCKS) == SWAP_NEVER);
+    expect("Carol can be off", swap_number(carol + SWAP_SLACK_BLOCKS) == SWAP_SLACK_MOST);
+    expect("what she counts on", carol[SWAP_SLACK_TRANSACTION] == 1 && carol[SWAP_SLACK_DESTINATION] == SWAP_CAROL);
+    expect("it need not be sent now", carol[SWAP_SLACK_DUE] == 0);
+    expect_answer("slack after a gift", swap_slack(ring, sizeof ring, setup, sizeof setup, ring_journal, STEPS(4), output, sizeof output),
+                  SWAP_ACCEPTED, 0);
+    expect("nothing is Carol's", swap_number(carol + SWAP_SLACK_BLOCKS) == SWAP_NEVER && carol[SWAP_SLACK_TRANSACTION] == SWAP_NONE);
+}
+
 static void expect_fields(void)
 {
     uint8_t output[SWAP_TIMELOCKS_SIZE];
@@ -195,6 +213,7 @@ int main(void)
     expect_reports();
     expect_ring();
     expect_outage();
+    expect_slack();
     expect_fields();
     expect_desk();
     expect_sizes();

@@ -73,6 +73,7 @@ static void refused_setup(const char *name, const uint8_t setup[4], uint32_t ref
     expect_answer(name, swap_report(ring, sizeof ring, setup, 4, wrong, 3, output, 3), refusal, 0);
     expect_answer(name, swap_page(ring, sizeof ring, setup, 4, wrong, 3, output, 3), refusal, 0);
     expect_answer(name, swap_outage(ring, sizeof ring, setup, 4, wrong, 3, 1, output, 3), refusal, 0);
+    expect_answer(name, swap_slack(ring, sizeof ring, setup, 4, wrong, 3, output, 3), refusal, 0);
     expect_answer(name, swap_timelocks(ring, sizeof ring, setup, 4, 0, output, 3), refusal, 0);
     expect_answer(name, swap_blocks(ring, sizeof ring, setup, 4, wrong, 3), refusal, 0);
     expect_answer(name, swap_earliest(ring, sizeof ring, setup, 4, 1, wrong, 3, output, 3), refusal, 0);
@@ -172,6 +173,11 @@ static void position(void)
         1, 4, 2,   0,   0,   0,   2,   0,   0,   0,   /* Carol */
         1, 6, 255, 255, 255, 127, 255, 255, 255, 127, /* dead */
     };
+    static const uint8_t slack[] = {
+        255, 255, 255, 127, 255, 255, 0, 0, /* nothing is left for Alice */
+        255, 255, 255, 127, 255, 255, 0, 0, /* nor for Bob */
+        16,  39,  0,   0,   255, 255, 0, 0, /* Carol is paid */
+    };
 
     expect_answer("run", swap_run(ring, sizeof ring, open, 4, journal, sizeof journal), SWAP_ACCEPTED, 6);
     expect_answer("report", swap_report(ring, sizeof ring, open, 4, journal, sizeof journal, filled(), sizeof report),
@@ -183,6 +189,8 @@ static void position(void)
     expect_answer("outage", swap_outage(ring, sizeof ring, open, 4, journal, sizeof journal, 3, filled(), sizeof output),
                   SWAP_ACCEPTED, 0);
     expect("outage", is_written(outage, sizeof outage));
+    expect_answer("slack", swap_slack(ring, sizeof ring, open, 4, journal, sizeof journal, filled(), sizeof output), SWAP_ACCEPTED, 0);
+    expect("slack", is_written(slack, sizeof slack));
 }
 
 /* What the calls say of the sheet. */
