@@ -52,6 +52,9 @@ calls! {
     /// The engine's verdicts of an outage of so many blocks, in one number.
     outage = swap_outage(read sheet, read setup, read journal, number blocks, write output);
 
+    /// The engine's slack of each party, in one number.
+    slack = swap_slack(read sheet, read setup, read journal, write output);
+
     /// The engine's page, in one number.
     page = swap_page(read sheet, read setup, read journal, write output);
 

@@ -7,6 +7,7 @@ use crate::model::{
     asks, block_list, calls, desk, ending, outage, page, report, shrink, timelocks,
 };
 use crate::random::Case;
+use crate::slack::row as slack;
 
 /// More bytes than any call writes.
 const AMPLE: usize = 4_096;
@@ -20,6 +21,7 @@ pub enum Request {
     Outage {
         blocks: u32,
     },
+    Slack,
     Timelocks {
         base: u32,
     },
@@ -58,6 +60,7 @@ pub fn by_library(request: &Request, inputs: &Inputs, output: &mut [u8]) -> u32 
         Request::Four(call) => ENGINE.answer(*call, inputs, output),
         Request::Page => engine::page(sheet, setup, journal, output),
         Request::Outage { blocks } => engine::outage(sheet, setup, journal, *blocks, output),
+        Request::Slack => engine::slack(sheet, setup, journal, output),
         Request::Timelocks { base } => engine::timelocks(sheet, setup, *base, output),
         Request::Desk { bundle } => engine::desk(sheet, bundle, output),
         Request::Blocks { list } => engine::blocks(sheet, setup, list),
@@ -81,6 +84,7 @@ pub fn by_model(request: &Request, inputs: &Inputs, output: &mut [u8]) -> u32 {
         Request::Four(call) => MODEL.answer(*call, inputs, output),
         Request::Page => page::page_number(sheet, setup, journal, output),
         Request::Outage { blocks } => calls::outage_number(sheet, setup, journal, *blocks, output),
+        Request::Slack => slack::number(sheet, setup, journal, output),
         Request::Timelocks { base } => timelocks::number(sheet, setup, *base, output),
         Request::Desk { bundle } => desk::desk_number(sheet, bundle, output),
         Request::Blocks { list } => block_list::check_number(sheet, setup, list),
@@ -105,6 +109,7 @@ impl Request {
             Request::Four(Call::Report) => "report",
             Request::Page => "page",
             Request::Outage { .. } => "outage",
+            Request::Slack => "slack",
             Request::Timelocks { .. } => "timelocks",
             Request::Desk { .. } => "desk",
             Request::Blocks { .. } => "blocks",
@@ -127,7 +132,8 @@ impl Request {
     pub fn needed(&self, case: &Case) -> usize {
         let mut output = self.buffer(case, vec![0; AMPLE]);
         let answer = by_model(self, &Inputs::of(case), &mut output);
-        let n = usize::from(Head::of(&case.0).count);
+        let head = Head::of(&case.0);
+        let n = usize::from(head.count);
         match (self, answer >> 16) {
             (_, 1..) => 16,
             (Request::Four(Call::List) | Request::Earliest { .. } | Request::Shrink, _) => {
@@ -136,6 +142,7 @@ impl Request {
             (Request::Four(Call::Report), _) => report::ROW * n,
             (Request::Page, _) => page::LINE * (n + 1),
             (Request::Outage { .. }, _) => outage::ROW * n,
+            (Request::Slack, _) => slack::ROW * head.parties.len(),
             (Request::Timelocks { .. }, _) => 8 * n,
             (Request::Desk { bundle }, _) => 8 * usize::from(bundle[0]),
             (Request::Commit { .. }, _) => 4,

@@ -9,6 +9,7 @@ use swap_tests::model::sheet::{self, Head, THREE};
 use swap_tests::model::{calls, desk, outage, report, CAROL};
 use swap_tests::random::{self, Case, Random};
 use swap_tests::requests::{by_library, by_model, Request, Version};
+use swap_tests::slack::row as slack;
 
 /// The steps of a journal, at most.
 const STEPS: usize = 60;
@@ -64,6 +65,8 @@ fn game_without_carol(random: &mut Random) -> (Case, Vec<Request>) {
         Request::Earliest { dests, .. } => !dests.contains(&CAROL),
         // its damaged journals could name her
         Request::Desk { .. } => false,
+        // which has a row for her
+        Request::Slack => false,
         _ => true,
     };
     let mut requests = random::further(random, &game.sheet, &game.setup, &case);
@@ -102,6 +105,14 @@ fn assert_carol_changes_nothing(version: Version, seed: u64, count: usize) {
         if two >> 16 == 0 {
             let theirs = without_carol(&theirs[..4 * three as usize]);
             assert_eq!(ours[..4 * two as usize], theirs, "{case:?}");
+        }
+        let [(two, ours), (three, theirs)] =
+            [&case, &ring].map(|case| asked(version, &Request::Slack, case, &before));
+        assert_eq!(two, three);
+        assert_eq!(ours[..2 * slack::ROW], theirs[..2 * slack::ROW], "{case:?}");
+        if two == 0 {
+            let carol = [255, 255, 255, 127, 255, 255, 0, 0];
+            assert_eq!(theirs[2 * slack::ROW..][..slack::ROW], carol, "{case:?}");
         }
     }
     assert!(accepted > 4 * count);
@@ -243,6 +254,21 @@ impl Names {
         }
     }
 
+    /// A row for each party, in the new order and with another destination.
+    fn parties(&self, bytes: &[u8]) -> Vec<u8> {
+        let mut renamed = bytes.to_vec();
+        for (row, party) in bytes.chunks_exact(slack::ROW).zip([0, 1, CAROL]) {
+            let place = match self.number(party) {
+                CAROL => 2,
+                party => usize::from(party),
+            };
+            let to = &mut renamed[slack::ROW * place..][..slack::ROW];
+            to.copy_from_slice(row);
+            to[5] = self.number(row[5]);
+        }
+        renamed
+    }
+
     /// A line of the page with another payee.
     fn line(&self, line: &str) -> String {
         let names = [("Alice", 0), ("Bob", 1), ("Carol", CAROL)];
@@ -272,6 +298,7 @@ impl Names {
             }
             Request::Four(Call::Report) => renamed = rows(bytes, ROW, Names::number),
             Request::Outage { .. } => renamed = rows(bytes, outage::ROW, Names::payees),
+            Request::Slack => renamed = self.parties(bytes),
             Request::Page => {
                 let text = std::str::from_utf8(bytes).expect("text");
                 let lines = text.split_inclusive('\n').map(|line| self.line(line));

@@ -492,7 +492,7 @@ fn damage(random: &mut Random, turn: usize, (sheet, setup, journal): &mut Case) 
     }
 }
 
-/// All thirteen calls on cases by this maker, damaged in part: the same answers, and every refusal of each call met.
+/// All fourteen calls on cases by this maker, damaged in part: the same answers, and every refusal of each call met.
 fn every_call(seed: u64, make: impl Fn(&mut Random) -> Case, three: bool) {
     let mut random = Random::new(seed);
     let mut answers = Answers::new();
@@ -514,13 +514,14 @@ fn every_call(seed: u64, make: impl Fn(&mut Random) -> Case, three: bool) {
 
 /// The refusals of each call's own, beside the sheet's and the setup's; 32 is of sheets of three alone.
 fn assert_every_refusal(answers: &Answers, three: bool) {
-    let own: [(&str, &[usize]); 13] = [
+    let own: [(&str, &[usize]); 14] = [
         ("check", &[]),
         ("run", &[11, 13, 14, 15, 16, 17, 24]),
         ("list", &[11, 13, 14, 15, 16, 17, 24, 25]),
         ("report", &[11, 13, 14, 15, 16, 17, 24, 25]),
         ("page", &[24, 25]),
         ("outage", &[24, 25]),
+        ("slack", &[24, 25]),
         ("timelocks", &[25, 26, 27]),
         ("desk", &[25, 28]),
         ("blocks", &[29, 30, 31]),

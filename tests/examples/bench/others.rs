@@ -6,6 +6,7 @@ use crate::works;
 use swap_tests::engine;
 use swap_tests::model::{asks, block_list, calls, ending, page, timelocks};
 use swap_tests::random::Case;
+use swap_tests::slack::row as slack_rows;
 
 /// The longest output: a page.
 const LONGEST: usize = 2_409;
@@ -34,6 +35,16 @@ fn outage(name: &str, (sheet, setup, journal): &Case) {
         &[0; LONGEST],
         &|output| engine::outage(sheet, setup, journal, OUTAGE, output),
         &|output| calls::outage_number(sheet, setup, journal, OUTAGE, output),
+    );
+}
+
+fn slack(name: &str, (sheet, setup, journal): &Case) {
+    call_row(
+        &format!("slack, {name}"),
+        journal.len() / 4,
+        &[0; LONGEST],
+        &|output| engine::slack(sheet, setup, journal, output),
+        &|output| slack_rows::number(sheet, setup, journal, output),
     );
 }
 
@@ -116,16 +127,18 @@ pub fn rates() {
         (format!("fresh chain of {count}"), (sheet, setup, vec![]))
     });
     let chain = &chains[4].1;
-    for call in [outage, page] {
+    for call in [outage, slack, page] {
         for case in [&fresh, &swap, &long] {
             call("SASwap careful", case);
         }
     }
     for (name, case) in &chains {
         outage(name, case);
+        slack(name, case);
     }
     page("fresh chain of 32", chain);
     outage("busy chain of 32", &works::chain(32, 0));
+    slack("busy chain of 32", &works::chain(32, 0));
     for case in [&swap, &long] {
         ask_and_commit("SASwap careful", case);
     }

@@ -168,6 +168,7 @@ pub fn further(random: &mut Random, sheet: &Sheet, setup: &Setup, case: &Case) -
     vec![
         Request::Page,
         Request::Outage { blocks },
+        Request::Slack,
         Request::Timelocks { base },
         Request::Desk {
             bundle: bundle(random, case),
@@ -182,7 +183,7 @@ pub fn further(random: &mut Random, sheet: &Sheet, setup: &Setup, case: &Case) -
     ]
 }
 
-/// One request of each of the thirteen calls.
+/// One request of each of the fourteen calls.
 pub fn every(random: &mut Random, sheet: &Sheet, setup: &Setup, case: &Case) -> Vec<Request> {
     let mut requests = [Call::Check, Call::Run, Call::List, Call::Report]
         .map(Request::Four)

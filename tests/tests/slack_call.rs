@@ -1,0 +1,249 @@
+//! The built library's call slack against the model's, and against the game itself: sound and damaged inputs, buffers of every
+//! length, walks, all positions of the SASwap sheet and of random small sheets of two and three.
+
+use std::collections::BTreeMap;
+use swap_tests::adversary::{Fate, Graph};
+use swap_tests::compare::Game;
+use swap_tests::engine;
+use swap_tests::every;
+use swap_tests::model::heights::NEVER;
+use swap_tests::model::journal::Course;
+use swap_tests::model::sheet::Lock;
+use swap_tests::random::{self, Case, Manner, Random, MINE};
+use swap_tests::samples::LOCK_A;
+use swap_tests::slack::row::{self, Row, LONGEST, ROW};
+use swap_tests::slack::Outlook;
+
+/// The bytes on either side of a lent buffer.
+const GUARD: usize = 13;
+/// The outages, in blocks, that are asked of the game.
+const OUTAGES: [u32; 3] = [1, 2, 3];
+
+/// What was compared, all of it equal.
+#[derive(Debug, Default)]
+struct Tally {
+    /// The answers by refusal.
+    answers: BTreeMap<u32, usize>,
+    rows: usize,
+    /// The rows that say: paid or safe for as long as can be asked, none kept, kept for no block, to be sent now.
+    longest: usize,
+    never: usize,
+    none: usize,
+    due: usize,
+}
+
+impl Tally {
+    /// One call with a buffer of so many bytes, filled at random.
+    fn call(&mut self, random: &mut Random, case: &Case, length: usize) {
+        let (sheet, setup, journal) = case;
+        let mut buffer = random.bytes(GUARD + length + GUARD);
+        let mut modelled = buffer.clone();
+        let answer = engine::slack(sheet, setup, journal, &mut buffer[GUARD..GUARD + length]);
+        let expected = &mut modelled[GUARD..GUARD + length];
+        let number = row::number(sheet, setup, journal, expected);
+        assert_eq!(answer, number, "{length} bytes, {case:?}");
+        assert_eq!(buffer, modelled, "{length} bytes, {case:?}");
+        assert_eq!(answer & 0xffff, 0);
+        *self.answers.entry(answer >> 16).or_default() += 1;
+        if answer == 0 {
+            let parties = match sheet[0] < 128 {
+                true => 2,
+                false => 3,
+            };
+            self.count(&buffer[GUARD..GUARD + parties * ROW]);
+        }
+    }
+
+    fn count(&mut self, rows: &[u8]) {
+        for row in rows.chunks_exact(ROW).map(Row::read) {
+            self.rows += 1;
+            self.longest += usize::from(row.blocks == LONGEST);
+            self.never += usize::from(row.blocks == NEVER);
+            self.none += usize::from(row.blocks == 0);
+            self.due += usize::from(row.due);
+        }
+    }
+
+    /// One case, with buffers exact, one short, one more, long and empty.
+    fn case(&mut self, random: &mut Random, case: &Case) {
+        let exact = match case.0.first() {
+            Some(128..) => 3 * ROW,
+            _ => 2 * ROW,
+        };
+        for length in [exact, exact - 1, exact + 1, exact + 40, 0] {
+            self.call(random, case, length);
+        }
+    }
+}
+
+/// The rows that the library writes after a journal.
+fn rows(game: &Game, steps: &[[u8; 4]]) -> Vec<Row> {
+    let (sheet, setup, journal) = game.case(steps);
+    let mut output = vec![0; ROW * game.sheet.parties.len()];
+    assert_eq!(engine::slack(&sheet, &setup, &journal, &mut output), 0);
+    output.chunks_exact(ROW).map(Row::read).collect()
+}
+
+/// A party's row is the model's, and says of each short outage whether it is kept.
+fn assert_modelled(game: &Game, course: &Course, party: u8, row: &Row) {
+    let (sheet, setup, position) = (&game.sheet, &game.setup, &course.position);
+    let steps = &course.accepted;
+    assert_eq!(*row, Row::of(sheet, setup, position, party), "{steps:?}");
+    let outlook = Outlook::plain(sheet, setup, position, party);
+    for blocks in [0, 1, 2, 3] {
+        let kept = outlook.kept(blocks);
+        assert_eq!(row.keeps(blocks), kept, "{blocks}: {steps:?}");
+    }
+}
+
+#[test]
+fn every_refusal() {
+    let mut random = Random::new(71);
+    let mut tally = Tally::default();
+    let numbers: Vec<u32> = (1..=22).chain([24]).collect();
+    for turn in 0..3_000 {
+        let case = match turn % 4 {
+            0 => random::led_case(&mut random, 40, numbers[turn / 4 % numbers.len()]),
+            1 => random::ring_case(&mut random, 40),
+            _ => random::case(&mut random, 40),
+        };
+        tally.case(&mut random, &case);
+    }
+    let steps = [&LOCK_A[..], &vec![MINE; 10_000]].concat();
+    for length in [steps.len() - 1, steps.len()] {
+        let case = Game::saswap(3, 0, 1).case(&steps[..length]);
+        tally.case(&mut random, &case);
+    }
+    println!("{tally:?}");
+    let refusals: Vec<u32> = (0..=25).chain([32]).collect();
+    assert!(tally.answers.keys().eq(&refusals));
+    assert!(tally.longest > 0 && tally.never > 0);
+}
+
+/// Walks over open steps, on any sheet, on rings and on the SASwap sheet under each conduct.
+#[test]
+fn walks() {
+    let mut random = Random::new(72);
+    let mut tally = Tally::default();
+    for turn in 0..250 {
+        let game = Game::new(match turn % 5 {
+            0 => random::any_game(&mut random),
+            1 => random::ring_game(&mut random),
+            conduct => random::saswap_game(&mut random, conduct as u8 - 2),
+        });
+        let manner = Manner {
+            wrong: 0,
+            ..random::manner(&mut random, 30)
+        };
+        let (sheet, setup) = (&game.sheet, &game.setup);
+        let mut course = Course::fresh(sheet);
+        for _ in 0..12 {
+            random::more(&mut random, sheet, setup, &mut course, &manner, 300);
+            tally.call(&mut random, &game.case(&course.accepted), 3 * ROW);
+        }
+    }
+    println!("{tally:?}");
+    let between = tally.rows - tally.longest - tally.never - tally.none;
+    assert!(between > 500 && tally.none > tally.due && tally.due > 0);
+}
+
+/// The greatest number that is kept, found by asking for each from 10,000 down, is the one that is written.
+#[test]
+fn greatest() {
+    let mut random = Random::new(73);
+    let mut found = [0; 3];
+    for turn in 0..30 {
+        let game = Game::new(match turn % 3 {
+            0 => random::ring_game(&mut random),
+            conduct => random::saswap_game(&mut random, conduct as u8),
+        });
+        let (sheet, setup) = (&game.sheet, &game.setup);
+        let manner = random::manner(&mut random, 20);
+        let mut course = Course::fresh(sheet);
+        for _ in 0..turn % 10 {
+            random::more(&mut random, sheet, setup, &mut course, &manner, 30);
+        }
+        for (&party, row) in sheet.parties.iter().zip(rows(&game, &course.accepted)) {
+            let outlook = Outlook::plain(sheet, setup, &course.position, party);
+            let greatest = (0..=LONGEST).rev().find(|&k| outlook.kept(k));
+            assert_eq!(greatest.unwrap_or(NEVER), row.blocks);
+            let sort = match row.blocks {
+                LONGEST => 0,
+                NEVER => 1,
+                _ => 2,
+            };
+            found[sort] += 1;
+        }
+    }
+    println!("10,000, never, other: {found:?}");
+    assert!(found.iter().all(|&count| count > 5));
+}
+
+/// In every position up to so many blocks the library's rows are the model's; where they say that a payout is kept it is not given
+/// up, and an outage for which it is kept is no danger. The positions, and the dangers in them.
+fn positions(game: &Game, graph: &Graph, blocks: u32) -> [usize; 2] {
+    let parties = game.sheet.parties;
+    let fates: Vec<Fate> = parties.iter().map(|&side| Fate::of(graph, side)).collect();
+    let [mut positions, mut dangers] = [0; 2];
+    every::walk(game, blocks, |course| {
+        let found = rows(game, &course.accepted);
+        let number = graph.number(&course.position);
+        for ((row, fate), &party) in found.iter().zip(&fates).zip(parties) {
+            assert_modelled(game, course, party, row);
+            let (steps, given_up) = (&course.accepted, fate.given_up[number]);
+            assert!(!row.keeps(0) || !given_up, "{row:?} {steps:?}");
+            for outage in OUTAGES {
+                let ends = fate.blocks[number].is_some_and(|blocks| blocks <= outage);
+                assert!(!row.keeps(outage) || !ends, "{row:?} {steps:?}");
+                dangers += usize::from(ends && !given_up);
+            }
+        }
+        positions += 1;
+    });
+    [positions, dangers]
+}
+
+fn saswap(conduct: u8, stealth: u8, blocks: u32) -> [usize; 2] {
+    let game = Game::saswap(1, conduct, stealth);
+    let found = positions(&game, &Graph::of(&game), blocks);
+    println!("conduct {conduct}, stealth {stealth}, positions and dangers: {found:?}");
+    found
+}
+
+#[test]
+fn careful_positions() {
+    assert_eq!(saswap(2, 0, 9), [6_957, 42 + 92 + 263]);
+}
+
+#[test]
+fn careful_positions_with_stealth() {
+    assert_eq!(saswap(2, 1, 9), [17_784, 268 + 323 + 575]);
+}
+
+#[test]
+fn loose_positions() {
+    assert_eq!(saswap(1, 0, 9), [9_252, 1_342]);
+}
+
+/// Random sheets of two and three whose game has few positions.
+#[test]
+fn small_sheets() {
+    let mut random = Random::new(4243);
+    let mut found = [0; 3];
+    for _ in 0..400 {
+        let (n, s) = (random.between(3, 5) as u8, random.between(1, 3) as u8);
+        let shape = random.pick(&random::SHAPES);
+        let sheet = match random.percent(30) {
+            true => random::ring_of(&mut random, n, s, shape),
+            false => random::sheet_of(&mut random, n, s, shape),
+        };
+        let game = Game::new((sheet, random::setup_of(&mut random, 1, 0)));
+        let locked = game.sheet.transaction(0).lock != Lock::None;
+        if let (false, Some(graph)) = (locked, Graph::of_any(&game, 500)) {
+            let [places, dangers] = positions(&game, &graph, 4);
+            found = [found[0] + 1, found[1] + places, found[2] + dangers];
+        }
+    }
+    println!("games, positions and dangers: {found:?}");
+    assert!(found[0] > 30 && found[1] > 10_000 && found[2] > 5_000);
+}
