@@ -1,4 +1,4 @@
-//! Writes a crate that holds the definitions of all thirteen calls to the model's answers: for each of COUNT random cases one fact for
+//! Writes a crate that holds the definitions of all fourteen calls to the model's answers: for each of COUNT random cases one fact for
 //! each call, proved by computation. `tests/definitions` runs it and has the crate proved.
 //!
 //! Usage: definitions COUNT SEED MOST CRATES FOLDER, with sheets of at most MOST transactions
@@ -9,8 +9,11 @@ use std::io;
 use std::path::Path;
 
 use swap_tests::calls::{Call, Inputs};
+use swap_tests::model::heights::NEVER;
+use swap_tests::model::sheet::Head;
 use swap_tests::random::{self, Case, Random};
 use swap_tests::requests::{by_model, Request};
+use swap_tests::slack::row::{self as slack, Row, LONGEST};
 
 /// Steps to a journal, at most.
 const STEPS: usize = 24;
@@ -19,12 +22,15 @@ const SHRUNK: usize = 8;
 /// What every buffer holds before a call.
 const FILL: u8 = 170;
 /// The crates whose definitions the calls answer by, above those of `position`, which has an opener of its own.
-const CRATES: [&str; 12] = [
+const CRATES: [&str; 15] = [
     "laws",
     "dated",
     "call_page",
     "soonest",
     "call_outage",
+    "attainable",
+    "slack",
+    "call_slack",
     "call_timelocks",
     "call_desk",
     "call_blocks",
@@ -33,14 +39,17 @@ const CRATES: [&str; 12] = [
     "call_ask",
     "call_shrink",
 ];
-/// Where each call's answer is defined, and the definition's name.
-const ANSWERS: [(&str, &str); 13] = [
+/// Where each call's answer is defined, and the definition's name; of slack its parts too.
+const ANSWERS: [(&str, &str); 16] = [
     ("position.specs.Play", "run"),
     ("position.specs.Answers", "listAnswer"),
     ("sheet.specs.Check", "sheetRefusal"),
     ("dated.specs.Report", "reportAnswer"),
     ("call_page.specs.Page", "pageAnswer"),
     ("call_outage.specs.Answer", "outageAnswer"),
+    ("call_slack.specs.Answer", "slackAnswer"),
+    ("call_slack.specs.Row", "countedAt, destinationFor, isDue"),
+    ("slack.specs.Kept", "kept"),
     ("call_timelocks.specs.Timelocks", "timelocksAnswer"),
     ("call_desk.specs.Desk", "deskAnswer"),
     ("call_blocks.specs.BlockList", "blocksRefusal"),
@@ -53,7 +62,7 @@ const ANSWERS: [(&str, &str); 13] = [
 const HEAD: &str = "-- Cases and the model's answers.
 use Prim.Native.Nat.{ℕ}
 use mathlib.Core.Path.{_≡_, refl}
-use mathlib.Core.Bool.{true, _&&_}
+use mathlib.Core.Bool.{true, not, _&&_}
 use mathlib.Core.List.{List, [], _∷_}
 use lib.Dec.{eqb}
 use Rattle.laws.specs.Same.{same}
@@ -120,6 +129,7 @@ fn answer(request: &Request, number: usize) -> String {
         Request::Four(Call::Report) => format!("reportAnswer {s} {u} {j} {out}"),
         Request::Page => format!("pageAnswer {s} {u} {j} {out}"),
         Request::Outage { blocks } => format!("outageAnswer {s} {u} {j} {blocks} {out}"),
+        Request::Slack => format!("slackAnswer {s} {u} {j} {out}"),
         Request::Timelocks { base } => format!("timelocksAnswer {s} {u} {base} {out}"),
         Request::Desk { bundle } => format!("deskAnswer {s} ({}) {out}", list(bundle)),
         Request::Blocks { list: entries } => format!("blocksRefusal {s} {u} ({})", list(entries)),
@@ -132,6 +142,30 @@ fn answer(request: &Request, number: usize) -> String {
         }
         Request::Shrink => format!("shrinkAnswer {s} {u} k{number} {out}"),
     }
+}
+
+/// The rows of slack, by what makes them: the greatest number that is kept is found by asking for all of them, so here it is asked
+/// for and for one more.
+fn rows(number: usize, bytes: &[u8]) -> String {
+    let parts = bytes.chunks_exact(slack::ROW).zip(["0", "1", "3"]);
+    let facts = parts.map(|(bytes, x)| {
+        let row = Row::read(bytes);
+        let (s, u) = (format!("s{number}"), format!("u{number}"));
+        let kept = match row.blocks {
+            NEVER => format!("not (kept {s} {u} p {x} 0)"),
+            LONGEST => format!("kept {s} {u} p {x} {LONGEST}"),
+            k => format!("(kept {s} {u} p {x} {k} && not (kept {s} {u} p {x} {}))", k + 1),
+        };
+        let (blocks, t, d) = (row.blocks, bytes[4], bytes[5]);
+        let due = format!("isDue {s} {u} p {x} {blocks} {t}");
+        let due = if row.due { due } else { format!("not ({due})") };
+        format!(
+            "({kept} && (eqb (countedAt {s} {u} p {x} {blocks}) {t} && (eqb (destinationFor {s} {x} {t}) {d} && {due})))"
+        )
+    });
+    let facts: Vec<String> = facts.collect();
+    let run = format!("run s{number} u{number} j{number} .position");
+    format!("(let p = {run} in {})", facts.join(" && "))
 }
 
 /// The fact about one call of a case: the number that C gets, and the buffer afterwards where there is one.
@@ -149,6 +183,10 @@ fn fact(request: &Request, case: &Case, number: usize, room: usize) -> (String, 
     let claim = match request {
         Request::Four(Call::Check) | Request::Blocks { .. } => {
             format!("eqb (packed ({value}) 0) {answered}")
+        }
+        Request::Slack if answered == 0 => {
+            let parties = Head::of(&case.0).parties.len();
+            rows(number, &after[..slack::ROW * parties])
         }
         _ if buffer => format!(
             "(let out = {} in let a = {value} in eqb (packed (a .refusal) {count}) {answered} && same (a .buffer) ({}))",
