@@ -173,6 +173,64 @@ int outage(int count, char **words)
     return FINE;
 }
 
+/* A transaction that a party counts on, as "spend_A, paying Alice". */
+static void print_counted(const uint8_t *row)
+{
+    uint8_t destination = row[SWAP_SLACK_DESTINATION];
+
+    printf("%s", transaction_label(&swap, row[SWAP_SLACK_TRANSACTION]).text);
+    if (destination != SWAP_CONTRACT) {
+        printf(", paying %s", destination_name(destination));
+    }
+}
+
+/* Whether a party can send what it counts on to the pool now; else it can hand it in. */
+static bool can_send(uint8_t party, const uint8_t *row)
+{
+    const uint8_t step[] = {SWAP_SEND, party, row[SWAP_SLACK_TRANSACTION], row[SWAP_SLACK_DESTINATION]};
+
+    return SWAP_REFUSAL(swap_ask(SLICES(swap), step, sizeof step)) == SWAP_ACCEPTED;
+}
+
+/* A party's slack in words. */
+static void print_slack(uint8_t party, const uint8_t *row)
+{
+    uint32_t blocks = swap_number(row + SWAP_SLACK_BLOCKS);
+
+    printf("%s: ", party_name(party));
+    if (blocks == SWAP_NEVER) {
+        printf("no payout is secured");
+    } else if (row[SWAP_SLACK_TRANSACTION] == SWAP_NONE) {
+        printf("paid");
+    } else if (row[SWAP_SLACK_DUE] != 0) {
+        printf("before the next block %s ", can_send(party, row) ? "send" : "hand in");
+        print_counted(row);
+    } else {
+        printf("can be off for %lu block%s, counting on ", (unsigned long)blocks, blocks == 1 ? "" : "s");
+        print_counted(row);
+    }
+    printf("\n");
+}
+
+int slack(int count, char **words)
+{
+    static const uint8_t parties[SWAP_PARTIES] = {SWAP_ALICE, SWAP_BOB, SWAP_CAROL};
+    uint8_t rows[SWAP_SLACK_SIZE];
+    int status = accepted(words[0]);
+
+    (void)count;
+    if (status != FINE) {
+        return status;
+    }
+    if (swap_slack(SLICES(swap), rows, sizeof rows) != SWAP_ACCEPTED) {
+        return REFUSED; /* never: the journal passed */
+    }
+    for (uint8_t i = 0; i < parties_of(&swap); i++) {
+        print_slack(parties[i], rows + SWAP_SLACK_ROW * i);
+    }
+    return FINE;
+}
+
 int timelocks(int count, char **words)
 {
     uint8_t rows[SWAP_TIMELOCKS_SIZE];

@@ -16,6 +16,7 @@ int list(int count, char **words);
 int report(int count, char **words);
 int page(int count, char **words);
 int outage(int count, char **words);
+int slack(int count, char **words);
 int timelocks(int count, char **words);
 int desk(int count, char **words);
 int blocks(int count, char **words);

@@ -11,6 +11,7 @@ const char swap_help[] =
     "report     each transaction: status, payee, heights\n"
     "page       the same as a page for the wall\n"
     "outage     what an outage of the next so many blocks can cost\n"
+    "slack      for how many blocks each party's box can be off\n"
     "timelocks  nLockTime and nSequence of each transaction\n"
     "desk       whether the journals of several swaps are accepted\n"
     "blocks     whether the ledger takes a list of confirmed transactions\n"
@@ -82,6 +83,20 @@ const char outage_help[] =
     "The calendar makes warnings of it, for each side.\n"
     "\n"
     "    swap outage deal 144\n"
+    "\n"
+    "Exit status: 0 printed; 1 the swap is refused, or a file cannot be read; 2 bad\n"
+    "usage.\n";
+
+const char slack_help[] =
+    "usage: swap slack FOLDER\n"
+    "\n"
+    "Prints for each party for how many blocks, 10000 at most, its box can be off from\n"
+    "now on and still keep a way to a payout, whatever the others and the miner do, and\n"
+    "which transaction it counts on; what it has to send before the next block; that it\n"
+    "is paid, or that no payout is secured. It looks at who can sign what, and may say\n"
+    "fewer blocks than would do.\n"
+    "\n"
+    "    swap slack deal\n"
     "\n"
     "Exit status: 0 printed; 1 the swap is refused, or a file cannot be read; 2 bad\n"
     "usage.\n";

@@ -8,6 +8,7 @@ extern const char list_help[];
 extern const char report_help[];
 extern const char page_help[];
 extern const char outage_help[];
+extern const char slack_help[];
 extern const char timelocks_help[];
 extern const char desk_help[];
 extern const char blocks_help[];

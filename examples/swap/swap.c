@@ -34,6 +34,7 @@ static const struct command commands[] = {
     {"report", report_help, 1, 2, report},
     {"page", page_help, 1, 1, page},
     {"outage", outage_help, 2, 2, outage},
+    {"slack", slack_help, 1, 1, slack},
     {"timelocks", timelocks_help, 2, 2, timelocks},
     {"desk", desk_help, 1, WORDS, desk},
     {"blocks", blocks_help, 2, 2, blocks},

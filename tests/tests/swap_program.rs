@@ -5,9 +5,13 @@ use std::fs;
 use std::path::Path;
 use std::process::Command;
 use swap_tests::calendar::words::{self, Names};
-use swap_tests::model::{block_list, calls, ending, setup, sheet, shrink, timelocks, CONTRACT};
+use swap_tests::model::heights::NEVER;
+use swap_tests::model::{
+    block_list, calls, ending, setup, sheet, shrink, step, timelocks, CONTRACT,
+};
 use swap_tests::programs::{built, folder};
 use swap_tests::random::{self, Case, Random};
+use swap_tests::slack::row::Row;
 use swap_tests::swapfile;
 
 /// Where these tests have their folders.
@@ -107,6 +111,42 @@ fn outage(case: &Case, blocks: u32) -> Vec<String> {
     bytes.chunks(size).enumerate().map(row).collect()
 }
 
+/// The slack of each party in words, by the model.
+fn slack(case: &Case) -> Vec<String> {
+    let names = names(case);
+    let outcome = calls::outcome(&case.0, &case.1, &case.2).expect("accepted");
+    let (sheet, setup, position) = (&outcome.sheet, &outcome.setup, &outcome.course.position);
+    let words = |&party: &u8| {
+        let row = Row::of(sheet, setup, position, party);
+        let counted = |(t, destination): (u8, u8)| match destination {
+            CONTRACT => names.transaction(t),
+            payee => format!(
+                "{}, paying {}",
+                names.transaction(t),
+                words::party_name(payee)
+            ),
+        };
+        let said = match (row.blocks, row.counted, row.due) {
+            (NEVER, ..) => "no payout is secured".to_string(),
+            (_, None, _) => "paid".to_string(),
+            (_, Some((t, to)), true) => {
+                let sends = step::refusal(sheet, setup, position, &[3, party, t, to]) == 0;
+                let verb = if sends { "send" } else { "hand in" };
+                format!("before the next block {verb} {}", counted((t, to)))
+            }
+            (1, Some(on), false) => format!("can be off for 1 block, counting on {}", counted(on)),
+            (blocks, Some(on), false) => {
+                format!(
+                    "can be off for {blocks} blocks, counting on {}",
+                    counted(on)
+                )
+            }
+        };
+        format!("{}: {said}", words::party_name(party))
+    };
+    sheet.parties.iter().map(words).collect()
+}
+
 fn locks(case: &Case, base: u32) -> Result<Vec<String>, u32> {
     let names = names(case);
     let all = timelocks::all_fields(&case.0, &case.1, base)?;
@@ -134,6 +174,13 @@ fn tables_are_the_models() {
         assert_eq!(
             (table(&text), status),
             (outage(&case, blocks), 0),
+            "{case:?}"
+        );
+        let (text, status) = run(&program, &["slack", folder]);
+        let lines: Vec<&str> = text.lines().collect();
+        assert_eq!(
+            (lines, status),
+            (slack(&case).iter().map(String::as_str).collect(), 0),
             "{case:?}"
         );
         let base = base + random.pick(&[0, 499_000_000]);
