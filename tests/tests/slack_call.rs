@@ -16,7 +16,7 @@ use swap_tests::slack::Outlook;
 
 /// The bytes on either side of a lent buffer.
 const GUARD: usize = 13;
-/// The outages, in blocks, that are asked of the game.
+/// The outages, in blocks, whose dangers are counted.
 const OUTAGES: [u32; 3] = [1, 2, 3];
 
 /// What was compared, all of it equal.
@@ -180,7 +180,7 @@ fn greatest() {
 }
 
 /// In every position up to so many blocks the library's rows are the model's; where they say that a payout is kept it is not given
-/// up, and an outage for which it is kept is no danger. The positions, and the dangers in them.
+/// up, and no outage up to the slack, however long, brings it there. The positions, and the dangers of short outages in them.
 fn positions(game: &Game, graph: &Graph, blocks: u32) -> [usize; 2] {
     let parties = game.sheet.parties;
     let fates: Vec<Fate> = parties.iter().map(|&side| Fate::of(graph, side)).collect();
@@ -190,13 +190,11 @@ fn positions(game: &Game, graph: &Graph, blocks: u32) -> [usize; 2] {
         let number = graph.number(&course.position);
         for ((row, fate), &party) in found.iter().zip(&fates).zip(parties) {
             assert_modelled(game, course, party, row);
-            let (steps, given_up) = (&course.accepted, fate.given_up[number]);
-            assert!(!row.keeps(0) || !given_up, "{row:?} {steps:?}");
-            for outage in OUTAGES {
-                let ends = fate.blocks[number].is_some_and(|blocks| blocks <= outage);
-                assert!(!row.keeps(outage) || !ends, "{row:?} {steps:?}");
-                dangers += usize::from(ends && !given_up);
-            }
+            let (given_up, ends) = (fate.given_up[number], fate.blocks[number]);
+            let lost = given_up || ends.is_some_and(|blocks| row.keeps(blocks));
+            assert!(!row.keeps(0) || !lost, "{row:?} {:?}", course.accepted);
+            let danger = |outage| !given_up && ends.is_some_and(|blocks| blocks <= outage);
+            dangers += OUTAGES.into_iter().filter(|&k| danger(k)).count();
         }
         positions += 1;
     });
