@@ -377,6 +377,13 @@ fn worked_example() {
             ),
         ),
         (
+            "bytes slack",
+            decimal(
+                &written(16, 0, |out| engine::slack(&sheet, &setup, half, out)),
+                8,
+            ),
+        ),
+        (
             "bytes timelocks",
             decimal(
                 &written(16, 0, |out| engine::timelocks(&sheet, &setup, 800_000, out)),
