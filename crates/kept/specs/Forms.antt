@@ -1,0 +1,2 @@
+pub mod Prospect
+pub mod Evaluation
