@@ -1,1 +1,216 @@
 // What is kept up to a height, over the tables of a prospect.
+use crate::Prospect;
+use sheet::set;
+ghost use Prim.Native.Nat.{_+_, _*_, _<_, _≤_};
+ghost use mathlib.Core.Path.{_≡_};
+ghost use mathlib.Core.Bool.{_&&_};
+ghost use lib.Dec.{ltb};
+ghost use lib.ListN.{getD};
+ghost use Rattle.laws.specs.Booleans.{pick};
+ghost use Rattle.laws.specs.Mask.{bit};
+ghost use Rattle.laws.specs.Sets.{setBelow, joined};
+ghost use Rattle.sheet.specs.LockHeight.{never};
+ghost use Rattle.soonest.specs.Soonest.{greater};
+ghost use Rattle.soonest.specs.Forms.Table.{Filled};
+ghost use Rattle.kept.specs.Forms.Evaluation.{within, clearIn, reachesIn, isUnmetIn, unmetIn, needsIn, parentsIn, goodIn, roundsIn, reachedIn, keptIn, Bounded};
+
+// Whether each bit of a is b's.
+fn within(a: u32, b: u32) -> bool
+    ensures { λ r. ⌜ r ≡ within a b ⌝ }
+{
+    a & b == a
+}
+
+// Whether one stands and is unbeaten, where X knows this, up to a height.
+fn is_clear(lacks: u32, until: u32, know: u32, at: u32) -> bool
+    ensures { λ r. ⌜ r ≡ (within lacks know && ltb at until) ⌝ }
+{
+    if within(lacks, know) {
+        return at < until;
+    }
+    false
+}
+
+// Those that stand and are unbeaten beside what is above t.
+fn clear<'a>(
+    lacks: &'a [u32; 32],
+    until: &'a [u32; 1024],
+    n: usize,
+    t: usize,
+    know: u32,
+    at: u32,
+) -> u32
+    requires { ⌜ n ≤ 32 ⌝ }
+    requires { ⌜ t < 32 ⌝ }
+    ensures { λ r. ⌜ r ≡ clearIn (now (lacks .entry)) (now (until .entry)) n t know at ⌝ }
+{
+    let mut found: u32 = 0;
+    let mut k: usize = 0;
+    while k < n {
+        found = set::join(found, is_clear(lacks[k], until[32 * t + k], know, at), k);
+        k += 1;
+    }
+    found
+}
+
+// Whether w is aimed at and its line is clear.
+fn is_reached(aims: u32, line: u32, clear: u32, w: usize) -> bool
+    requires { ⌜ w < 32 ⌝ }
+    ensures { λ r. ⌜ r ≡ (bit aims w && within line clear) ⌝ }
+{
+    if set::has(aims, w) {
+        return within(line, clear);
+    }
+    false
+}
+
+// Whether one that is aimed at has its line clear.
+fn reaches(line: &[u32; 32], n: usize, aims: u32, clear: u32) -> bool
+    requires { ⌜ n ≤ 32 ⌝ }
+    ensures { λ r. ⌜ r ≡ reachesIn (now (line .entry)) n aims clear ⌝ }
+{
+    let mut w: usize = 0;
+    while w < n {
+        if is_reached(aims, line[w], clear, w) {
+            return true;
+        }
+        w += 1;
+    }
+    false
+}
+
+// Whether r, which beats t from the height `beat` on, neither comes for X only nor leaves a free line elsewhere, `secrets` being its own.
+fn is_unmet<'a>(
+    lacks: &'a [u32; 32],
+    until: &'a [u32; 1024],
+    line: &'a [u32; 32],
+    n: usize,
+    t: usize,
+    aims: u32,
+    only: u32,
+    know: u32,
+    at: u32,
+    off: u32,
+    beat: u32,
+    secrets: u32,
+    r: usize,
+) -> bool
+    requires { ⌜ n ≤ 32 ⌝ }
+    requires { ⌜ t < 32 ⌝ }
+    requires { ⌜ r < 32 ⌝ }
+    ensures { λ b. ⌜ b ≡ isUnmetIn (now (lacks .entry)) (now (until .entry)) (now (line .entry)) n t aims only know at off beat secrets r ⌝ }
+{
+    if off < beat {
+        return false;
+    }
+    if set::has(only, r) {
+        return false;
+    }
+    let found = clear(lacks, until, n, t, know | secrets, at);
+    !reaches(line, n, aims, found)
+}
+
+// Those that are so.
+fn unmet<'a>(
+    lacks: &'a [u32; 32],
+    until: &'a [u32; 1024],
+    line: &'a [u32; 32],
+    secrets: &'a [u32; 32],
+    beat: &'a [u32; 1024],
+    n: usize,
+    t: usize,
+    aims: u32,
+    only: u32,
+    know: u32,
+    at: u32,
+    off: u32,
+) -> u32
+    requires { ⌜ n ≤ 32 ⌝ }
+    requires { ⌜ t < 32 ⌝ }
+    ensures { λ m. ⌜ m ≡ unmetIn (now (lacks .entry)) (now (until .entry)) (now (line .entry)) (now (secrets .entry)) (now (beat .entry)) n t aims only know at off ⌝ }
+{
+    let mut found: u32 = 0;
+    let mut r: usize = 0;
+    while r < n {
+        let from = beat[32 * t + r];
+        let shown = secrets[r];
+        let left = is_unmet(
+            lacks,
+            until,
+            line,
+            n,
+            t,
+            aims,
+            only,
+            know,
+            at,
+            off,
+            from,
+            shown,
+            r,
+        );
+        found = set::join(found, left, r);
+        r += 1;
+    }
+    found
+}
+
+// The height of the last block, where `end` is it but for stealth and the outage.
+fn last(off: u32, end: u32, stealth: u32) -> u32
+    requires { ⌜ off ≤ never ⌝ }
+    requires { ⌜ end ≤ never ⌝ }
+    requires { ⌜ stealth ≤ 1 ⌝ }
+    ensures { λ r. ⌜ r ≡ greater off end + stealth ⌝ }
+{
+    if off < end {
+        return end + stealth;
+    }
+    off + stealth
+}
+
+// What t needs a good child of.
+fn needs(prospect: Prospect, off: u32, t: usize) -> u32
+    requires { ⌜ Bounded prospect ⌝ }
+    requires { ⌜ off ≤ never ⌝ }
+    requires { ⌜ t < prospect .count ⌝ }
+    ensures { λ r. ⌜ r ≡ needsIn prospect off t ⌝ }
+{
+    if prospect.fails[t] <= off {
+        return set::join(0, true, t);
+    }
+    let n = prospect.count;
+    let aims = prospect.aims[t];
+    let only = prospect.only[t];
+    let know = prospect.known[t];
+    let at = last(off, prospect.ends[t], prospect.stealth);
+    unmet(
+        &prospect.lacks,
+        &prospect.until,
+        &prospect.line,
+        &prospect.secrets,
+        &prospect.beat,
+        n,
+        t,
+        aims,
+        only,
+        know,
+        at,
+        off,
+    )
+}
+
+// What each needs.
+fn all_needs(prospect: Prospect, off: u32) -> [u32; 32]
+    requires { ⌜ Bounded prospect ⌝ }
+    requires { ⌜ off ≤ never ⌝ }
+    ensures { λ r. ⌜ Filled (λ t x. x ≡ needsIn prospect off t) (prospect .count) r ⌝ }
+{
+    let n = prospect.count;
+    let mut table = [0u32; 32];
+    let mut t: usize = 0;
+    while t < n {
+        table[t] = needs(prospect, off, t);
+        t += 1;
+    }
+    table
+}

@@ -1,7 +1,7 @@
 -- What is kept up to a height, over the tables of a prospect.
 -- Assumes nothing.
-use Prim.Native.Nat.{ℕ, zero, suc, _+_, _*_, _^_}
-use mathlib.Core.Bool.{Bool, not, _&&_, _||_}
+use Prim.Native.Nat.{ℕ, zero, suc, _+_, _*_, _≤_, _<_}
+use mathlib.Core.Bool.{Bool, true, not, _&&_, _||_}
 use mathlib.Core.List.{List}
 use lib.Dec.{eqb, ltb, leb}
 use lib.Bits.{bitAnd, bitOr}
@@ -9,7 +9,8 @@ use lib.ListN.{getD}
 use Rattle.laws.specs.Booleans.{pick}
 use Rattle.laws.specs.Below.{anyBelow}
 use Rattle.laws.specs.Mask.{bit, unionBelow}
-use Rattle.laws.specs.Sets.{removed, setBelow}
+use Rattle.laws.specs.Sets.{joined, removed, setBelow}
+use Rattle.sheet.specs.LockHeight.{never}
 use Rattle.soonest.specs.Soonest.{greater}
 use Rattle.kept.specs.declared.Prospect.{Prospect}
 
@@ -25,20 +26,22 @@ clearIn lacks until n t know at = setBelow n (λ k. within (getD lacks k 0) know
 unfoldable pub reachesIn : List ℕ → ℕ → ℕ → ℕ → Bool
 reachesIn line n aims clear = anyBelow n (λ w. bit aims w && within (getD line w 0) clear)
 
--- r beats t, and neither comes for X only nor leaves a free line elsewhere
-unfoldable pub unmetIn : List ℕ → List ℕ → List ℕ → List ℕ → List ℕ → ℕ → ℕ → ℕ → ℕ → ℕ → ℕ → ℕ → ℕ → Bool
-unmetIn lacks until line secrets beat n t aims only know at off r =
-    leb (getD beat (32 * t + r) 0) off
-    && (not (bit only r) && not (reachesIn line n aims (clearIn lacks until n t (bitOr know (getD secrets r 0)) at)))
+-- r, which beats t from the height `beat` on, neither comes for X only nor leaves a free line elsewhere, `secrets` being its own
+unfoldable pub isUnmetIn : List ℕ → List ℕ → List ℕ → ℕ → ℕ → ℕ → ℕ → ℕ → ℕ → ℕ → ℕ → ℕ → ℕ → Bool
+isUnmetIn lacks until line n t aims only know at off beat secrets r =
+    leb beat off && (not (bit only r) && not (reachesIn line n aims (clearIn lacks until n t (bitOr know secrets) at)))
+
+unfoldable pub unmetIn : List ℕ → List ℕ → List ℕ → List ℕ → List ℕ → ℕ → ℕ → ℕ → ℕ → ℕ → ℕ → ℕ → ℕ
+unmetIn lacks until line secrets beat n t aims only know at off =
+    setBelow n (λ r. isUnmetIn lacks until line n t aims only know at off (getD beat (32 * t + r) 0) (getD secrets r 0) r)
 
 -- those that must have a good child for t to be good: itself, which cannot help, where it fails
 unfoldable pub needsIn : Prospect → ℕ → ℕ → ℕ
 needsIn q off t =
     pick (ltb off (getD (q .fails) t 0))
-    (setBelow (q .count)
     (unmetIn (q .lacks) (q .until) (q .line) (q .secrets) (q .beat) (q .count) t (getD (q .aims) t 0) (getD (q .only) t 0) (getD (q .known) t 0)
-    (greater off (getD (q .ends) t 0) + q .stealth) off))
-    (2 ^ t)
+    (greater off (getD (q .ends) t 0) + q .stealth) off)
+    (joined 0 true t)
 
 -- the parents of the members of a set
 unfoldable pub parentsIn : List ℕ → ℕ → ℕ → ℕ
@@ -48,10 +51,21 @@ parentsIn up n good = unionBelow n (λ c. pick (bit good c) (getD up c 0) 0)
 unfoldable pub goodIn : ℕ → ℕ → ℕ → ℕ → Bool
 goodIn contract needs parents t = (not (bit contract t) || bit parents t) && within needs (removed parents t)
 
--- so many rounds
-unfoldable pub roundsIn : Prospect → ℕ → ℕ → ℕ
-roundsIn q off zero = 0
-roundsIn q off (suc n) = setBelow (q .count) (λ t. goodIn (q .contract) (needsIn q off t) (parentsIn (q .up) (q .count) (roundsIn q off n)) t)
+-- so many rounds, over what each transaction needs
+unfoldable pub roundsIn : List ℕ → (ℕ → ℕ) → ℕ → ℕ → ℕ → ℕ
+roundsIn up needs contract n zero = 0
+roundsIn up needs contract n (suc k) =
+    setBelow n (λ t. goodIn contract (needs t) (parentsIn up n (roundsIn up needs contract n k)) t)
+
+-- those that are good and have their parent confirmed or none
+unfoldable pub reachedIn : Prospect → ℕ → ℕ
+reachedIn q off = bitAnd (roundsIn (q .up) (needsIn q off) (q .contract) (q .count) (q .count)) (q .fixed)
 
 unfoldable pub keptIn : Prospect → ℕ → Bool
-keptIn q off = q .paid || not (eqb (bitAnd (roundsIn q off (q .count)) (q .fixed)) 0)
+keptIn q off = q .paid || not (eqb (reachedIn q off) 0)
+
+-- the numbers of a prospect fit
+pub record Bounded (q : Prospect) : Type 0 where
+  pub few : q .count ≤ 32
+  pub stealthy : q .stealth ≤ 1
+  pub ending : (t : ℕ) → t < q .count → getD (q .ends) t 0 ≤ never

@@ -1,6 +1,6 @@
 -- What each field of a prospect is, over the definitions of slack.
 -- Assumes nothing.
-use Prim.Native.Nat.{ℕ, _+_, _*_, _≤_, _<_}
+use Prim.Native.Nat.{ℕ, _+_, _*_, _<_}
 use mathlib.Core.Path.{_≡_}
 use mathlib.Core.Bool.{Bool, false, not, _&&_, _||_}
 use mathlib.Core.List.{List}
@@ -21,7 +21,7 @@ use Rattle.attainable.specs.Attainable.{gone, secretsOf}
 use Rattle.slack.specs.Beaten.{above, fixed, pooled, signs, anyLate, stands, beats, last}
 use Rattle.slack.specs.Kept.{knownAt, comesForParty, paid}
 use Rattle.kept.specs.declared.Prospect.{Prospect}
-use Rattle.kept.specs.Forms.Evaluation.{within}
+use Rattle.kept.specs.Forms.Evaluation.{within, Bounded}
 
 -- no height
 abbrev pub none : ℕ
@@ -58,13 +58,13 @@ pub record SeenAt (s u : List ℕ) (p : Position) (x : ℕ) (q : Prospect) (t : 
   pub lacks-tells : (know : ℕ) → within (getD (q .lacks) t 0) know ≡ (signs s p x know t || pooled s p x t)
   pub fails-tells : (off : ℕ) → off < none → ltb off (getD (q .fails) t 0) ≡ stands s u p x (knownAt s p x t) off t
   pub ends-tells : (off : ℕ) → off + 1 < never → greater off (getD (q .ends) t 0) + stealth u ≡ last s u p x (knownAt s p x t) off t
-  pub ends-small : getD (q .ends) t 0 ≤ never
   pub beat-tells : (r : ℕ) → r < count s → (off : ℕ) → off < none → leb (getD (q .beat) (32 * t + r) 0) off ≡ beats s u p x 0 off t r
   pub until-tells : (k : ℕ) → k < count s → eqb (coinOf s k) (coinOf s t) ≡ false → (off : ℕ) → off < none
       → ltb off (getD (q .until) (32 * t + k) 0) ≡ outlasts s u p x (above s p t) off k
 
 -- q is what is read for the position p and the party x
 pub record Seen (s u : List ℕ) (p : Position) (x : ℕ) (q : Prospect) : Type 0 where
+  pub bounded : Bounded q
   pub count-is : q .count ≡ count s
   pub mined-is : q .mined ≡ p .mined
   pub stealth-is : q .stealth ≡ stealth u
