@@ -3,7 +3,7 @@ use crate::Prospect;
 use sheet::set;
 ghost use Prim.Native.Nat.{_+_, _*_, _<_, _≤_};
 ghost use mathlib.Core.Path.{_≡_};
-ghost use mathlib.Core.Bool.{_&&_};
+ghost use mathlib.Core.Bool.{not, _&&_, _||_};
 ghost use lib.Dec.{ltb};
 ghost use lib.ListN.{getD};
 ghost use Rattle.laws.specs.Booleans.{pick};
@@ -213,4 +213,103 @@ fn all_needs(prospect: Prospect, off: u32) -> [u32; 32]
         t += 1;
     }
     table
+}
+
+// A set where a test holds, else none.
+fn where_good(on: bool, up: u32) -> u32
+    ensures { λ r. ⌜ r ≡ pick on up 0 ⌝ }
+{
+    if on { up } else { 0 }
+}
+
+// The parents of the members of a set.
+fn parents(up: &[u32; 32], n: usize, good: u32) -> u32
+    requires { ⌜ n ≤ 32 ⌝ }
+    ensures { λ r. ⌜ r ≡ parentsIn (now (up .entry)) n good ⌝ }
+{
+    let mut found: u32 = 0;
+    let mut c: usize = 0;
+    while c < n {
+        found = found | where_good(set::has(good, c), up[c]);
+        c += 1;
+    }
+    found
+}
+
+// Whether t pays or is a parent of a good one.
+fn leads(contract: u32, parents: u32, t: usize) -> bool
+    requires { ⌜ t < 32 ⌝ }
+    ensures { λ r. ⌜ r ≡ (not (bit contract t) || bit parents t) ⌝ }
+{
+    if set::has(contract, t) {
+        return set::has(parents, t);
+    }
+    true
+}
+
+// Whether t is good, where a set tells the parents of the good ones so far.
+fn is_good(contract: u32, needs: u32, parents: u32, t: usize) -> bool
+    requires { ⌜ t < 32 ⌝ }
+    ensures { λ r. ⌜ r ≡ goodIn contract needs parents t ⌝ }
+{
+    if leads(contract, parents, t) {
+        return within(needs, set::remove(parents, t));
+    }
+    false
+}
+
+// Those that are good.
+fn all_good(contract: u32, needs: &[u32; 32], parents: u32, n: usize) -> u32
+    requires { ⌜ n ≤ 32 ⌝ }
+    ensures { λ r. ⌜ r ≡ setBelow n (λ t. goodIn contract (getD (now (needs .entry)) t 0) parents t) ⌝ }
+{
+    let mut found: u32 = 0;
+    let mut t: usize = 0;
+    while t < n {
+        found = set::join(found, is_good(contract, needs[t], parents, t), t);
+        t += 1;
+    }
+    found
+}
+
+// Those that are good by others, round after round, until a round changes nothing.
+fn good<'a>(up: &'a [u32; 32], needs: &'a [u32; 32], contract: u32, n: usize) -> u32
+    requires { ⌜ n ≤ 32 ⌝ }
+    ensures { λ r. ⌜ r ≡ roundsIn (now (up .entry)) (λ t. getD (now (needs .entry)) t 0) contract n n ⌝ }
+{
+    let mut found: u32 = 0;
+    let mut k: usize = 0;
+    while k < n {
+        let next = all_good(contract, needs, parents(up, n, found), n);
+        if next == found {
+            return found;
+        }
+        found = next;
+        k += 1;
+    }
+    found
+}
+
+// Those that are good and have their parent confirmed or none.
+pub fn reached(prospect: Prospect, off: u32) -> u32
+    requires { ⌜ Bounded prospect ⌝ }
+    requires { ⌜ off ≤ never ⌝ }
+    ensures { λ r. ⌜ r ≡ reachedIn prospect off ⌝ }
+{
+    let needs = all_needs(prospect, off);
+    let n = prospect.count;
+    let found = good(&prospect.up, &needs, prospect.contract, n);
+    found & prospect.fixed
+}
+
+// Whether X keeps a way to a payout up to a height.
+pub fn kept_to(prospect: Prospect, off: u32) -> bool
+    requires { ⌜ Bounded prospect ⌝ }
+    requires { ⌜ off ≤ never ⌝ }
+    ensures { λ r. ⌜ r ≡ keptIn prospect off ⌝ }
+{
+    if prospect.paid {
+        return true;
+    }
+    reached(prospect, off) != 0
 }
