@@ -1,4 +1,3 @@
-pub mod Unions
 pub mod RowLengths
 pub mod RowViews
 pub mod OutageAnswers

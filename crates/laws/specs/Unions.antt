@@ -1,7 +1,8 @@
 -- Ors in any order, and the unions and sets of which one member grows.
 -- Assumes nothing.
-use Prim.Native.Nat.{ℕ, zero, suc, _/_, _%_, _^_, _<_, max}
-use native.Mathlib.Nat.{not-suc-le-zero, le-of-suc-le-suc, eq-or-lt-of-le}
+use Prim.Native.Nat.{ℕ, zero, suc, _+_, _/_, _%_, _^_, _≤_, _<_, max}
+use native.Mathlib.Nat.{not-suc-le-zero, le-of-suc-le-suc, eq-or-lt-of-le, le-antisymm}
+use native.Mathlib.Numerals.{add-one}
 use native.Mathlib.Omega.{arith}
 use mathlib.Core.Path.{_≡_, refl, sym, ap, _∙_}
 use mathlib.Core.Bool.{Bool, true, false}
@@ -41,6 +42,18 @@ or-contains a m = sym (or-assoc a a m) ∙ ap (λ (x : ℕ). bitOr x m) (or-self
 
 or-four : (a b c d : ℕ) → bitOr (bitOr a b) (bitOr c d) ≡ bitOr (bitOr a c) (bitOr b d)
 or-four a b c d = sym (or-assoc (bitOr a b) c d) ∙ ap (λ (x : ℕ). bitOr x d) (or-swap a b c) ∙ or-assoc (bitOr a c) b d
+
+-- a loop that joins masks: its start, a turn, its end
+pub union-start : (f : ℕ → ℕ) → 0 ≡ unionBelow 0 f
+unfolding unionBelow
+union-start f = refl
+
+pub union-more : (n : ℕ) (f : ℕ → ℕ) (a x : ℕ) → a ≡ unionBelow n f → x ≡ f n → bitOr a x ≡ unionBelow (n + 1) f
+unfolding unionBelow
+union-more n f a x e h = rw (add-one, e, h)
+
+pub union-done : (k n : ℕ) (f : ℕ → ℕ) (a : ℕ) → k ≤ n → n ≤ k → a ≡ unionBelow k f → a ≡ unionBelow n f
+union-done k n f a l m e = rw (le-antisymm m l) e
 
 -- the union of greater masks is the greater
 pub union-contains : (n : ℕ) (f g : ℕ → ℕ) → ((k : ℕ) → bitOr (f k) (g k) ≡ g k) → bitOr (unionBelow n f) (unionBelow n g) ≡ unionBelow n g

@@ -1,6 +1,6 @@
 -- The payees of those below k.
 use Rattle.call_outage.specs.Forms.Row.{payeesIn}
-use Rattle.call_outage.proofs.Unions.{union-start, union-more, union-done}
+use Rattle.laws.specs.Unions.{union-start, union-more, union-done}
 use Rattle.sheet.specs.Field.{payees}
 use Rattle.laws.specs.Booleans.{pick}
 use Rattle.laws.specs.Mask.{bit, unionBelow}

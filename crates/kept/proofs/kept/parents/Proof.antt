@@ -1,6 +1,6 @@
 -- Of those below c.
 use Rattle.kept.specs.Forms.Evaluation.{parentsIn}
-use Rattle.kept.proofs.Unions.{union-start, union-more, union-done}
+use Rattle.laws.specs.Unions.{union-start, union-more, union-done}
 use Rattle.laws.specs.Booleans.{pick}
 use Rattle.laws.specs.Mask.{bit, unionBelow}
 use Rattle.laws.proofs.Prelude.{_-_, _≤_, _≡_, sym, _∙_, getD, needs}
