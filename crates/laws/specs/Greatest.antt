@@ -1,4 +1,5 @@
--- The greatest number up to a bound that passes a test, and the search for it by halves, where the test falls: with a number each lower one passes.
+-- The greatest number up to a bound that passes a test, and the search for it by halves, where the test falls up to the bound: with a number each
+-- lower one passes.
 -- Assumes nothing.
 use Prim.Native.Nat.{ℕ, zero, suc, _+_, _≤_, _<_}
 use native.Mathlib.Nat.{eq-or-lt-of-le, le-of-suc-le-suc}
@@ -45,17 +46,23 @@ module _ (n : ℕ) (p : ℕ → Bool) where
   halves-done a b d w l =
       last-up p d n a (omega (arith, w .apart, w .high)) (w .passes) (λ k i j. w .fails k (omega (arith, i, l)) j)
 
-  module _ (falls : (k : ℕ) → p (suc k) ≡ true → p k ≡ true) where
-    fails-on : (a k : ℕ) → a ≤ k → p a ≡ false → p k ≡ false
-    fails-on a zero l e = let z : a ≡ 0 = omega arith in rw z at e
-    fails-on a (suc k) l e =
+  module _ (falls : (k : ℕ) → k < n → p (suc k) ≡ true → p k ≡ true) where
+    fails-on : (a k : ℕ) → a ≤ k → k ≤ n → p a ≡ false → p k ≡ false
+    fails-on a zero l m e = let z : a ≡ 0 = omega arith in rw z at e
+    fails-on a (suc k) l m e =
         either (eq-or-lt-of-le l)
         (λ z. rw z at e)
-        (λ m. fails-by (p (suc k)) (λ y. clash (falls k y) (fails-on a k (le-of-suc-le-suc m) e)))
+        (λ i. fails-by (p (suc k)) (λ y. clash (falls k m y) (fails-on a k (le-of-suc-le-suc i) (omega arith) e)))
 
     pub halves-none : (d : ℕ) → p 0 ≡ false → greatestTo n p d ≡ d
-    halves-none d h = none-up p d n (λ k l. fails-on 0 k (omega arith) h)
+    halves-none d h = none-up p d n (λ k l. fails-on 0 k (omega arith) l h)
 
     pub halves-down : (a b c : ℕ) → Bracket n p a b → a < c → c < b → p c ≡ false → Bracket n p a c
     halves-down a b c w l m e =
-        record { apart = l; high = omega (arith, m, w .high); passes = w .passes; fails = λ k i j. fails-on c k i e }
+        record { apart = l; high = omega (arith, m, w .high); passes = w .passes; fails = λ k i j. fails-on c k i j e }
+
+-- two tests that agree up to n
+pub greatest-same : (n : ℕ) (p q : ℕ → Bool) (d : ℕ) → ((k : ℕ) → k ≤ n → p k ≡ q k) → greatestTo n p d ≡ greatestTo n q d
+unfolding greatestTo
+greatest-same zero p q d h = rw (h 0 (omega arith))
+greatest-same (suc n) p q d h = rw (h (suc n) (omega arith), greatest-same n p q d (λ k l. h k (omega arith)))
