@@ -15,7 +15,7 @@ use Rattle.ledger.specs.Coin.{coinOf}
 use Rattle.ledger.specs.Ledger.{Kept, noneKept, fits, keep, enter, ledger}
 use Rattle.ledger.proofs.Taking.{Fit, opening-fits, spend-fits, enter-next, keep-own, keep-other}
 use Rattle.ledger.proofs.Taking
-use Rattle.claim_ledger.proofs.Coins.{coin-opening, coin-spend}
+use Rattle.readings.proofs.Coins.{coin-opening, coin-spend}
 use Rattle.claim_ledger.proofs.KeptAt.{At, at-place}
 use Rattle.claim_ledger.proofs.Once.{one-place}
 use Rattle.claim_blocks.specs.Words.{Before}

@@ -18,7 +18,7 @@ use Rattle.slots.proofs.Conflicts.{conflict-parts, same-opening}
 use Rattle.slots.proofs.Ancestors.{Above, here, up, above-all, ancestor-above, above-ancestor, line-conflict}
 use Rattle.ledger.specs.Entry.{Entry, before}
 use Rattle.ledger.specs.Coin.{coinOf}
-use Rattle.claim_ledger.proofs.Coins.{coin-spend}
+use Rattle.readings.proofs.Coins.{coin-spend, coin-line}
 use Rattle.claim_blocks.specs.Words.{Before}
 use Rattle.claim_blocks.proofs.Standing.{Founded, opens, spends, AllFitting}
 use Rattle.endings.specs.Earliest.{earliest}
@@ -29,11 +29,6 @@ use Rattle.claim_blocks.proofs.Places.{place-member, member-place, rising-place
 use Rattle.ledger.proofs.Rising.{before-number}
 
 module _ (s : List ℕ) (ok : Checked s) where
-  -- all of one line are of one coin
-  pub coin-line : {x t : ℕ} → Above s x t → t < count s → coinOf s x ≡ coinOf s t
-  coin-line here l = refl
-  coin-line (up {t = t} h r) l = coin-line r (omega arith) ∙ sym (coin-spend s ok t l (parent-has ok t l h))
-
   -- none of a line is later than what is below it
   pub earliest-line : (perDay : ℕ) {x t : ℕ} → Above s x t → t < count s → earliest s perDay x ≤ earliest s perDay t
   earliest-line perDay here l = omega arith
@@ -148,7 +143,7 @@ module _ (s : List ℕ) (ok : Checked s) where
           let a = plan-for mask x h in
           let b = plan-for mask y k in
           let q : coinOf s x ≡ coinOf s y = coin-spend s ok x l (w .0) ∙ ap (coinOf s) (w .1) ∙ sym (coin-spend s ok y m (sym (same-opening s x y (w .1)) ∙ w .0)) in
-          let e : a .0 ≡ b .0 = can .apart (a .0) (b .0) (a .1) (b .1) (a .2) (b .2) (sym (coin-line (a .3) (a .1)) ∙ q ∙ coin-line (b .3) (b .1)) in
+          let e : a .0 ≡ b .0 = can .apart (a .0) (b .0) (a .1) (b .1) (a .2) (b .2) (sym (coin-line s ok (a .3) (a .1)) ∙ q ∙ coin-line s ok (b .3) (b .1)) in
           line-conflict ok (a .3) (rw e (b .3)) (a .1) c)
 
       pub plan-right : AllFitting s perDay (plan s perDay mask to limit)

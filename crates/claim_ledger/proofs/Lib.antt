@@ -6,7 +6,6 @@ pub mod EachKind
 pub mod Standing
 pub mod SoundSteps
 pub mod PoolLeft
-pub mod Coins
 pub mod Linked
 pub mod OneEntry
 pub mod TakenBlock

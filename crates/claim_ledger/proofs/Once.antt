@@ -14,7 +14,7 @@ use Rattle.ledger.specs.Entry.{Entry}
 use Rattle.ledger.specs.Coin.{coinOf}
 use Rattle.ledger.specs.Ledger.{noneKept, ledger}
 use Rattle.ledger.proofs.Taking.{Fit, opens, spends}
-use Rattle.claim_ledger.proofs.Coins.{coin-spend}
+use Rattle.readings.proofs.Coins.{coin-spend}
 use Rattle.claim_ledger.proofs.KeptAt.{At, at-place}
 
 module _ (s : List ℕ) (perDay : ℕ) (ok : Checked s) where

@@ -15,7 +15,7 @@ use Rattle.ledger.specs.Entry.{Entry}
 use Rattle.ledger.specs.Coin.{coinOf}
 use Rattle.ledger.specs.Ledger.{Kept, lockFrom, fits, keep}
 use Rattle.ledger.proofs.Taking.{opening-fits, spend-fits, keep-own, keep-other}
-use Rattle.claim_ledger.proofs.Coins.{coin-opening, coin-spend, coin-above}
+use Rattle.readings.proofs.Coins.{coin-opening, coin-spend, coin-above}
 use Rattle.claim_ledger.proofs.Linked.{Leaf, Linked}
 
 zero-by : (n : ℕ) → (0 < n → ⊥) → n ≡ 0

@@ -18,7 +18,7 @@ use Rattle.claim_ledger.specs.PoolClaim.{LeavesPool}
 use Rattle.claim_ledger.specs.Once.{OpenedOnce, SpentOnce, SpentAfter, NoEarlyLock}
 use Rattle.claim_ledger.proofs.SoundSteps.{sound-start, sound-play}
 use Rattle.claim_ledger.proofs.PoolLeft.{pool-left}
-use Rattle.claim_ledger.proofs.Coins.{coin-opening}
+use Rattle.readings.proofs.Coins.{coin-opening}
 use Rattle.claim_ledger.proofs.Once.{one-place, parent-before}
 use Rattle.claim_ledger.proofs.Agreed.{entries-low, agrees}
 

@@ -23,7 +23,7 @@ use Rattle.position.specs.declared.Position.{Position}
 use Rattle.position.specs.Position.{start, isConfirmed, blockOf, confirmedTo}
 use Rattle.position.specs.Play.{FourBytes}
 use Rattle.claim_ledger.proofs.SoundSteps.{sound-start}
-use Rattle.claim_ledger.proofs.Coins.{coin-spend}
+use Rattle.readings.proofs.Coins.{coin-spend}
 use Rattle.claim_ledger.proofs.Linked.{Linked}
 use Rattle.claim_ledger.proofs.TakenList.{start-linked, list-taken}
 use Rattle.claim_ledger.specs.Claim.{entriesOf, positionOf}

@@ -1,2 +1,3 @@
 pub mod Holders
+pub mod Coins
 pub mod Examples

@@ -1,11 +1,11 @@
 -- The coin of a transaction: its own number for an opening, its parent's coin for a spend; it stands above the transaction.
 -- Assumes nothing.
-use Rattle.laws.proofs.Prelude.{ℕ, zero, suc, _<_, _≡_, _∙_, true, false, List, lt-ltb, arith}
+use Rattle.laws.proofs.Prelude.{ℕ, zero, suc, _<_, _≡_, refl, sym, _∙_, true, false, List, lt-ltb, arith}
 use Rattle.laws.specs.Booleans.{pick, split}
 use Rattle.laws.specs.Climb.{climbIn, climb, climb-step}
 use Rattle.sheet.specs.Field.{count, parent, opening}
 use Rattle.sheet.specs.Checked.{Checked}
-use Rattle.slots.proofs.Parents.{parent-lower, parent-below}
+use Rattle.slots.proofs.Parents.{parent-lower, parent-below, parent-has}
 use Rattle.slots.proofs.Ancestors.{Above, here, up}
 use Rattle.ledger.specs.Coin.{coinOf}
 
@@ -41,3 +41,8 @@ module _ (s : List ℕ) (ok : Checked s) where
   pub coin-above : (t : ℕ) → t < count s → Above s (coinOf s t) t
   unfolding coinOf climb
   coin-above t l = above-in t (suc t) t (omega arith) l
+
+  -- all of one line are of one coin
+  pub coin-line : {x t : ℕ} → Above s x t → t < count s → coinOf s x ≡ coinOf s t
+  coin-line here l = refl
+  coin-line (up {t = t} h r) l = coin-line r (omega arith) ∙ sym (coin-spend t l (parent-has ok t l h))
