@@ -1,1 +1,5 @@
 pub mod Rounds
+pub mod WithinSets
+pub mod Evaluated
+pub mod LeastPassing
+pub mod Answers

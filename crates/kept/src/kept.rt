@@ -8,11 +8,11 @@ ghost use lib.Dec.{ltb};
 ghost use lib.ListN.{getD};
 ghost use Rattle.laws.specs.Booleans.{pick};
 ghost use Rattle.laws.specs.Mask.{bit};
-ghost use Rattle.laws.specs.Sets.{setBelow, joined};
+ghost use Rattle.laws.specs.Sets.{setBelow};
 ghost use Rattle.sheet.specs.LockHeight.{never};
 ghost use Rattle.soonest.specs.Soonest.{greater};
 ghost use Rattle.soonest.specs.Forms.Table.{Filled};
-ghost use Rattle.kept.specs.Forms.Evaluation.{within, clearIn, reachesIn, isUnmetIn, unmetIn, needsIn, parentsIn, goodIn, roundsIn, reachedIn, keptIn, Bounded};
+ghost use Rattle.kept.specs.Forms.Evaluation.{within, clearIn, reachesIn, isUnmetIn, unmetIn, needsOver, Ending, parentsIn, goodIn, roundsIn, reachedIn, keptIn, Bounded};
 
 // Whether each bit of a is b's.
 fn within(a: u32, b: u32) -> bool
@@ -168,48 +168,86 @@ fn last(off: u32, end: u32, stealth: u32) -> u32
     off + stealth
 }
 
-// What t needs a good child of.
-fn needs(prospect: Prospect, off: u32, t: usize) -> u32
-    requires { ⌜ Bounded prospect ⌝ }
-    requires { ⌜ off ≤ never ⌝ }
-    requires { ⌜ t < prospect .count ⌝ }
-    ensures { λ r. ⌜ r ≡ needsIn prospect off t ⌝ }
+// What t needs a good child of: itself where it fails, which cannot help.
+fn needs<'a>(
+    lacks: &'a [u32; 32],
+    until: &'a [u32; 1024],
+    line: &'a [u32; 32],
+    secrets: &'a [u32; 32],
+    beat: &'a [u32; 1024],
+    n: usize,
+    t: usize,
+    aims: u32,
+    only: u32,
+    know: u32,
+    at: u32,
+    off: u32,
+    fails: u32,
+) -> u32
+    requires { ⌜ n ≤ 32 ⌝ }
+    requires { ⌜ t < 32 ⌝ }
+    ensures { λ m. ⌜ m ≡ needsOver (now (lacks .entry)) (now (until .entry)) (now (line .entry)) (now (secrets .entry)) (now (beat .entry)) n t aims only know at off fails ⌝ }
 {
-    if prospect.fails[t] <= off {
-        return set::join(0, true, t);
+    if off < fails {
+        return unmet(
+            lacks,
+            until,
+            line,
+            secrets,
+            beat,
+            n,
+            t,
+            aims,
+            only,
+            know,
+            at,
+            off,
+        );
     }
-    let n = prospect.count;
-    let aims = prospect.aims[t];
-    let only = prospect.only[t];
-    let know = prospect.known[t];
-    let at = last(off, prospect.ends[t], prospect.stealth);
-    unmet(
-        &prospect.lacks,
-        &prospect.until,
-        &prospect.line,
-        &prospect.secrets,
-        &prospect.beat,
-        n,
-        t,
-        aims,
-        only,
-        know,
-        at,
-        off,
-    )
+    set::join(0, true, t)
 }
 
 // What each needs.
-fn all_needs(prospect: Prospect, off: u32) -> [u32; 32]
-    requires { ⌜ Bounded prospect ⌝ }
+fn all_needs<'a>(
+    lacks: &'a [u32; 32],
+    until: &'a [u32; 1024],
+    line: &'a [u32; 32],
+    secrets: &'a [u32; 32],
+    beat: &'a [u32; 1024],
+    aims: &'a [u32; 32],
+    only: &'a [u32; 32],
+    known: &'a [u32; 32],
+    ends: &'a [u32; 32],
+    fails: &'a [u32; 32],
+    n: usize,
+    stealth: u32,
+    off: u32,
+) -> [u32; 32]
+    requires { ⌜ n ≤ 32 ⌝ }
+    requires { ⌜ stealth ≤ 1 ⌝ }
     requires { ⌜ off ≤ never ⌝ }
-    ensures { λ r. ⌜ Filled (λ t x. x ≡ needsIn prospect off t) (prospect .count) r ⌝ }
+    requires { ⌜ Ending (now ends) n ⌝ }
+    ensures { λ r. ⌜ Filled (λ t x. x ≡ needsOver (now (lacks .entry)) (now (until .entry)) (now (line .entry)) (now (secrets .entry)) (now (beat .entry)) n t (getD (now (aims .entry)) t 0) (getD (now (only .entry)) t 0) (getD (now (known .entry)) t 0) (greater off (getD (now (ends .entry)) t 0) + stealth) off (getD (now (fails .entry)) t 0)) n r ⌝ }
 {
-    let n = prospect.count;
     let mut table = [0u32; 32];
     let mut t: usize = 0;
     while t < n {
-        table[t] = needs(prospect, off, t);
+        let at = last(off, ends[t], stealth);
+        table[t] = needs(
+            lacks,
+            until,
+            line,
+            secrets,
+            beat,
+            n,
+            t,
+            aims[t],
+            only[t],
+            known[t],
+            at,
+            off,
+            fails[t],
+        );
         t += 1;
     }
     table
@@ -296,8 +334,22 @@ pub fn reached(prospect: Prospect, off: u32) -> u32
     requires { ⌜ off ≤ never ⌝ }
     ensures { λ r. ⌜ r ≡ reachedIn prospect off ⌝ }
 {
-    let needs = all_needs(prospect, off);
     let n = prospect.count;
+    let needs = all_needs(
+        &prospect.lacks,
+        &prospect.until,
+        &prospect.line,
+        &prospect.secrets,
+        &prospect.beat,
+        &prospect.aims,
+        &prospect.only,
+        &prospect.known,
+        &prospect.ends,
+        &prospect.fails,
+        n,
+        prospect.stealth,
+        off,
+    );
     let found = good(&prospect.up, &needs, prospect.contract, n);
     found & prospect.fixed
 }

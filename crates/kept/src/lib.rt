@@ -1,4 +1,6 @@
 // What a party keeps while it takes no step, from what is read once for a position and the party.
+pub mod counted;
+pub mod greatest;
 pub mod kept;
 
 // What is read once for a position and a party X. A set is a mask; a table has a number for each transaction t, or at 32 * t + k one for t

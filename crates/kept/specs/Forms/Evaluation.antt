@@ -1,6 +1,7 @@
 -- What is kept up to a height, over the tables of a prospect.
 -- Assumes nothing.
 use Prim.Native.Nat.{ℕ, zero, suc, _+_, _*_, _≤_, _<_}
+use mathlib.Core.Path.{_≡_}
 use mathlib.Core.Bool.{Bool, true, not, _&&_, _||_}
 use mathlib.Core.List.{List}
 use lib.Dec.{eqb, ltb, leb}
@@ -8,10 +9,12 @@ use lib.Bits.{bitAnd, bitOr}
 use lib.ListN.{getD}
 use Rattle.laws.specs.Booleans.{pick}
 use Rattle.laws.specs.Below.{anyBelow}
+use Rattle.laws.specs.Least.{leastBelow}
 use Rattle.laws.specs.Mask.{bit, unionBelow}
 use Rattle.laws.specs.Sets.{joined, removed, setBelow}
 use Rattle.sheet.specs.LockHeight.{never}
 use Rattle.soonest.specs.Soonest.{greater}
+use Rattle.slack.specs.Kept.{longest}
 use Rattle.kept.specs.declared.Prospect.{Prospect}
 
 -- each bit of a is b's
@@ -36,12 +39,14 @@ unmetIn lacks until line secrets beat n t aims only know at off =
     setBelow n (λ r. isUnmetIn lacks until line n t aims only know at off (getD beat (32 * t + r) 0) (getD secrets r 0) r)
 
 -- those that must have a good child for t to be good: itself, which cannot help, where it fails
+unfoldable pub needsOver : List ℕ → List ℕ → List ℕ → List ℕ → List ℕ → ℕ → ℕ → ℕ → ℕ → ℕ → ℕ → ℕ → ℕ → ℕ
+needsOver lacks until line secrets beat n t aims only know at off fails =
+    pick (ltb off fails) (unmetIn lacks until line secrets beat n t aims only know at off) (joined 0 true t)
+
 unfoldable pub needsIn : Prospect → ℕ → ℕ → ℕ
 needsIn q off t =
-    pick (ltb off (getD (q .fails) t 0))
-    (unmetIn (q .lacks) (q .until) (q .line) (q .secrets) (q .beat) (q .count) t (getD (q .aims) t 0) (getD (q .only) t 0) (getD (q .known) t 0)
-    (greater off (getD (q .ends) t 0) + q .stealth) off)
-    (joined 0 true t)
+    needsOver (q .lacks) (q .until) (q .line) (q .secrets) (q .beat) (q .count) t (getD (q .aims) t 0) (getD (q .only) t 0) (getD (q .known) t 0)
+    (greater off (getD (q .ends) t 0) + q .stealth) off (getD (q .fails) t 0)
 
 -- the parents of the members of a set
 unfoldable pub parentsIn : List ℕ → ℕ → ℕ → ℕ
@@ -64,8 +69,35 @@ reachedIn q off = bitAnd (roundsIn (q .up) (needsIn q off) (q .contract) (q .cou
 unfoldable pub keptIn : Prospect → ℕ → Bool
 keptIn q off = q .paid || not (eqb (reachedIn q off) 0)
 
+-- those of a set that nothing beats
+unfoldable pub sureIn : List ℕ → ℕ → ℕ → ℕ → ℕ
+sureIn beat n found off = setBelow n (λ t. bit found t && not (anyBelow n (λ r. leb (getD beat (32 * t + r) 0) off)))
+
+-- the lowest of a set, 255 if none
+unfoldable pub lowestIn : ℕ → ℕ → ℕ
+lowestIn n set = leastBelow n (bit set) (λ t. t) 255
+
+-- what X counts on
+unfoldable pub countedIn : Prospect → ℕ → ℕ
+countedIn q off =
+    let safe = lowestIn (q .count) (sureIn (q .beat) (q .count) (reachedIn q off) off) in
+    pick (q .paid) 255 (pick (eqb safe 255) (lowestIn (q .count) (reachedIn q off)) safe)
+
+-- heights that are added to
+abbrev pub Ending : List ℕ → ℕ → Type 0
+Ending ends n = (t : ℕ) → t < n → getD ends t 0 ≤ never
+
 -- the numbers of a prospect fit
 pub record Bounded (q : Prospect) : Type 0 where
   pub few : q .count ≤ 32
+  pub early : q .mined < 65536
   pub stealthy : q .stealth ≤ 1
-  pub ending : (t : ℕ) → t < q .count → getD (q .ends) t 0 ≤ never
+  pub ending : Ending (q .ends) (q .count)
+
+-- kept for so many blocks
+unfoldable pub keptFor : Prospect → ℕ → Bool
+keptFor q k = keptIn q (q .mined + k)
+
+-- what is kept for so many blocks, up to the longest outage that is asked for, is kept for fewer
+abbrev pub Falls : Prospect → Type 0
+Falls q = (k : ℕ) → k < longest → keptFor q (suc k) ≡ true → keptFor q k ≡ true

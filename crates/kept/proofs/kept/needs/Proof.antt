@@ -1,40 +1,23 @@
--- Itself where it fails, else those that are not met.
-use Rattle.kept.specs.Forms.Evaluation.{needsIn}
+-- Those that are not met, or itself.
+use Rattle.kept.specs.Forms.Evaluation.{needsOver}
 use Rattle.laws.specs.Booleans.{tests}
-use Rattle.laws.proofs.Prelude.{needs}
+use borrow.Author.Needs.{needs}
 use Rattle.kept.proofs.kept.needs.Statement.{statement}
 use Rattle.kept.proofs.kept.needs.Tie as tie
 
 returns : tie.Need-returns
-unfolding needsIn
-returns c = simp (tests, c .before .if1 .taken) (c .join .ensures)
-
-last-requires : tie.Need-last-requires
-last-requires c κs = let k = c .before .before .before .before .before .before .pre in (k .1 .0, (k .0 .ending _ (k .1 .1), k .0 .stealthy))
-
-unmet-requires : tie.Need-unmet-requires
-unmet-requires c κs = let k = c .before .before .before .before .before .before .before .before .before .before .before .before .before .pre in (k .0 .few, search needs)
+unfolding needsOver
+returns c = simp (tests, c .before .if1 .taken) (c .unmet .ensures)
 
 returns-2 : tie.Need-returns-2
-unfolding needsIn
-returns-2 c = simp (tests, c .before .before .before .before .before .before .before .before .before .before .before .before .if1 .left, ← (c .before .before .before .before .before .before .before .last .ensures)) (c .unmet .ensures)
+unfolding needsOver
+returns-2 c = simp (tests, c .before .if1 .left) (c .join .ensures)
 
 pub needs-spec : {M : Type 1} → statement M
 needs-spec =
     tie.close
     (tie.spec
-    (λ c. search needs)
-    (λ c. search needs)
     (λ c κs. search needs)
     returns
-    (λ c. search needs)
-    (λ c. search needs)
-    (λ c. search needs)
-    (λ c. search needs)
-    (λ c. search needs)
-    (λ c. search needs)
-    (λ c. search needs)
-    (λ c. search needs)
-    last-requires
-    unmet-requires
+    (λ c κs. search needs)
     returns-2)

@@ -3,7 +3,7 @@ use Rattle.kept.specs.Forms.Evaluation.{parentsIn}
 use Rattle.laws.specs.Unions.{union-start, union-more, union-done}
 use Rattle.laws.specs.Booleans.{pick}
 use Rattle.laws.specs.Mask.{bit, unionBelow}
-use Rattle.laws.proofs.Prelude.{_-_, _≤_, _≡_, sym, _∙_, getD, needs}
+use Rattle.laws.proofs.Prelude.{_-_, _≤_, _≡_, getD, needs}
 use Rattle.kept.proofs.kept.parents.Statement.{statement}
 use Rattle.kept.proofs.kept.parents.Tie as tie
 
