@@ -1,1 +1,3 @@
 pub mod Thresholds
+pub mod Marks
+pub mod Tables
