@@ -1,5 +1,6 @@
 // What is read once for a position and a party, from which is told what the party keeps.
 pub mod rival;
+pub mod table;
 pub mod threshold;
 
 // What a position tells of each transaction for a party X: sets as masks, and tables with a number or a set for each transaction t.
