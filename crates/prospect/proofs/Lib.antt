@@ -1,2 +1,6 @@
 pub mod Thresholds
 pub mod Cells
+pub mod Least
+pub mod Marked
+pub mod Coming
+pub mod Tells

@@ -1,6 +1,6 @@
 -- Each threshold tells its test.
 -- Assumes nothing.
-use Rattle.laws.proofs.Prelude.{ℕ, _+_, _≤_, _<_, _≡_, refl, sym, _∙_, Bool, true, false, not, _&&_, _||_, ltb, leb, ltb-true, ltb-false, leb-true, leb-false}
+use Rattle.laws.proofs.Prelude.{ℕ, _+_, _≤_, _<_, _≡_, refl, sym, _∙_, Bool, true, false, _&&_, _||_, ltb, leb, ltb-true, ltb-false, leb-true, leb-false}
 use Rattle.laws.proofs.Prelude.{le-leb, lt-leb, arith}
 use Rattle.laws.specs.Booleans.{pick, split}
 use Rattle.soonest.specs.Soonest.{greater}
@@ -75,7 +75,7 @@ module _ (off : ℕ) (small : off < none) where
       (λ y. rw (y, at-once) (sym (sooner-now q f r w own his y)))
       (λ y. rw y (sooner-later q f r w own his y))
 
-  pub beat-tells : (comes waits : Bool) (h : ℕ) → leb (beatFrom comes waits h) off ≡ (comes && (waits || leb h off))
+  pub beat-from-tells : (comes waits : Bool) (h : ℕ) → leb (beatFrom comes waits h) off ≡ (comes && (waits || leb h off))
   unfolding beatFrom
-  beat-tells c true h = height-if c 0 ∙ rw at-once
-  beat-tells c false h = height-if c h
+  beat-from-tells c true h = height-if c 0 ∙ rw at-once
+  beat-from-tells c false h = height-if c h

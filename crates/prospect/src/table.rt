@@ -4,7 +4,7 @@ use crate::rival;
 use crate::threshold;
 use sheet::set;
 use slots::lock_height;
-ghost use Prim.Native.Nat.{_*_, _<_, _≤_};
+ghost use Prim.Native.Nat.{_*_, _<_};
 ghost use mathlib.Core.Path.{_≡_};
 ghost use mathlib.Core.Bool.{_||_, _&&_, not};
 ghost use lib.Dec.{eqb};

@@ -11,7 +11,7 @@ returns c = simp (tests, c .if1 .taken)
 
 returns-2 : tie.Need-returns-2
 unfolding held
-returns-2 c = simp (tests, c .before .if1 .left, c .has .ensures)
+returns-2 c = simp (c .before .if1 .left, c .has .ensures)
 
 pub held-spec : {M : Type 1} → statement M
 held-spec = tie.close (tie.spec returns (λ c κs. search needs) returns-2)

@@ -1,5 +1,5 @@
 -- The heights in the places before i.
-use Rattle.laws.proofs.Prelude.{_-_, _/_, _≤_, _≡_, refl, getD, needs, arith}
+use Rattle.laws.proofs.Prelude.{_-_, _≤_, _≡_, refl, getD, needs, arith}
 use Rattle.prospect.specs.Forms.Tables.{beatAt, Cells}
 use Rattle.prospect.proofs.Cells.{cells-start, cells-more, cells-done}
 use Rattle.prospect.proofs.table.beats.Statement.{statement}

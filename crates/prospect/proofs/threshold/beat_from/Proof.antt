@@ -1,6 +1,6 @@
 -- By the two tests.
 use Rattle.prospect.specs.Forms.Thresholds.{beatFrom}
-use Rattle.laws.proofs.Prelude.{_∙_, needs}
+use Rattle.laws.proofs.Prelude.{needs}
 use Rattle.prospect.proofs.threshold.beat_from.Statement.{statement}
 use Rattle.prospect.proofs.threshold.beat_from.Tie as tie
 

@@ -1,6 +1,5 @@
 -- By the test.
 use Rattle.prospect.specs.Forms.Thresholds.{heightIf}
-use Rattle.laws.proofs.Prelude.{_∙_, needs}
 use Rattle.prospect.proofs.threshold.height_if.Statement.{statement}
 use Rattle.prospect.proofs.threshold.height_if.Tie as tie
 

@@ -1,6 +1,6 @@
 -- By the parent, then by the lock of the rival.
 use Rattle.prospect.specs.Forms.Thresholds.{lateFrom}
-use Rattle.laws.proofs.Prelude.{_∙_, needs}
+use Rattle.laws.proofs.Prelude.{needs}
 use Rattle.prospect.proofs.threshold.late_from.Statement.{statement}
 use Rattle.prospect.proofs.threshold.late_from.Tie as tie
 
