@@ -4,3 +4,4 @@ pub mod Least
 pub mod Marked
 pub mod Coming
 pub mod Tells
+pub mod Lasting

@@ -1,3 +1,4 @@
 pub mod Thresholds
 pub mod Marks
 pub mod Tables
+pub mod Until

@@ -2,6 +2,7 @@
 pub mod rival;
 pub mod table;
 pub mod threshold;
+pub mod until;
 
 // What a position tells of each transaction for a party X: sets as masks, and tables with a number or a set for each transaction t.
 pub struct Marks {
