@@ -5,3 +5,4 @@ pub mod Marked
 pub mod Coming
 pub mod Tells
 pub mod Lasting
+pub mod Heights
