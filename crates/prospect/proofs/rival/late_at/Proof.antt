@@ -1,6 +1,6 @@
 -- What is read for the two.
 use Rattle.prospect.specs.Forms.Tables.{lateAt}
-use Rattle.laws.proofs.Prelude.{_∙_, needs}
+use Rattle.laws.proofs.Prelude.{needs}
 use Rattle.prospect.proofs.rival.late_at.Statement.{statement}
 use Rattle.prospect.proofs.rival.late_at.Tie as tie
 
@@ -28,8 +28,13 @@ late-from-requires c κs = let d = c .before .before .before .before .before .be
 returns : tie.Need-returns
 unfolding lateAt
 returns c =
-    let d = c .before .before .before in
-    c .late-from .ensures ∙ rw (d .has4 .ensures, d .before .has3 .ensures, d .before .before .has2 .ensures, d .before .before .before .has .ensures)
+    rw (
+      ← (c .before .before .before .has4 .ensures),
+      ← (c .before .before .before .before .has3 .ensures),
+      ← (c .before .before .before .before .before .has2 .ensures),
+      ← (c .before .before .before .before .before .before .has .ensures),
+    )
+    (c .late-from .ensures)
 
 pub late-at-spec : {M : Type 1} → statement M
 late-at-spec =
