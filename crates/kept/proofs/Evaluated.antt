@@ -26,7 +26,7 @@ use Rattle.slack.specs.Beaten.{above, fixed, signs, pooled, anyLate, stands, be
 use Rattle.slack.specs.Kept.{knownAt, unbeaten, free, comesForParty, goodChild, elsewhereFree, answered, goodBy, goodRounds, good, paid, reached, keptTo}
 use Rattle.kept.specs.declared.Prospect.{Prospect}
 use Rattle.kept.specs.Forms.Prospect.{none, outlasts, parentOf, lineOf, aimsOf, onlyOf, Seen}
-use Rattle.kept.specs.Forms.Evaluation.{within, clearIn, reachesIn, isUnmetIn, unmetIn, needsOver, needsIn, parentsIn, goodIn, roundsIn, reachedIn, keptIn}
+use Rattle.kept.specs.Forms.Evaluation.{within, clearIn, reachesIn, isUnmetIn, unmetIn, needsOver, aimIn, needsIn, parentsIn, goodIn, roundsIn, reachedIn, keptIn}
 use Rattle.kept.proofs.WithinSets.{set-and, set-within, alone-within, bit-union}
 
 -- the tests of `unbeaten` in another order
@@ -132,12 +132,11 @@ module _ (s u : List ℕ) (ok : Checked s) (p : Position) (x : ℕ) (q : Prospec
   -- r beats t, and is not answered by what does not ask for the good ones
   abbrev unmet : ℕ → ℕ → ℕ → Bool
   unmet off t r =
-      isUnmetIn (q .lacks) (q .until) (q .line) (q .count) t (getD (q .aims) t 0) (getD (q .only) t 0) (getD (q .known) t 0)
-      (greater off (getD (q .ends) t 0) + q .stealth) off (getD (q .beat) (32 * t + r) 0) (getD (q .secrets) r 0) r
+      isUnmetIn (q .lacks) (q .until) (q .line) (q .count) (aimIn q off t) (getD (q .beat) (32 * t + r) 0) (getD (q .secrets) r 0) r
 
   unmet-is : (off t r : ℕ) → off + 1 < never → t < count s → r < count s
       → unmet off t r ≡ (beats s u p x 0 off t r && (not (not (eqb r t) && comesForParty s u p x t r) && not (elsewhereFree s u p x off t r)))
-  unfolding isUnmetIn onlyOf elsewhereFree
+  unfolding isUnmetIn aimIn onlyOf elsewhereFree
   unmet-is off t r h l m =
       let o : bit (getD (q .only) t 0) r ≡ (not (eqb r t) && comesForParty s u p x t r) =
       ap (λ (a : ℕ). bit a r) (see .each t l .only-is) ∙ set-bit (count s) (λ k. not (eqb k t) && comesForParty s u p x t k) few r m in
@@ -162,7 +161,7 @@ module _ (s u : List ℕ) (ok : Checked s) (p : Position) (x : ℕ) (q : Prospec
   needs-met : (off t found : ℕ) → off + 1 < never → t < count s
       → within (needsIn q off t) (removed (parentsIn (q .up) (q .count) found) t)
       ≡ (stands s u p x (knownAt s p x t) off t && allBelow (count s) (λ r. not (beats s u p x 0 off t r) || answered s u p x off found t r))
-  unfolding needsIn needsOver unmetIn answered
+  unfolding needsIn needsOver unmetIn aimIn answered
   needs-met off t found h l =
       let parents = parentsIn (q .up) (q .count) found in
       let f : ltb off (getD (q .fails) t 0) ≡ stands s u p x (knownAt s p x t) off t = see .each t l .fails-tells off (omega arith) in

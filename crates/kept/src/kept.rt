@@ -12,7 +12,7 @@ ghost use Rattle.laws.specs.Sets.{setBelow};
 ghost use Rattle.sheet.specs.LockHeight.{never};
 ghost use Rattle.soonest.specs.Soonest.{greater};
 ghost use Rattle.soonest.specs.Forms.Table.{Filled};
-ghost use Rattle.kept.specs.Forms.Evaluation.{within, clearIn, reachesIn, isUnmetIn, unmetIn, needsOver, Ending, parentsIn, goodIn, roundsIn, reachedIn, keptIn, Bounded};
+ghost use Rattle.kept.specs.Forms.Evaluation.{within, clearIn, reachesIn, isUnmetIn, unmetIn, needsOver, needsIn, parentsIn, goodIn, roundsIn, reachedIn, keptIn, Bounded};
 
 // Whether each bit of a is b's.
 fn within(a: u32, b: u32) -> bool
@@ -79,35 +79,43 @@ fn reaches(line: &[u32; 32], n: usize, aims: u32, clear: u32) -> bool
     false
 }
 
+// What decides, for t, whether what beats it is met.
+struct Aim {
+    t: usize,
+    // those that a free line elsewhere may reach
+    aims: u32,
+    // those that can come for X only
+    only: u32,
+    know: u32,
+    // the height of t's last block
+    last: u32,
+    off: u32,
+}
+
 // Whether r, which beats t from the height `beat` on, neither comes for X only nor leaves a free line elsewhere, `secrets` being its own.
 fn is_unmet<'a>(
     lacks: &'a [u32; 32],
     until: &'a [u32; 1024],
     line: &'a [u32; 32],
     n: usize,
-    t: usize,
-    aims: u32,
-    only: u32,
-    know: u32,
-    at: u32,
-    off: u32,
+    aim: Aim,
     beat: u32,
     secrets: u32,
     r: usize,
 ) -> bool
     requires { ⌜ n ≤ 32 ⌝ }
-    requires { ⌜ t < 32 ⌝ }
+    requires { ⌜ aim .t < 32 ⌝ }
     requires { ⌜ r < 32 ⌝ }
-    ensures { λ b. ⌜ b ≡ isUnmetIn (now (lacks .entry)) (now (until .entry)) (now (line .entry)) n t aims only know at off beat secrets r ⌝ }
+    ensures { λ b. ⌜ b ≡ isUnmetIn (now (lacks .entry)) (now (until .entry)) (now (line .entry)) n aim beat secrets r ⌝ }
 {
-    if off < beat {
+    if aim.off < beat {
         return false;
     }
-    if set::has(only, r) {
+    if set::has(aim.only, r) {
         return false;
     }
-    let found = clear(lacks, until, n, t, know | secrets, at);
-    !reaches(line, n, aims, found)
+    let found = clear(lacks, until, n, aim.t, aim.know | secrets, aim.last);
+    !reaches(line, n, aim.aims, found)
 }
 
 // Those that are so.
@@ -118,37 +126,17 @@ fn unmet<'a>(
     secrets: &'a [u32; 32],
     beat: &'a [u32; 1024],
     n: usize,
-    t: usize,
-    aims: u32,
-    only: u32,
-    know: u32,
-    at: u32,
-    off: u32,
+    aim: Aim,
 ) -> u32
     requires { ⌜ n ≤ 32 ⌝ }
-    requires { ⌜ t < 32 ⌝ }
-    ensures { λ m. ⌜ m ≡ unmetIn (now (lacks .entry)) (now (until .entry)) (now (line .entry)) (now (secrets .entry)) (now (beat .entry)) n t aims only know at off ⌝ }
+    requires { ⌜ aim .t < 32 ⌝ }
+    ensures { λ m. ⌜ m ≡ unmetIn (now (lacks .entry)) (now (until .entry)) (now (line .entry)) (now (secrets .entry)) (now (beat .entry)) n aim ⌝ }
 {
+    let t = aim.t;
     let mut found: u32 = 0;
     let mut r: usize = 0;
     while r < n {
-        let from = beat[32 * t + r];
-        let shown = secrets[r];
-        let left = is_unmet(
-            lacks,
-            until,
-            line,
-            n,
-            t,
-            aims,
-            only,
-            know,
-            at,
-            off,
-            from,
-            shown,
-            r,
-        );
+        let left = is_unmet(lacks, until, line, n, aim, beat[32 * t + r], secrets[r], r);
         found = set::join(found, left, r);
         r += 1;
     }
@@ -176,77 +164,51 @@ fn needs<'a>(
     secrets: &'a [u32; 32],
     beat: &'a [u32; 1024],
     n: usize,
-    t: usize,
-    aims: u32,
-    only: u32,
-    know: u32,
-    at: u32,
-    off: u32,
+    aim: Aim,
     fails: u32,
 ) -> u32
     requires { ⌜ n ≤ 32 ⌝ }
-    requires { ⌜ t < 32 ⌝ }
-    ensures { λ m. ⌜ m ≡ needsOver (now (lacks .entry)) (now (until .entry)) (now (line .entry)) (now (secrets .entry)) (now (beat .entry)) n t aims only know at off fails ⌝ }
+    requires { ⌜ aim .t < 32 ⌝ }
+    ensures { λ m. ⌜ m ≡ needsOver (now (lacks .entry)) (now (until .entry)) (now (line .entry)) (now (secrets .entry)) (now (beat .entry)) n aim fails ⌝ }
 {
-    if off < fails {
-        return unmet(
-            lacks,
-            until,
-            line,
-            secrets,
-            beat,
-            n,
-            t,
-            aims,
-            only,
-            know,
-            at,
-            off,
-        );
+    if aim.off < fails {
+        return unmet(lacks, until, line, secrets, beat, n, aim);
     }
-    set::join(0, true, t)
+    set::join(0, true, aim.t)
 }
 
 // What each needs.
-fn all_needs<'a>(
-    lacks: &'a [u32; 32],
-    until: &'a [u32; 1024],
-    line: &'a [u32; 32],
-    secrets: &'a [u32; 32],
-    beat: &'a [u32; 1024],
-    aims: &'a [u32; 32],
-    only: &'a [u32; 32],
-    known: &'a [u32; 32],
-    ends: &'a [u32; 32],
-    fails: &'a [u32; 32],
-    n: usize,
-    stealth: u32,
-    off: u32,
-) -> [u32; 32]
-    requires { ⌜ n ≤ 32 ⌝ }
-    requires { ⌜ stealth ≤ 1 ⌝ }
+fn all_needs(prospect: Prospect, off: u32) -> [u32; 32]
+    requires { ⌜ Bounded prospect ⌝ }
     requires { ⌜ off ≤ never ⌝ }
-    requires { ⌜ Ending (now ends) n ⌝ }
-    ensures { λ r. ⌜ Filled (λ t x. x ≡ needsOver (now (lacks .entry)) (now (until .entry)) (now (line .entry)) (now (secrets .entry)) (now (beat .entry)) n t (getD (now (aims .entry)) t 0) (getD (now (only .entry)) t 0) (getD (now (known .entry)) t 0) (greater off (getD (now (ends .entry)) t 0) + stealth) off (getD (now (fails .entry)) t 0)) n r ⌝ }
+    ensures { λ r. ⌜ Filled (λ t x. x ≡ needsIn prospect off t) (prospect .count) r ⌝ }
 {
+    let n = prospect.count;
     let mut table = [0u32; 32];
     let mut t: usize = 0;
     while t < n {
-        let at = last(off, ends[t], stealth);
+        let last = last(off, prospect.ends[t], prospect.stealth);
+        let aims = prospect.aims[t];
+        let only = prospect.only[t];
+        let know = prospect.known[t];
+        let fails = prospect.fails[t];
+        let aim = Aim {
+            t: t,
+            aims: aims,
+            only: only,
+            know: know,
+            last: last,
+            off: off,
+        };
         table[t] = needs(
-            lacks,
-            until,
-            line,
-            secrets,
-            beat,
+            &prospect.lacks,
+            &prospect.until,
+            &prospect.line,
+            &prospect.secrets,
+            &prospect.beat,
             n,
-            t,
-            aims[t],
-            only[t],
-            known[t],
-            at,
-            off,
-            fails[t],
+            aim,
+            fails,
         );
         t += 1;
     }
@@ -335,21 +297,7 @@ pub fn reached(prospect: Prospect, off: u32) -> u32
     ensures { λ r. ⌜ r ≡ reachedIn prospect off ⌝ }
 {
     let n = prospect.count;
-    let needs = all_needs(
-        &prospect.lacks,
-        &prospect.until,
-        &prospect.line,
-        &prospect.secrets,
-        &prospect.beat,
-        &prospect.aims,
-        &prospect.only,
-        &prospect.known,
-        &prospect.ends,
-        &prospect.fails,
-        n,
-        prospect.stealth,
-        off,
-    );
+    let needs = all_needs(prospect, off);
     let found = good(&prospect.up, &needs, prospect.contract, n);
     found & prospect.fixed
 }

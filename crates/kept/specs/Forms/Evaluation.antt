@@ -16,6 +16,7 @@ use Rattle.sheet.specs.LockHeight.{never}
 use Rattle.soonest.specs.Soonest.{greater}
 use Rattle.slack.specs.Kept.{longest}
 use Rattle.kept.specs.declared.Prospect.{Prospect}
+use Rattle.kept.specs.declared.kept.Aim.{Aim}
 
 -- each bit of a is b's
 unfoldable pub within : ℕ → ℕ → Bool
@@ -30,23 +31,33 @@ unfoldable pub reachesIn : List ℕ → ℕ → ℕ → ℕ → Bool
 reachesIn line n aims clear = anyBelow n (λ w. bit aims w && within (getD line w 0) clear)
 
 -- r, which beats t from the height `beat` on, neither comes for X only nor leaves a free line elsewhere, `secrets` being its own
-unfoldable pub isUnmetIn : List ℕ → List ℕ → List ℕ → ℕ → ℕ → ℕ → ℕ → ℕ → ℕ → ℕ → ℕ → ℕ → ℕ → Bool
-isUnmetIn lacks until line n t aims only know at off beat secrets r =
-    leb beat off && (not (bit only r) && not (reachesIn line n aims (clearIn lacks until n t (bitOr know secrets) at)))
+unfoldable pub isUnmetIn : List ℕ → List ℕ → List ℕ → ℕ → Aim → ℕ → ℕ → ℕ → Bool
+isUnmetIn lacks until line n a beat secrets r =
+    leb beat (a .off)
+    && (not (bit (a .only) r) && not (reachesIn line n (a .aims) (clearIn lacks until n (a .t) (bitOr (a .know) secrets) (a .last))))
 
-unfoldable pub unmetIn : List ℕ → List ℕ → List ℕ → List ℕ → List ℕ → ℕ → ℕ → ℕ → ℕ → ℕ → ℕ → ℕ → ℕ
-unmetIn lacks until line secrets beat n t aims only know at off =
-    setBelow n (λ r. isUnmetIn lacks until line n t aims only know at off (getD beat (32 * t + r) 0) (getD secrets r 0) r)
+unfoldable pub unmetIn : List ℕ → List ℕ → List ℕ → List ℕ → List ℕ → ℕ → Aim → ℕ
+unmetIn lacks until line secrets beat n a = setBelow n (λ r. isUnmetIn lacks until line n a (getD beat (32 * a .t + r) 0) (getD secrets r 0) r)
 
 -- those that must have a good child for t to be good: itself, which cannot help, where it fails
-unfoldable pub needsOver : List ℕ → List ℕ → List ℕ → List ℕ → List ℕ → ℕ → ℕ → ℕ → ℕ → ℕ → ℕ → ℕ → ℕ → ℕ
-needsOver lacks until line secrets beat n t aims only know at off fails =
-    pick (ltb off fails) (unmetIn lacks until line secrets beat n t aims only know at off) (joined 0 true t)
+unfoldable pub needsOver : List ℕ → List ℕ → List ℕ → List ℕ → List ℕ → ℕ → Aim → ℕ → ℕ
+needsOver lacks until line secrets beat n a fails =
+    pick (ltb (a .off) fails) (unmetIn lacks until line secrets beat n a) (joined 0 true (a .t))
+
+unfoldable pub aimIn : Prospect → ℕ → ℕ → Aim
+aimIn q off t =
+    record {
+      t = t;
+      aims = getD (q .aims) t 0;
+      only = getD (q .only) t 0;
+      know = getD (q .known) t 0;
+      last = greater off (getD (q .ends) t 0) + q .stealth;
+      off = off;
+    }
 
 unfoldable pub needsIn : Prospect → ℕ → ℕ → ℕ
 needsIn q off t =
-    needsOver (q .lacks) (q .until) (q .line) (q .secrets) (q .beat) (q .count) t (getD (q .aims) t 0) (getD (q .only) t 0) (getD (q .known) t 0)
-    (greater off (getD (q .ends) t 0) + q .stealth) off (getD (q .fails) t 0)
+    needsOver (q .lacks) (q .until) (q .line) (q .secrets) (q .beat) (q .count) (aimIn q off t) (getD (q .fails) t 0)
 
 -- the parents of the members of a set
 unfoldable pub parentsIn : List ℕ → ℕ → ℕ → ℕ
@@ -83,16 +94,12 @@ countedIn q off =
     let safe = lowestIn (q .count) (sureIn (q .beat) (q .count) (reachedIn q off) off) in
     pick (q .paid) 255 (pick (eqb safe 255) (lowestIn (q .count) (reachedIn q off)) safe)
 
--- heights that are added to
-abbrev pub Ending : List ℕ → ℕ → Type 0
-Ending ends n = (t : ℕ) → t < n → getD ends t 0 ≤ never
-
 -- the numbers of a prospect fit
 pub record Bounded (q : Prospect) : Type 0 where
   pub few : q .count ≤ 32
   pub early : q .mined < 65536
   pub stealthy : q .stealth ≤ 1
-  pub ending : Ending (q .ends) (q .count)
+  pub ending : (t : ℕ) → t < q .count → getD (q .ends) t 0 ≤ never
 
 -- kept for so many blocks
 unfoldable pub keptFor : Prospect → ℕ → Bool

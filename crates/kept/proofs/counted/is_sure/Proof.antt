@@ -13,7 +13,6 @@ pub is-sure-spec : {M : Type 1} → statement M
 is-sure-spec =
     tie.close
     (tie.spec
-    (λ c κs. search needs)
-    (λ c κs. search needs)
+    (λ c κs. search needs) (λ c κs. search needs)
     returns
     returns-2)

@@ -12,6 +12,5 @@ pub kept-for-spec : {M : Type 1} → statement M
 kept-for-spec =
     tie.close
     (tie.spec
-    (λ c. search needs)
-    (λ c κs. search needs)
+    (λ c. search needs) (λ c κs. search needs)
     returns)

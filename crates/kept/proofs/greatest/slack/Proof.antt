@@ -35,13 +35,18 @@ loop-less : tie.Need-loop-less Inv-loop μ-loop
 loop-less c = omega (arith, c .before .before .loop-test .taken, c .before .before .before .loop .inv .apart)
 
 loop-again : tie.Need-loop-again Inv-loop μ-loop
-loop-again c = halves-up _ _ _ _ _ (c .before .before .before .loop .inv) (omega (arith, c .before .before .loop-test .taken)) (sym (c .before .kept-for2 .ensures) ∙ c .if2 .taken)
+loop-again c =
+    let b = c .before .before in
+    halves-up _ _ _ _ _ (b .before .loop .inv) (omega (arith, b .loop-test .taken)) (sym (c .before .kept-for2 .ensures) ∙ c .if2 .taken)
 
 loop-less-2 : tie.Need-loop-less-2 Inv-loop μ-loop
 loop-less-2 c = omega (arith, c .before .before .loop-test .taken, c .before .before .before .loop .inv .apart)
 
 loop-again-2 : tie.Need-loop-again-2 Inv-loop μ-loop
-loop-again-2 c = halves-down _ _ (c .before .before .before .before .before .before .pre .1) _ _ _ (c .before .before .before .loop .inv) (omega (arith, c .before .before .loop-test .taken)) (omega (arith, c .before .before .loop-test .taken)) (sym (c .before .kept-for2 .ensures) ∙ c .if2 .left)
+loop-again-2 c =
+    let b = c .before .before .before in
+    let l = c .before .before .loop-test .taken in
+    halves-down _ _ (b .before .before .before .pre .1) _ _ _ (b .loop .inv) (omega (arith, l)) (omega (arith, l)) (sym (c .before .kept-for2 .ensures) ∙ c .if2 .left)
 
 returns-2 : tie.Need-returns-2 Inv-loop μ-loop
 returns-2 c = sym (halves-done _ _ _ _ _ (c .before .loop .inv) (c .loop-test .left))

@@ -15,7 +15,9 @@ loop-holds : tie.Need-loop-holds Inv-loop μ-loop
 loop-holds c = (search needs, rounds-start _ _ _ _)
 
 returns : tie.Need-returns Inv-loop μ-loop
-returns c = rounds-end _ _ _ _ _ _ _ _ (c .before .before .before .before .loop .inv .0) (c .before .before .before .before .loop .inv .1) (c .before .before .parents .ensures) (c .before .all-good .ensures) (c .if1 .taken)
+returns c =
+    let i = c .before .before .before .before .loop in
+    rounds-end _ _ _ _ _ _ _ _ (i .inv .0) (i .inv .1) (c .before .before .parents .ensures) (c .before .all-good .ensures) (c .if1 .taken)
 
 loop-again : tie.Need-loop-again Inv-loop μ-loop
 loop-again c = (search needs, rounds-more _ _ _ _ _ _ _ _ (c .before .before .before .before .loop .inv .1) (c .before .before .parents .ensures) (c .before .all-good .ensures))
@@ -30,10 +32,8 @@ good-spec =
     Inv-loop
     μ-loop
     loop-holds
-    (λ c κs. search needs)
-    (λ c κs. search needs)
+    (λ c κs. search needs) (λ c κs. search needs)
     returns
-    (λ c. search needs)
-    (λ c. search needs)
+    (λ c. search needs) (λ c. search needs)
     loop-again
     returns-2)

@@ -15,7 +15,15 @@ returns-2 c = simp (← (c .before .has .ensures), c .if2 .taken, and-false)
 
 returns-3 : tie.Need-returns-3
 unfolding isUnmetIn
-returns-3 c = simp (tests, c .before .before .before .before .if1 .left, ← (c .before .before .before .has .ensures), c .before .before .if2 .left, ← (c .before .clear .ensures), ← (c .reaches .ensures))
+returns-3 c =
+    simp (
+      tests,
+      c .before .before .before .before .before .if1 .left,
+      ← (c .before .before .before .before .has .ensures),
+      c .before .before .before .if2 .left,
+      ← (c .before .clear .ensures),
+      ← (c .reaches .ensures),
+    )
 
 pub is-unmet-spec : {M : Type 1} → statement M
 is-unmet-spec =
@@ -24,6 +32,5 @@ is-unmet-spec =
     returns
     (λ c κs. search needs)
     returns-2
-    (λ c κs. search needs)
-    (λ c κs. search needs)
+    (λ c κs. search needs) (λ c κs. search needs)
     returns-3)

@@ -6,16 +6,18 @@ use Rattle.kept.proofs.kept.unmet.Statement.{statement}
 use Rattle.kept.proofs.kept.unmet.Tie as tie
 
 abbrev Inv-loop : tie.InvT-loop
-Inv-loop lacks until line secrets beat n t aims only know at off found₀ r₀ found r = (r ≤ n) × (found ≡ setBelow r (λ k. isUnmetIn lacks until line n t aims only know at off (getD beat (32 * t + k) 0) (getD secrets k 0) k))
+Inv-loop lacks until line secrets beat n aim t found₀ r₀ found r =
+    (r ≤ n) × (found ≡ setBelow r (λ k. isUnmetIn lacks until line n aim (getD beat (32 * t + k) 0) (getD secrets k 0) k))
 
 abbrev μ-loop : tie.MeasureT-loop
-μ-loop lacks until line secrets beat n t aims only know at off found₀ r₀ found r = n - r
+μ-loop lacks until line secrets beat n aim t found₀ r₀ found r = n - r
 
 loop-holds : tie.Need-loop-holds Inv-loop μ-loop
 loop-holds c = (search needs, set-start _)
 
 loop-again : tie.Need-loop-again Inv-loop μ-loop
-loop-again c = (search needs, set-more _ _ _ _ _ (c .before .before .before .before .before .loop .inv .1) (c .join .ensures) (c .before .is-unmet .ensures))
+loop-again c =
+    (search needs, set-more _ _ _ _ _ (c .before .before .before .before .before .loop .inv .1) (c .join .ensures) (c .before .is-unmet .ensures))
 
 returns : tie.Need-returns Inv-loop μ-loop
 unfolding unmetIn
@@ -28,15 +30,7 @@ unmet-spec =
     Inv-loop
     μ-loop
     loop-holds
-    (λ c. search needs)
-    (λ c. search needs)
-    (λ c. search needs)
-    (λ c. search needs)
-    (λ c. search needs)
-    (λ c. search needs)
-    (λ c κs. search needs)
-    (λ c κs. search needs)
-    (λ c. search needs)
-    (λ c. search needs)
+    (λ c. search needs) (λ c. search needs) (λ c. search needs) (λ c. search needs) (λ c. search needs) (λ c. search needs) (λ c κs. search needs)
+    (λ c κs. search needs) (λ c. search needs) (λ c. search needs)
     loop-again
     returns)
