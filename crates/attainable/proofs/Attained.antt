@@ -1,13 +1,13 @@
 -- What is found from what was read is what can come.
 -- Assumes nothing.
-use Rattle.laws.proofs.Prelude.{ℕ, zero, suc, _≤_, _<_, _≡_, refl, sym, _∙_, Bool, true, false, not, _&&_, _||_, List, _⊎_, inl, inr, eqb, ltb}
+use Rattle.laws.proofs.Prelude.{ℕ, zero, suc, _-_, _≤_, _<_, _≡_, refl, sym, _∙_, Bool, true, false, not, _&&_, _||_, List, _⊎_, inl, inr, eqb, ltb}
 use Rattle.laws.proofs.Prelude.{ltb-true, ne-eqb, not-true, arith}
 use lib.Bits.{bitAnd, bitOr}
 use Rattle.laws.specs.Booleans.{pick, split, either, clash, and-parts, or-parts, or-right}
 use Rattle.laws.specs.Below.{anyBelow, any-some, any-found}
 use Rattle.laws.specs.Mask.{bit}
 use Rattle.laws.specs.Bits.{bit-or, bit-and, or-bit, union-bit}
-use Rattle.laws.specs.Sets.{setBelow, set-bit, set-same}
+use Rattle.laws.specs.Sets.{setBelow, set-bit, set-same, set-small, bit-outside}
 use Rattle.laws.specs.Unions.{union-same}
 use Rattle.sheet.specs.Field.{count, parent, opening}
 use Rattle.sheet.specs.Checked.{Checked}
@@ -21,7 +21,7 @@ use Rattle.position.proofs.SendTests.{hasParent-set}
 use Rattle.attainable.specs.declared.Others.{Others}
 use Rattle.attainable.specs.Attainable.{gone, secretsOf, shownBy, waitsFor, comes, attainable, Closed}
 use Rattle.attainable.specs.Forms.Others.{nowhere, waitsApart, sendsApart, Reads}
-use Rattle.attainable.specs.Forms.Round.{signsIn, canIn, canSet, reachIn, reachSet, shownAt, shownIn, askedIn, askedElsewhere}
+use Rattle.attainable.specs.Forms.Round.{signsIn, signers, canOf, reachIn, reachSet, shownAt, shownIn, askedIn, askedElsewhere}
 use Rattle.attainable.proofs.Masks.{union-has, or-left, or-last}
 use Rattle.attainable.proofs.Parts.{Way, waits, lent, signs, Parent, comes-parts, comes-from, parent-from, picked-bit}
 use Rattle.attainable.proofs.Rounds.{least, attained-comes, attained-set}
@@ -98,14 +98,17 @@ module _ (s u : List ℕ) (ok : Checked s) (p : Position) (x also : ℕ) (o : Ot
   -- the set that is found with some secrets
   module _ (secrets : ℕ) (small : secrets < 256) where
     abbrev can : ℕ
-    can = canSet s o (askedIn o also) secrets
+    can = canOf s o (askedIn o also) secrets
 
     abbrev found : ℕ
     found = reachSet s (o .confirmed) can
 
-    can-bit : (t : ℕ) → t < count s → bit can t ≡ (not (bit (o .gone) t) && (bit (askedIn o also) t || signsIn o secrets t))
-    unfolding canSet canIn
-    can-bit t l = set-bit (count s) (canIn o (askedIn o also) secrets) few t l
+    can-bit : (t : ℕ) → t < count s → bit can t ≡ ((bit (askedIn o also) t || signsIn o secrets t) && not (bit (o .gone) t))
+    unfolding canOf signers
+    can-bit t l =
+        let small : o .gone < 4294967296 = rw (r .gone) (set-small 32 (count s) (gone s p) few) in
+        bit-and (bitOr (askedIn o also) (signers s o secrets)) (4294967295 - o .gone) t
+        ∙ rw (bit-or (askedIn o also) (signers s o secrets) t, set-bit (count s) (signsIn o secrets) few t l, bit-outside (o .gone) t small (omega (arith, l, few)))
 
     found-bit : (t : ℕ) → t < count s → bit found t ≡ reachIn s (o .confirmed) can t
     unfolding reachSet
@@ -133,7 +136,7 @@ module _ (s u : List ℕ) (ok : Checked s) (p : Position) (x also : ℕ) (o : Ot
           let up : hasParent s (bit (bitOr (o .confirmed) found)) t ≡ true =
           hasParent-set s (bitOr (o .confirmed) found) (λ j. isConfirmed p j || bit found j) there t ok l
           ∙ parent-from s u p x (bit also) found t d (k .below) in
-          let mine : bit can t ≡ true = can-bit t l ∙ rw (gone-bit t l, k .live) (by-way t l d m (k .way)) in
+          let mine : bit can t ≡ true = can-bit t l ∙ rw (gone-bit t l, k .live, by-way t l d m (k .way)) in
           found-bit t l ∙ sym (reach-turn s ok (o .confirmed) can (count s) found t true refl few l (omega (arith, l)) (rw (mine, up)))
 
     -- where these are shown by what can come, it is within that
@@ -168,9 +171,9 @@ module _ (s u : List ℕ) (ok : Checked s) (p : Position) (x also : ℕ) (o : Ot
       inside zero t a l h = absurd (omega (arith, a))
       inside (suc n) t a l h =
           let z = and-parts (bit can t) _ (sym (reach-step s ok (o .confirmed) can t) ∙ h) in
-          let c = and-parts (not (bit (o .gone) t)) (bit (askedIn o also) t || signsIn o secrets t) (sym (can-bit t l) ∙ z .0) in
-          let w = way-all t l (c .1) in
-          let live : gone s p t ≡ false = sym (gone-bit t l) ∙ not-true (bit (o .gone) t) (c .0) in
+          let c = and-parts (bit (askedIn o also) t || signsIn o secrets t) (not (bit (o .gone) t)) (sym (can-bit t l) ∙ z .0) in
+          let w = way-all t l (c .0) in
+          let live : gone s p t ≡ false = sym (gone-bit t l) ∙ not-true (bit (o .gone) t) (c .1) in
           let below = parent-all t l (λ b y. inside n (parent s t) (omega (arith, a, b)) (omega (arith, l, b)) y) (z .1) in
           least s u ok p x (bit also) .closed t l (w .0) (w .1)
           (comes-from s u p x (bit also) all t (w .0) (record { live = live; below = below; way = w .2 }))

@@ -6,6 +6,6 @@ pub mod Parts
 pub mod Reaching
 pub mod Reading
 pub mod Rounds
-pub mod Also
 pub mod Signing
 pub mod Ways
+pub mod Also

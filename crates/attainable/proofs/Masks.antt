@@ -1,13 +1,14 @@
 -- Bits of unions and subsets, and the number of a set's members.
 -- Assumes nothing.
-use Rattle.laws.proofs.Prelude.{ℕ, zero, suc, _+_, _≤_, _<_, _≡_, refl, _∙_, Bool, true, false, not, _||_, _⊎_, inl, inr, arith}
+use Rattle.laws.proofs.Prelude.{ℕ, zero, suc, _+_, _-_, _≤_, _<_, _≡_, refl, ap, _∙_, Bool, true, false, not, _&&_, _||_, _⊎_, inl, inr, arith}
 use native.Mathlib.Nat.{not-suc-le-zero, le-of-suc-le-suc, eq-or-lt-of-le, le-antisymm}
 use native.Mathlib.Numerals.{add-one}
-use lib.Bits.{bitOr}
+use lib.Bits.{bitAnd, bitOr}
 use Rattle.laws.specs.Booleans.{pick, split, either, or-right}
 use Rattle.laws.specs.Below.{allBelow, all-from}
 use Rattle.laws.specs.Mask.{bit, subset, unionBelow}
 use Rattle.laws.specs.Bits.{bit-or}
+use Rattle.laws.specs.Sets.{setBelow, set-same, set-outside, bit-outside}
 use Rattle.laws.specs.Sum.{sumBelow}
 
 -- a bit of an or's part is the or's
@@ -37,6 +38,15 @@ union-more n f a x e h = rw (add-one, e, h)
 
 pub union-done : (k n : ℕ) (f : ℕ → ℕ) (a : ℕ) → k ≤ n → n ≤ k → a ≡ unionBelow k f → a ≡ unionBelow n f
 union-done k n f a l m e = rw (le-antisymm m l) e
+
+-- the members of a set that are in another
+pub set-and : (n : ℕ) (p : ℕ → Bool) (m : ℕ) → n ≤ 32 → m < 4294967296 → bitAnd (setBelow n p) m ≡ setBelow n (λ k. p k && bit m k)
+set-and n p m few h =
+    let e : m ≡ 4294967295 - (4294967295 - m) = omega (arith, h) in
+    ap (bitAnd (setBelow n p)) e
+    ∙ set-outside n p (4294967295 - m) few (omega arith)
+    ∙ set-same n (λ k. p k && not (bit (4294967295 - m) k)) (λ k. p k && bit m k)
+    (λ k l. rw (bit-outside m k h (omega (arith, l, few))) (split (bit m k) (λ y. rw y) (λ y. rw y)))
 
 pub subset-from : (n a b : ℕ) → ((i : ℕ) → i < n → bit a i ≡ true → bit b i ≡ true) → subset n a b ≡ true
 unfolding subset

@@ -1,5 +1,5 @@
 // What can come without a party.
-pub mod lack;
+mod lack;
 pub mod read;
 pub mod round;
 
@@ -17,7 +17,7 @@ pub struct Others {
     // the shared secrets, and those that each transaction shows
     pub secrets: u8,
     pub shows: [u8; 32],
-    // what the others lack of each transaction for a destination, but for secrets that others of a set show; 256 where they cannot send it
+    // what the others lack of each transaction for a destination, but for the secrets of a set; 256 where they may not send it
     pub alice: [u16; 32],
     pub bob: [u16; 32],
     pub contract: [u16; 32],

@@ -4,14 +4,14 @@ use sheet::set;
 use steps::parent;
 ghost use Prim.Native.Nat.{_<_};
 ghost use mathlib.Core.Path.{_≡_};
-ghost use mathlib.Core.Bool.{not, _&&_, _||_};
+ghost use mathlib.Core.Bool.{_&&_};
 ghost use Rattle.laws.specs.Booleans.{pick};
 ghost use Rattle.laws.specs.Mask.{bit};
 ghost use Rattle.sheet.specs.Field.{count, Sized};
 ghost use Rattle.sheet.specs.Checked.{Checked};
 ghost use Rattle.slots.specs.Ancestry.{hasParent};
 ghost use Rattle.attainable.specs.Forms.Others.{meets};
-ghost use Rattle.attainable.specs.Forms.Round.{meetsOne, canSet, reachSet, shownIn, Attains, AttainsElsewhere};
+ghost use Rattle.attainable.specs.Forms.Round.{meetsOne, signers, reachSet, shownIn, Attains, AttainsElsewhere};
 
 // Whether nothing of a lack is outside the secrets shown.
 fn meets(secrets: u32, lack: u16) -> bool
@@ -36,45 +36,23 @@ fn meets_one(secrets: u32, alice: u16, bob: u16, contract: u16, carol: u16) -> b
     meets(secrets, carol)
 }
 
-// Whether t is asked for or signed.
-fn asked_or_signed(asked: u32, signed: bool, t: usize) -> bool
-    requires { ⌜ t < 32 ⌝ }
-    ensures { λ r. ⌜ r ≡ (bit asked t || signed) ⌝ }
-{
-    if set::has(asked, t) {
-        return true;
-    }
-    signed
-}
-
-// Whether it is, and not gone.
-fn can_come(gone: u32, asked: u32, signed: bool, t: usize) -> bool
-    requires { ⌜ t < 32 ⌝ }
-    ensures { λ r. ⌜ r ≡ (not (bit gone t) && (bit asked t || signed)) ⌝ }
-{
-    if set::has(gone, t) {
-        return false;
-    }
-    asked_or_signed(asked, signed, t)
-}
-
-// Those that can come where their parents do, where `asked` has those that wait or are lent.
-fn candidates(others: Others, sheet: &[u8], asked: u32, secrets: u32) -> u32
+// Those that the others can sign for some destination with these secrets.
+fn signers(others: Others, sheet: &[u8], secrets: u32) -> u32
     requires { ⌜ Sized (now sheet) ⌝ }
-    ensures { λ r. ⌜ r ≡ canSet (now (sheet .entry)) others asked secrets ⌝ }
+    ensures { λ r. ⌜ r ≡ signers (now (sheet .entry)) others secrets ⌝ }
 {
     let n = sheet::field::count(sheet);
     let mut found: u32 = 0;
     let mut t: usize = 0;
     while t < n {
-        let signed = meets_one(
+        let on = meets_one(
             secrets,
             others.alice[t],
             others.bob[t],
             others.contract[t],
             others.carol[t],
         );
-        found = set::join(found, can_come(others.gone, asked, signed, t), t);
+        found = set::join(found, on, t);
         t += 1;
     }
     found
@@ -148,7 +126,7 @@ pub fn attainable(others: Others, sheet: &[u8], also: u32) -> u32
     let asked = others.waits | (also & others.sends);
     let mut secrets: u8 = 0;
     loop {
-        let can = candidates(others, sheet, asked, wide(secrets));
+        let can = (asked | signers(others, sheet, wide(secrets))) & !others.gone;
         let members = reach(sheet, others.confirmed, can);
         let shows = others.shows;
         let more = secrets | shown(shows, sheet, members);
@@ -157,17 +135,6 @@ pub fn attainable(others: Others, sheet: &[u8], also: u32) -> u32
         }
         secrets = more;
     }
-}
-
-// Whether t is in the set `attained`, and asked for or signed.
-fn comes_elsewhere(attained: u32, asked: u32, signed: bool, t: usize) -> bool
-    requires { ⌜ t < 32 ⌝ }
-    ensures { λ r. ⌜ r ≡ (bit attained t && (bit asked t || signed)) ⌝ }
-{
-    if set::has(attained, t) {
-        return asked_or_signed(asked, signed, t);
-    }
-    false
 }
 
 // Of these, `attained`, those that can come with a destination other than the party.
@@ -179,19 +146,5 @@ pub fn attainable_elsewhere(others: Others, sheet: &[u8], also: u32, attained: u
     let asked = others.waits_elsewhere | (also & others.sends_elsewhere);
     let shows = others.shows;
     let secrets = wide(shown(shows, sheet, attained));
-    let n = sheet::field::count(sheet);
-    let mut found: u32 = 0;
-    let mut t: usize = 0;
-    while t < n {
-        let signed = meets_one(
-            secrets,
-            others.alice[t],
-            others.bob[t],
-            others.contract[t],
-            others.carol[t],
-        );
-        found = set::join(found, comes_elsewhere(attained, asked, signed, t), t);
-        t += 1;
-    }
-    found
+    attained & (asked | signers(others, sheet, secrets))
 }

@@ -1,8 +1,8 @@
 -- What can come, from what is read once, and what the functions answer.
 -- Assumes nothing.
-use Prim.Native.Nat.{ℕ}
+use Prim.Native.Nat.{ℕ, _-_}
 use mathlib.Core.Path.{_≡_}
-use mathlib.Core.Bool.{Bool, false, not, _&&_, _||_}
+use mathlib.Core.Bool.{Bool, false, _&&_, _||_}
 use mathlib.Core.List.{List}
 use lib.Bits.{bitAnd, bitOr}
 use lib.ListN.{getD}
@@ -25,12 +25,12 @@ meetsOne secrets a b c d = meets secrets c || (meets secrets a || (meets secrets
 unfoldable pub signsIn : Others → ℕ → ℕ → Bool
 signsIn o secrets t = meetsOne secrets (getD (o .alice) t 0) (getD (o .bob) t 0) (getD (o .contract) t 0) (getD (o .carol) t 0)
 
--- t is not gone, and asked for or signed
-unfoldable pub canIn : Others → ℕ → ℕ → ℕ → Bool
-canIn o asked secrets t = not (bit (o .gone) t) && (bit asked t || signsIn o secrets t)
+unfoldable pub signers : List ℕ → Others → ℕ → ℕ
+signers s o secrets = setBelow (count s) (signsIn o secrets)
 
-unfoldable pub canSet : List ℕ → Others → ℕ → ℕ → ℕ
-canSet s o asked secrets = setBelow (count s) (canIn o asked secrets)
+-- those that are asked for or signed, and not gone
+unfoldable pub canOf : List ℕ → Others → ℕ → ℕ → ℕ
+canOf s o asked secrets = bitAnd (bitOr asked (signers s o secrets)) (4294967295 - o .gone)
 
 -- the line of t is in the set `can` up to an opening or a child of a confirmed one
 unfoldable pub reachIn : List ℕ → ℕ → ℕ → ℕ → Bool

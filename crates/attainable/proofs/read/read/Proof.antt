@@ -4,18 +4,6 @@ use Rattle.attainable.proofs.Reading.{read-waits, read-sends, read-conf
 use Rattle.attainable.proofs.read.read.Statement.{statement}
 use Rattle.attainable.proofs.read.read.Tie as tie
 
-lacks-requires : tie.Need-lacks-requires
-lacks-requires c κs = c .before .before .before .before .before .before .before .before .before .before .before .before .before .before .pre .checked
-
-lacks-requires-2 : tie.Need-lacks-requires-2
-lacks-requires-2 c κs = c .before .before .before .before .before .before .before .before .before .before .before .before .before .before .before .pre .checked
-
-lacks-requires-3 : tie.Need-lacks-requires-3
-lacks-requires-3 c κs = c .before .before .before .before .before .before .before .before .before .before .before .before .before .before .before .before .pre .checked
-
-lacks-requires-4 : tie.Need-lacks-requires-4
-lacks-requires-4 c κs = c .before .before .before .before .before .before .before .before .before .before .before .before .before .before .before .before .before .pre .checked
-
 returns : tie.Need-returns
 returns c =
     let c5 = c .before .before .before .before .before in let c10 = c5 .before .before .before .before .before in
@@ -42,11 +30,19 @@ pub read-spec : {M : Type 1} → statement M
 read-spec =
     tie.close
     (tie.spec
-    (λ c κs. search needs) (λ c κs. search needs) (λ c κs. search needs) (λ c κs. search needs) (λ c κs. search needs)
-    (λ c κs. search needs) (λ c κs. search needs) (λ c κs. search needs) (λ c κs. search needs) (λ c κs. search needs)
+    (λ c κs. c .before .before .pre .checked)
+    (λ c κs. c .before .before .before .pre .checked)
     (λ c κs. search needs)
-    lacks-requires
-    lacks-requires-2
-    lacks-requires-3
-    lacks-requires-4
+    (λ c κs. c .before .before .before .before .before .before .pre .checked .sized)
+    (λ c κs. c .before .before .before .before .before .before .before .pre)
+    (λ c κs. c .before .before .before .before .before .before .before .before .pre .checked .sized)
+    (λ c κs. c .before .before .before .before .before .before .before .before .before .pre .checked .sized)
+    (λ c κs. c .before .before .before .before .before .before .before .before .before .before .pre .checked .sized)
+    (λ c κs. c .before .before .before .before .before .before .before .before .before .before .before .pre .checked .sized)
+    (λ c κs. c .before .before .before .before .before .before .before .before .before .before .before .before .pre .checked .sized)
+    (λ c κs. c .before .before .before .before .before .before .before .before .before .before .before .before .before .pre .checked .sized)
+    (λ c κs. c .before .before .before .before .before .before .before .before .before .before .before .before .before .before .pre .checked)
+    (λ c κs. c .before .before .before .before .before .before .before .before .before .before .before .before .before .before .before .pre .checked)
+    (λ c κs. c .before .before .before .before .before .before .before .before .before .before .before .before .before .before .before .before .pre .checked)
+    (λ c κs. c .before .before .before .before .before .before .before .before .before .before .before .before .before .before .before .before .before .pre .checked)
     returns)

@@ -15,18 +15,21 @@ loop-holds c = shown-start _ _ _
 
 returns : tie.Need-returns Inv-loop μ-loop
 returns c =
-    let c3 = c .before .before .before in let c6 = c3 .before .before .before in
-    attained _ _ _ (search needs) _ _ _ _ _ (c6 .loop .inv) (c3 .before .before .wide .ensures) (c3 .before .candidates .ensures) (c3 .reach .ensures) (c .before .shown .ensures) (c .if1 .taken)
+    let c3 = c .before .before .before in let c5 = c3 .before .before in
+    attained _ _ _ (c5 .before .before .before .before .before .before .pre) _ _ _ _ _ (c5 .before .before .loop .inv) (c5 .before .wide .ensures) (c5 .signers .ensures)
+    (c3 .reach .ensures) (c .before .shown .ensures) (c .if1 .taken)
 
 loop-less : tie.Need-loop-less Inv-loop μ-loop
 loop-less c =
-    let c3 = c .before .before .before in let c6 = c3 .before .before .before in
-    secrets-left _ _ _ (search needs) _ _ _ _ _ (c6 .loop .inv) (c3 .before .before .wide .ensures) (c3 .before .candidates .ensures) (c3 .reach .ensures) (c .before .shown .ensures) (c .if1 .left)
+    let c3 = c .before .before .before in let c5 = c3 .before .before in
+    secrets-left _ _ _ (c5 .before .before .before .before .before .before .pre) _ _ _ _ _ (c5 .before .before .loop .inv) (c5 .before .wide .ensures) (c5 .signers .ensures)
+    (c3 .reach .ensures) (c .before .shown .ensures) (c .if1 .left)
 
 loop-again : tie.Need-loop-again Inv-loop μ-loop
 loop-again c =
-    let c3 = c .before .before .before in let c6 = c3 .before .before .before in
-    shown-more _ _ _ (search needs) _ _ _ _ _ (c6 .loop .inv) (c3 .before .before .wide .ensures) (c3 .before .candidates .ensures) (c3 .reach .ensures) (c .before .shown .ensures)
+    let c3 = c .before .before .before in let c5 = c3 .before .before in
+    shown-more _ _ _ (c5 .before .before .before .before .before .before .pre) _ _ _ _ _ (c5 .before .before .loop .inv) (c5 .before .wide .ensures) (c5 .signers .ensures)
+    (c3 .reach .ensures) (c .before .shown .ensures)
 
 pub attainable-spec : {M : Type 1} → statement M
 attainable-spec =
