@@ -27,6 +27,12 @@ least-more n p f d b h r e g m = rw (add-one, m, e, g)
 pub least-done : (k n : ℕ) (p : ℕ → Bool) (f : ℕ → ℕ) (d b : ℕ) → k ≤ n → n ≤ k → b ≡ leastBelow k p f d → b ≡ leastBelow n p f d
 least-done k n p f d b l m e = rw (le-antisymm m l) e
 
+-- the same of what is looked at
+pub least-same : (n : ℕ) (p q : ℕ → Bool) (f g : ℕ → ℕ) (d : ℕ) → ((k : ℕ) → k < n → pick (p k) (f k) d ≡ pick (q k) (g k) d) → leastBelow n p f d ≡ leastBelow n q g d
+unfolding leastBelow
+least-same zero p q f g d h = refl
+least-same (suc n) p q f g d h = rw (least-same n p q f g d (λ k l. h k (omega arith)), h n (omega arith))
+
 module _ (p : ℕ → Bool) (f : ℕ → ℕ) (d : ℕ) where
   -- it is no more than d, and no more than any of them
   pub least-top : (n : ℕ) → leastBelow n p f d ≤ d
@@ -69,3 +75,12 @@ module _ (p : ℕ → Bool) (f : ℕ → ℕ) (d : ℕ) where
       split (p n)
       (λ z. (n, omega arith, z, sym (e ∙ rw z)))
       (λ z. let v : pick (p n) (f n) d ≡ d = rw z in absurd (omega (arith, v, e, h))))
+
+  -- those that do not pass alter nothing
+  pub least-upto : (k n : ℕ) → k ≤ n → ((j : ℕ) → k ≤ j → j < n → p j ≡ false) → leastBelow n p f d ≡ leastBelow k p f d
+  unfolding leastBelow
+  least-upto k zero l h = rw (le-antisymm l (omega arith)) refl
+  least-upto k (suc n) l h =
+      either (eq-or-lt-of-le l)
+      (λ e. rw e refl)
+      (λ m. rw (h n (le-of-suc-le-suc m) (omega arith), least-upto k n (le-of-suc-le-suc m) (λ j a b. h j a (omega arith))) (min-eq-left (least-top k)))

@@ -1,15 +1,14 @@
--- A deadline by the parent: the rivals are its children, and an opening has none but itself. Without a lock of a rival there is none.
+-- A deadline by the parent: the rivals are its children, and an opening has none but itself. Without a lock of another rival there is none.
 -- Assumes nothing.
-use Rattle.laws.proofs.Prelude.{ℕ, zero, suc, _≤_, _<_, _≡_, refl, sym, _∙_, Bool, true, false, _&&_, List, eqb, ltb, ltb-true, not-false}
+use Rattle.laws.proofs.Prelude.{ℕ, _≤_, _<_, _≡_, sym, ap, _∙_, Bool, true, false, not, _&&_, List, eqb, ltb, eqb-true, ltb-true, not-false}
 use Rattle.laws.proofs.Prelude.{arith}
-use native.Mathlib.Nat.{le-refl, min-eq-left}
 use Rattle.laws.specs.Booleans.{pick, split, and-parts, fails-by}
-use Rattle.laws.specs.Least.{leastBelow}
+use Rattle.laws.specs.Least.{leastBelow, least-start, least-upto}
 use Rattle.laws.specs.Mask.{bit}
 use Rattle.laws.specs.Sets.{setBelow, set-bit, set-same}
 use Rattle.sheet.specs.Field.{count, parent, lockType, opening}
 use Rattle.sheet.specs.LockHeight.{never, lockHeight}
-use Rattle.slots.specs.Conflict.{conflict, conflictIn}
+use Rattle.slots.specs.Conflict.{conflict, otherConflictIn}
 use Rattle.slots.specs.Deadline.{deadline}
 use Rattle.slots.specs.Forms.Conflict.{foundIn}
 use Rattle.slots.specs.Forms.Expiring.{hasLock, expiringSet, deadlineBy}
@@ -23,9 +22,7 @@ pub rival-turn : (s : List ℕ) (d b own up k t h : ℕ) → opening s t ≡ fal
 rival-turn s d b own up k t h o e f = f ∙ rw (e, conflict-siblings s k t o)
 
 least-none : (n : ℕ) (p : ℕ → Bool) (f : ℕ → ℕ) (d : ℕ) → ((k : ℕ) → k < n → p k ≡ false) → leastBelow n p f d ≡ d
-unfolding leastBelow
-least-none zero p f d h = refl
-least-none (suc n) p f d h = rw (least-none n p f d (λ k l. h k (omega arith)), h n (omega arith)) (min-eq-left (le-refl d))
+least-none n p f d h = least-upto p f d 0 n (omega arith) (λ k a l. h k l) ∙ sym (least-start p f d)
 
 pub deadline-opening : (s : List ℕ) (d : ℕ) (block : ℕ → ℕ) (t : ℕ) → opening s t ≡ true → never ≡ deadline s d block t
 unfolding deadline
@@ -47,8 +44,9 @@ no-lock : (s : List ℕ) (d : ℕ) (block : ℕ → ℕ) (k : ℕ) → hasLock s
 unfolding hasLock lockHeight
 no-lock s d block k h = rw (not-false (eqb (lockType s k) 0) h)
 
-deadline-unlocked : (s : List ℕ) (d : ℕ) (block : ℕ → ℕ) (t : ℕ) → conflictIn s (hasLock s) t ≡ false → deadline s d block t ≡ never
-unfolding deadline
+-- no lock is above itself
+deadline-unlocked : (s : List ℕ) (d : ℕ) (block : ℕ → ℕ) (t : ℕ) → otherConflictIn s (hasLock s) t ≡ false → deadline s d block t ≡ never
+unfolding deadline otherConflictIn
 deadline-unlocked s d block t none =
     least-none (count s)
     (λ k. conflict s k t && ltb (lockHeight s d block t) (lockHeight s d block k))
@@ -57,22 +55,26 @@ deadline-unlocked s d block t none =
     fails-by (conflict s k t && ltb (lockHeight s d block t) (lockHeight s d block k))
     (λ y.
     let w = and-parts (conflict s k t) _ y in
-    let l : lockHeight s d block t < 0 =
-    ltb-true _ _ (rw (no-lock s d block k (none-in s (hasLock s) t none k i (w .0))) at (w .1)) in
-    omega (arith, l)))
+    let l : lockHeight s d block t < lockHeight s d block k = ltb-true _ _ (w .1) in
+    let out : (not (eqb k t) && hasLock s k) ≡ false = none-in s (λ j. not (eqb j t) && hasLock s j) t none k i (w .0) in
+    split (eqb k t)
+    (λ e. let m : lockHeight s d block t < lockHeight s d block t = rw (eqb-true k t e) at l in omega (arith, m))
+    (λ e. let m : lockHeight s d block t < 0 = rw (no-lock s d block k (rw e at out)) at l in omega (arith, m))))
 
 -- the set as the code makes it, and those outside it
 module _ (s : List ℕ) (few : count s ≤ 32) where
-  pub expiring-by : setBelow (count s) (foundIn s (bit (setBelow (count s) (hasLock s))) false) ≡ expiringSet s
-  unfolding expiringSet foundIn
+  pub expiring-by : setBelow (count s) (foundIn s (bit (setBelow (count s) (hasLock s))) true) ≡ expiringSet s
+  unfolding expiringSet foundIn otherConflictIn
   expiring-by =
-      set-same (count s) (conflictIn s (bit (setBelow (count s) (hasLock s)))) (conflictIn s (hasLock s))
-      (λ t l. conflictIn-same s (bit (setBelow (count s) (hasLock s))) (hasLock s) t (set-bit (count s) (hasLock s) few))
+      set-same (count s) (otherConflictIn s (bit (setBelow (count s) (hasLock s)))) (otherConflictIn s (hasLock s))
+      (λ t l.
+      conflictIn-same s (λ k. not (eqb k t) && bit (setBelow (count s) (hasLock s)) k) (λ k. not (eqb k t) && hasLock s k) t
+      (λ k i. ap (λ b. not (eqb k t) && b) (set-bit (count s) (hasLock s) few k i)))
 
   pub deadline-unexpiring : (d : ℕ) (block : ℕ → ℕ) (t : ℕ) → t < count s → bit (expiringSet s) t ≡ false → deadline s d block t ≡ never
   unfolding expiringSet
   deadline-unexpiring d block t l h =
-      deadline-unlocked s d block t (sym (set-bit (count s) (conflictIn s (hasLock s)) few t l) ∙ h)
+      deadline-unlocked s d block t (sym (set-bit (count s) (otherConflictIn s (hasLock s)) few t l) ∙ h)
 
   pub deadline-by : (d since t : ℕ) → t < count s → deadlineBy s d (expiringSet s) since t ≡ deadline s d (λ k. since) t
   unfolding deadlineBy

@@ -26,12 +26,12 @@ fn locked(sheet: &[u8]) -> u32
     found
 }
 
-// The transactions that can have a deadline: those of which some rival has a lock.
+// The transactions that can have a deadline: those of which some other rival has a lock.
 pub fn expiring(sheet: &[u8]) -> u32
     requires { ⌜ Checked (now sheet) ⌝ }
     ensures { λ r. ⌜ r ≡ expiringSet (now (sheet .entry)) ⌝ }
 {
-    conflict::conflicts_of(sheet, locked(sheet), false)
+    conflict::conflicts_of(sheet, locked(sheet), true)
 }
 
 // The deadline of t, where `since` is its parent's block and `expiring` are those that can have one.

@@ -9,16 +9,16 @@ use Rattle.laws.specs.Mask.{bit}
 use Rattle.laws.specs.Sets.{setBelow}
 use Rattle.sheet.specs.Field.{count, lockType}
 use Rattle.sheet.specs.LockHeight.{never}
-use Rattle.slots.specs.Conflict.{conflictIn}
+use Rattle.slots.specs.Conflict.{otherConflictIn}
 use Rattle.slots.specs.Deadline.{deadline}
 
 -- "lock type (0 none, 1 absolute, 2 since the parent)": k has a lock
 unfoldable pub hasLock : List ℕ → ℕ → Bool
 hasLock s k = not (eqb (lockType s k) 0)
 
--- "Deadline: the least rival lock height above one's own, else never": those of which some rival has a lock
+-- "Deadline: the least rival lock height above one's own, else never": those of which some other rival has a lock
 unfoldable pub expiringSet : List ℕ → ℕ
-expiringSet s = setBelow (count s) (conflictIn s (hasLock s))
+expiringSet s = setBelow (count s) (otherConflictIn s (hasLock s))
 
 -- the deadline of t, where `since` is its parent's block: never outside the set
 unfoldable pub deadlineBy : List ℕ → ℕ → ℕ → ℕ → ℕ → ℕ
