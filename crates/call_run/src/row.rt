@@ -8,6 +8,7 @@ use slots::Step;
 use steps::Decoded;
 use steps::View;
 use steps::decode;
+use steps::owed;
 ghost use Prim.Native.Nat.{_<_, _≤_};
 ghost use mathlib.Core.Path.{_≡_};
 ghost use lib.Dec.{eqb};
@@ -57,7 +58,7 @@ fn seen_one(view: View, members: u32, at: usize, x: Slot, mined: u16, keys: [u8;
 
 // The steps of a journal up to the first refused one, from a position on, whose view this is. Each is decoded, matched, and taken by its
 // kind's method: the position goes into it and comes back, whole, accepted or not. After an accepted one the view is brought forward, and
-// what is open now is noted where the counts are asked for.
+// what is open now is noted where the counts are asked for. The soonest deadline is looked for once for blocks in a row.
 pub fn run_row(
     from: Position,
     counts: [u32; 32],
@@ -76,11 +77,14 @@ pub fn run_row(
     let mut position = from;
     let mut opened = counts;
     let mut view = seen;
+    let mut known: u32 = 0;
     let mut k: usize = 0;
     while k < n {
         let i = 4 * k;
         let kind = journal[i];
         let byte = journal[i + 2];
+        let due = position.soonest_due(sheet, setup, view, kind, known);
+        known = owed::still_due(kind, view.block, due);
         let step = match decode::decode(sheet, setup, kind, journal[i + 1], byte, journal[i + 3]) {
             Decoded::Read(x) => x,
             Decoded::Refused => {
@@ -115,7 +119,7 @@ pub fn run_row(
                 refused = stepped.refusal;
             }
             Step::Mine(party, t, to) => {
-                let stepped = position.mine(sheet, setup, view, party, t, to);
+                let stepped = position.mine(sheet, setup, view, due, party, t, to);
                 position = stepped.position;
                 refused = stepped.refusal;
             }

@@ -1,11 +1,13 @@
--- The bumps that are owed are those of the pool that wait outside the block and can have a deadline.
+-- The bumps that are owed are those of the pool that wait outside the block and can have a deadline, and the soonest deadline is one of theirs.
 -- Assumes nothing.
-use Rattle.laws.proofs.Prelude.{ℕ, _+_, _-_, _≤_, _<_, _≡_, refl, sym, _∙_, Bool, true, false, _&&_, and-false, List, eqb, length, eq-eqb}
+use Rattle.laws.proofs.Prelude.{ℕ, _+_, _-_, _≤_, _<_, _≡_, refl, sym, ap, _∙_, Bool, true, false, _&&_, and-false, List, eqb, ltb, length, eq-eqb}
 use Rattle.laws.proofs.Prelude.{ne-eqb, arith}
+use Prim.Native.Nat.{min}
 use mathlib.Core.Bool.{and-true}
 use lib.Bits.{bitAnd}
-use Rattle.laws.specs.Booleans.{split}
+use Rattle.laws.specs.Booleans.{pick, split}
 use Rattle.laws.specs.Below.{anyBelow, any-same, any-all-false}
+use Rattle.laws.specs.Least.{leastBelow, least-start, least-more, least-same, least-upto}
 use Rattle.laws.specs.Mask.{bit}
 use Rattle.laws.specs.Bits.{bit-and, no-bit}
 use Rattle.laws.specs.Sets.{set-bit, bit-outside}
@@ -22,7 +24,7 @@ use Rattle.position.specs.declared.Position.{Position}
 use Rattle.position.specs.Position.{inPool, inBlock, blockOf, deadlineIn}
 use Rattle.position.specs.Owed.{waiting, owed, anyOwed}
 use Rattle.position.specs.Forms.View.{viewBelow, sinceIn}
-use Rattle.position.specs.Forms.Owed.{dueIn}
+use Rattle.position.specs.Forms.Owed.{dueIn, soonestIn, soonestDue}
 use Rattle.position.proofs.SendTests.{deadline-parent, since-parent}
 
 -- a loop over a set: none outside it, none below its first member, and none up to the next
@@ -49,6 +51,42 @@ module _ (s : List ℕ) (d : ℕ) (p : Position) (m among : ℕ) where
   unfolding dueIn dueNext
   due-found n t b h l e f a o = any-member among dueNext n t l e (rw (← f, ← a, eq-eqb (m + 1) h o) refl)
 
+-- the same of the soonest deadline
+module _ (s : List ℕ) (d : ℕ) (p : Position) (m among : ℕ) where
+  abbrev height : ℕ → ℕ
+  height t = deadline s d (λ k. sinceIn s p t) t
+
+  unfoldable pub soonestBelow : ℕ → ℕ
+  soonestBelow t = leastBelow t (λ j. bit among j && ltb m (height j)) height never
+
+  outside : (j : ℕ) → bit among j ≡ false → (bit among j && ltb m (height j)) ≡ false
+  outside j e = rw e
+
+  pub soonest-first : (n t : ℕ) → Next among 0 n t → never ≡ soonestBelow t
+  unfolding soonestBelow
+  soonest-first n t h =
+      least-start (λ j. bit among j && ltb m (height j)) height never
+      ∙ sym (least-upto (λ j. bit among j && ltb m (height j)) height never 0 t (h .low) (λ j a l. outside j (h .gap j a l)))
+
+  -- where h is the deadline that the code found, a what counts of it, and o the lower of this and the best before
+  pub soonest-next : (n t r b h a best o : ℕ) → Next among (t + 1) n r → bit among t ≡ true → best ≡ soonestBelow t → b ≡ sinceIn s p t
+      → h ≡ deadline s d (λ k. b) t → a ≡ pick (ltb m h) h never → o ≡ min best a → o ≡ soonestBelow r
+  unfolding soonestBelow
+  soonest-next n t r b h a best o g i e f c w x =
+      let y : a ≡ pick (bit among t && ltb m (height t)) (height t) never = rw (i, ← f, ← c) w in
+      least-more t (λ j. bit among j && ltb m (height j)) height never best a o e y x
+      ∙ sym (least-upto (λ j. bit among j && ltb m (height j)) height never (t + 1) r (g .low) (λ j l k. outside j (g .gap j l k)))
+
+  pub soonest-none : among ≡ 0 → never ≡ soonestIn s d p m among
+  unfolding soonestIn
+  soonest-none z =
+      least-start (λ j. bit among j && ltb m (height j)) height never
+      ∙ sym (least-upto (λ j. bit among j && ltb m (height j)) height never 0 (count s) (omega arith) (λ j a l. outside j (rw z (no-bit j))))
+
+never-never : (b : Bool) → pick b never never ≡ never
+never-never true = refl
+never-never false = refl
+
 -- where v is the view that the code found
 module _ (s u : List ℕ) (p : Position) (v : View) (few : count s ≤ 32) (slots : length (p .slots) ≡ 32) (e : v ≡ viewBelow s (count s) p) (word : v .block < 4294967296) (mined : v .mined < 65536) where
   -- the set that the code looks through
@@ -65,11 +103,14 @@ module _ (s u : List ℕ) (p : Position) (v : View) (few : count s ≤ 32) (slot
   unfolding viewBelow
   mined-is = rw e
 
+  never-outside : (t : ℕ) → t < count s → bit (expiringSet s) t ≡ false → deadlineIn s u p t ≡ never
+  unfolding deadlineIn
+  never-outside t l h = deadline-unexpiring s few (perDay u) (blockOf p) t l h
+
   -- no block is at never
   unexpiring : (t : ℕ) → t < count s → bit (expiringSet s) t ≡ false → eqb (p .mined + 1) (deadlineIn s u p t) ≡ false
-  unfolding deadlineIn
   unexpiring t l h =
-      rw (deadline-unexpiring s few (perDay u) (blockOf p) t l h)
+      rw (never-outside t l h)
       (ne-eqb (p .mined + 1) never (λ q. omega (arith, q, mined, mined-is)))
 
   due-owed : (t : ℕ) → t < count s → dueIn s (perDay u) p (v .mined) among t ≡ owed s u p t
@@ -90,3 +131,26 @@ module _ (s u : List ℕ) (p : Position) (v : View) (few : count s ≤ 32) (slot
       (sym
       (any-all-false (count s) (dueIn s (perDay u) p (v .mined) among)
       (λ k l. no-member s (perDay u) p (v .mined) among k (rw z (no-bit k)))))
+
+  due-soonest : (t : ℕ) → t < count s
+      → pick (bit among t && ltb (v .mined) (deadline s (perDay u) (λ k. sinceIn s p t) t)) (deadline s (perDay u) (λ k. sinceIn s p t) t) never
+      ≡ pick (waiting p t && ltb (p .mined) (deadlineIn s u p t)) (deadlineIn s u p t) never
+  due-soonest t l =
+      rw (among-bit t l, since-parent s p slots t, deadline-parent s u p t, mined-is)
+      (split (bit (expiringSet s) t)
+      (λ y. rw (y, and-true (waiting p t)))
+      (λ y. rw (y, and-false (waiting p t), never-outside t l y) (sym (never-never (waiting p t && ltb (p .mined) never)))))
+
+  all-soonest : soonestIn s (perDay u) p (v .mined) among ≡ soonestDue s u p
+  unfolding soonestIn soonestDue
+  all-soonest =
+      least-same (count s)
+      (λ t. bit among t && ltb (v .mined) (deadline s (perDay u) (λ k. sinceIn s p t) t))
+      (λ t. waiting p t && ltb (p .mined) (deadlineIn s u p t))
+      (λ t. deadline s (perDay u) (λ k. sinceIn s p t) t) (deadlineIn s u p) never due-soonest
+
+  pub soonest-all : (d r : ℕ) → d ≡ perDay u → r ≡ soonestIn s d p (v .mined) among → r ≡ soonestDue s u p
+  soonest-all d r f h = (h ∙ ap (λ (x : ℕ). soonestIn s x p (v .mined) among) f) ∙ all-soonest
+
+  pub none-soonest : among ≡ 0 → never ≡ soonestDue s u p
+  none-soonest z = soonest-all (perDay u) never refl (soonest-none s (perDay u) p (v .mined) among z)

@@ -13,6 +13,7 @@ pub mod EmptyBlocks
 pub mod SendTests
 pub mod MineTests
 pub mod Due
+pub mod SoonestDue
 pub mod Fields
 pub mod Outcomes
 pub mod Guards

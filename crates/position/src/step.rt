@@ -14,6 +14,7 @@ use steps::mining;
 use steps::names::LOCK_A;
 use steps::names::LOCK_B;
 use steps::names::NO_TRANSACTION;
+use steps::owed;
 use steps::parent;
 use steps::sending;
 use steps::sharing;
@@ -27,6 +28,7 @@ ghost use Rattle.steps.specs.Names.{lockA, lockB};
 ghost use Rattle.position.specs.Position.{slot};
 ghost use Rattle.position.specs.Forms.FirstShares.{isEarly, shareable};
 ghost use Rattle.position.specs.Play.{takeStep};
+ghost use Rattle.position.specs.Forms.Owed.{soonestDue};
 ghost use Rattle.position.specs.Forms.View.{viewBelow};
 
 impl Position {
@@ -244,21 +246,23 @@ impl Position {
         }
     }
 
-    // 6 Mine. An empty block changes only the blocks mined.
+    // 6 Mine, where `due` is the soonest deadline of those that wait. An empty block changes only the blocks mined.
     pub fn mine(
         mut self,
         sheet: &[u8],
         setup: &[u8],
         view: View,
+        due: u32,
         party: u8,
         t: u8,
         to: Destination,
     ) -> Stepped
         requires { ⌜ Fit (now sheet) (now setup) ⌝ }
         requires { ⌜ view ≡ viewBelow (now sheet) (count (now sheet)) self ⌝ }
+        requires { ⌜ due ≡ soonestDue (now sheet) (now setup) self ⌝ }
         ensures { λ r. ⌜ r ≡ takeStep (now (sheet .entry)) (now (setup .entry)) self (Mine party t to) ⌝ }
     {
-        let any = self.any_owed(sheet, setup, view);
+        let any = owed::is_next(view.mined, due);
         let refusal = mining::mine_refusal(view, any);
         if outcome::entries_after(refusal, view.block) != 0 {
             let position = self.after_entries(sheet, view);

@@ -11,7 +11,7 @@ ghost use Rattle.slots.specs.Forms.Height.{Height};
 ghost use Rattle.slots.specs.Deadline.{deadline};
 
 // The lower of two heights.
-fn lower(best: u32, height: u32) -> u32
+pub fn lower(best: u32, height: u32) -> u32
     ensures { λ r. ⌜ r ≡ min best height ⌝ }
 {
     if best <= height { best } else { height }
