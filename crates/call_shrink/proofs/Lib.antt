@@ -1,9 +1,11 @@
+pub mod SameParts
 pub mod Rows
 pub mod Rounding
 pub mod Positions
 pub mod Trying
 pub mod Writing
 pub mod Twins
+pub mod LostRows
 pub mod Testing
 pub mod Refused
 pub mod Repeating

@@ -1,7 +1,7 @@
 -- A step that could not go, and the same step right after it: that one cannot go either, so it need not be tried.
 -- Assumes nothing.
 use Rattle.laws.proofs.Prelude.{ℕ, _+_, _-_, _*_, _≤_, _≡_, refl, sym, _∙_, Bool, true, false, not, _&&_, and-false, List, [], _∷_, eqb}
-use Rattle.laws.proofs.Prelude.{ltb, length, take, drop, eqb-true, eq-eqb, lt-ltb, arith}
+use Rattle.laws.proofs.Prelude.{ltb, length, eqb-true, eq-eqb, lt-ltb, arith}
 use Rattle.laws.specs.Booleans.{split, either, clash, and-parts}
 use Rattle.sheet.specs.Refusal.{accepted}
 use Rattle.position.specs.declared.Position.{Position}
@@ -11,9 +11,8 @@ use Rattle.position.specs.Forms.Journal.{stepAt}
 use Rattle.position.proofs.RowSteps.{run-next, run-ends}
 use Rattle.call_run.proofs.Groups.{groupsFrom, groups-all, groups-next}
 use Rattle.call_shrink.specs.Shrink.{stillRefused}
-use Rattle.call_shrink.specs.Forms.Round.{sameStep, goesAt, triedAt, positionPast}
+use Rattle.call_shrink.specs.Forms.Round.{sameStep, goesAt, positionPast}
 use Rattle.call_shrink.proofs.Rows.{still-append, first-accepted}
-use Rattle.call_shrink.proofs.Writing.{goes-after}
 
 same-four : (a b : FourBytes) → a .kind ≡ b .kind → a .party ≡ b .party → a .transaction ≡ b .transaction → a .destination ≡ b .destination
     → _≡_ {A = FourBytes} (record { kind = a .kind; party = a .party; transaction = a .transaction; destination = a .destination })
@@ -67,18 +66,15 @@ module _ (s u : List ℕ) (number : ℕ) where
     pub twins-start : (p : Position) → p ≡ start s → stillRefused s u number (start s) (journalSteps j) ≡ true → Twins p true 0
     twins-start p e h = record { still = λ l. rw (groups-all j, e) h; later = λ f. clash refl f; stays = λ f l t. clash refl f }
 
-    module _ (p : Position) (k : ℕ) (went twin going : Bool) (w : Twins p went k) (h : 4 * k + 4 ≤ length j)
-        (d : twin ≡ (not went && sameStep (stepAt j (4 * k - 4)) (stepAt j (4 * k)))) where
-      -- a twin that is not tried cannot go
-      pub tried : going ≡ triedAt s u number twin p (journalSteps (take (length j - (4 * k + 4)) (drop (4 * k + 4) j))) → going ≡ goesAt s u number p (groupsFrom j (k + 1))
-      unfolding triedAt
-      tried e =
-          split twin
-          (λ y.
+    module _ (p : Position) (k : ℕ) (went : Bool) where
+      -- a twin cannot go
+      pub twin-stays-too : (twin : Bool) → Twins p went k → 4 * k + 4 ≤ length j → twin ≡ (not went && sameStep (stepAt j (4 * k - 4)) (stepAt j (4 * k)))
+          → twin ≡ true → goesAt s u number p (groupsFrom j (k + 1)) ≡ false
+      twin-stays-too twin w h d y =
           let a = and-parts (not went) (sameStep (stepAt j (4 * k - 4)) (stepAt j (4 * k))) (sym d ∙ y) in
-          split went (λ z. clash (rw z at (a .0)) refl) (λ z. (rw y at e) ∙ sym (w .stays z h (a .1))))
-          (λ y. goes-after s u number j k p going (rw y at e))
+          split went (λ z. clash (rw z at (a .0)) refl) (λ z. w .stays z h (a .1))
 
+    module _ (p : Position) (k : ℕ) (went going : Bool) (w : Twins p went k) (h : 4 * k + 4 ≤ length j) where
       pub twins-more : (q : Position) → going ≡ goesAt s u number p (groupsFrom j (k + 1)) → q ≡ positionPast s u going p (stepAt j (4 * k)) → Twins q going (k + 1)
       unfolding positionPast goesAt
       twins-more q e f =

@@ -11,6 +11,7 @@ ghost use Rattle.call_shrink.specs.Shrink.{longTests, shrinkAnswer};
 pub mod refusal;
 mod round;
 mod rounds;
+mod same;
 
 // The answer: the refusal, and the steps written.
 pub struct Shrunk {

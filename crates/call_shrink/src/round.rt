@@ -1,4 +1,5 @@
 // One round over a row of steps: each is tried from the position before it.
+use crate::same::same;
 use call_run::journal::run_from;
 use call_run::journal::step_at;
 use output::open::write_step;
@@ -7,6 +8,7 @@ use position::journal::start;
 ghost use Prim.Native.Nat.{_+_, _-_, _≤_};
 ghost use mathlib.Core.Path.{_≡_};
 ghost use mathlib.Core.Bool.{true, false, not, _&&_};
+ghost use mathlib.Core.Logic.{_⊎_};
 ghost use lib.ListN.{length};
 ghost use Rattle.laws.specs.Over.{over};
 ghost use Rattle.sheet.specs.Checked.{Fit};
@@ -14,7 +16,14 @@ ghost use Rattle.position.specs.Position.{start};
 ghost use Rattle.position.specs.Play.{journalSteps, journalBytes};
 ghost use Rattle.position.specs.Forms.Journal.{stepAt};
 ghost use Rattle.call_shrink.specs.Shrink.{stillRefused, round};
-ghost use Rattle.call_shrink.specs.Forms.Round.{sameStep, triedAt, keptStep, positionPast};
+ghost use Rattle.call_shrink.specs.Forms.Round.{sameStep, triedAt, keptStep, positionPast, Meets, lostAfter};
+
+// A row that does not come to the number: its position before the step at byte 4 * from, from which on it has all steps.
+pub struct Lost {
+    pub held: bool,
+    pub from: usize,
+    pub position: Position,
+}
 
 // Whether the step at byte i has the bytes of the one before it, which could not go: then dropping either gives the same row.
 fn again(went: bool, steps: &[u8], i: usize) -> bool
@@ -38,10 +47,60 @@ fn again(went: bool, steps: &[u8], i: usize) -> bool
     steps[before + 3] == steps[i + 3]
 }
 
-// Whether the step before these can go: they run up to the last one, which gets the number. The run ends at the first step that is
-// refused. A step that is the one before it again is not tried.
-fn goes(
+// Whether a step cannot go without a try: it is a twin, or a block after which a row that is lost comes to the position before it, so that
+// dropping either gives the same. `passed` are the steps of that row up to the block and with it.
+fn stays(
     twin: bool,
+    lost: Lost,
+    here: Position,
+    kind: u8,
+    sheet: &[u8],
+    setup: &[u8],
+    passed: &[u8],
+) -> bool
+    requires { ⌜ Fit (now sheet) (now setup) ⌝ }
+    requires { ⌜ length (now passed) ≤ 65536 ⌝ }
+    ensures { λ r. ⌜ (r ≡ true → (twin ≡ true) ⊎ Meets (now (sheet .entry)) (now (setup .entry)) lost here (journalSteps (now (passed .entry)))) ⌝ }
+{
+    if twin {
+        return true;
+    }
+    if kind != 6 {
+        return false;
+    }
+    if !lost.held {
+        return false;
+    }
+    let from = lost.position;
+    let ran = run_from(from, sheet, setup, passed);
+    if ran.refusal != 0 {
+        return false;
+    }
+    let there = ran.position;
+    same(there, here)
+}
+
+// The row that is lost after a step was tried: one without the last block that could not go.
+fn lost_after(lost: Lost, going: bool, kind: u8, here: Position, from: usize) -> Lost
+    ensures { λ r. ⌜ r ≡ lostAfter lost going kind here from ⌝ }
+{
+    if going {
+        return lost;
+    }
+    if kind != 6 {
+        return lost;
+    }
+    Lost {
+        held: true,
+        from,
+        position: here,
+    }
+}
+
+// Whether the step before these can go: they run up to the last one, which gets the number. The run ends at the first step that is
+// refused. A step that stays is not tried.
+fn goes(
+    stay: bool,
     position: Position,
     sheet: &[u8],
     setup: &[u8],
@@ -50,9 +109,9 @@ fn goes(
 ) -> bool
     requires { ⌜ Fit (now sheet) (now setup) ⌝ }
     requires { ⌜ length (now after) ≤ 65536 ⌝ }
-    ensures { λ r. ⌜ r ≡ triedAt (now (sheet .entry)) (now (setup .entry)) number twin position (journalSteps (now (after .entry))) ⌝ }
+    ensures { λ r. ⌜ r ≡ triedAt (now (sheet .entry)) (now (setup .entry)) number stay position (journalSteps (now (after .entry))) ⌝ }
 {
-    if twin {
+    if stay {
         return false;
     }
     let n = after.len() / 4;
@@ -114,13 +173,28 @@ pub fn write_round(sheet: &[u8], setup: &[u8], number: u32, steps: &[u8], out: &
 {
     let n = steps.len() / 4;
     let mut here = start(sheet);
+    let mut lost = Lost {
+        held: false,
+        from: 0,
+        position: here,
+    };
     let mut at: usize = 0;
     let mut went = true;
     let mut k: usize = 0;
     while k < n {
         let twin = again(went, steps, 4 * k);
-        let going = goes(twin, here, sheet, setup, number, &steps[4 * k + 4..]);
+        let stay = stays(
+            twin,
+            lost,
+            here,
+            steps[4 * k],
+            sheet,
+            setup,
+            &steps[4 * lost.from..4 * k + 4],
+        );
+        let going = goes(stay, here, sheet, setup, number, &steps[4 * k + 4..]);
         let wrote = write_kept(going, steps, 4 * k, &mut out[at..]);
+        lost = lost_after(lost, going, steps[4 * k], here, k + 1);
         here = past(going, here, sheet, setup, steps, 4 * k);
         at += wrote;
         went = going;

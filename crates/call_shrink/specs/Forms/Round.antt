@@ -2,14 +2,15 @@
 -- Assumes nothing.
 use Prim.Native.Nat.{ℕ, _*_}
 use mathlib.Core.Path.{_≡_}
-use mathlib.Core.Bool.{Bool, false, _&&_}
+use mathlib.Core.Bool.{Bool, true, false, not, _&&_}
 use mathlib.Core.List.{List, [], _∷_, _++_}
 use lib.Dec.{eqb, ltb}
 use lib.ListN.{length, take}
 use Rattle.laws.specs.Booleans.{pick}
 use Rattle.position.specs.declared.Position.{Position}
-use Rattle.position.specs.Play.{FourBytes, journalSteps, journalBytes, step}
+use Rattle.position.specs.Play.{FourBytes, journalSteps, journalBytes, step, runFrom}
 use Rattle.position.specs.Answers.{Written, fitted}
+use Rattle.call_shrink.specs.declared.round.Lost.{Lost}
 use Rattle.call_shrink.specs.Shrink.{stillRefused, shrunk}
 
 -- the step before these can go, tried from the position before it
@@ -20,9 +21,19 @@ goesAt s u number p after = ltb 0 (length after) && stillRefused s u number p af
 unfoldable pub sameStep : FourBytes → FourBytes → Bool
 sameStep a b = eqb (a .kind) (b .kind) && (eqb (a .party) (b .party) && (eqb (a .transaction) (b .transaction) && eqb (a .destination) (b .destination)))
 
--- the same, but that a twin of a step that could not go is not tried: it cannot go either
+-- the same, but that a step which stays in any case is not tried
 unfoldable pub triedAt : List ℕ → List ℕ → ℕ → Bool → Position → List FourBytes → Bool
-triedAt s u number twin p after = pick twin false (goesAt s u number p after)
+triedAt s u number stay p after = pick stay false (goesAt s u number p after)
+
+-- with these steps a row that is lost comes to the position `here`
+pub record Meets (s u : List ℕ) (lost : Lost) (here : Position) (passed : List FourBytes) : Type 0 where
+  pub held : lost .held ≡ true
+  pub accepted : runFrom s u passed 0 (lost .position) .refusal ≡ 0
+  pub there : runFrom s u passed 0 (lost .position) .position ≡ here
+
+-- the row that is lost after a step was tried from `here`, where `from` is the number of the next: one without the last block that could not go
+unfoldable pub lostAfter : Lost → Bool → ℕ → Position → ℕ → Lost
+lostAfter lost goes kind here from = pick (not goes && eqb kind 6) (record { held = true; from = from; position = here }) lost
 
 -- a step that goes is not kept, and is not played
 unfoldable pub keptStep : Bool → FourBytes → List FourBytes
