@@ -8,12 +8,12 @@ use std::time::Duration;
 use swap_tests::clock::thread_time;
 use swap_tests::engine;
 use swap_tests::random::{Case, Random, MINE};
-use swap_tests::slow::apart;
+use swap_tests::slow::{apart, rivals, since_parent};
 
 /// The most steps of a journal that is shrunk.
 const MOST: usize = 1_024;
 /// How many of 30 transactions wait, in the shapes that it begins with.
-const WAITING: [u8; 5] = [10, 14, 18, 20, 22];
+const WAITING: [u8; 3] = [1, 2, 10];
 
 /// A case that is changed: the sheet's head, its rows and locks, and the steps.
 #[derive(Clone)]
@@ -246,11 +246,12 @@ fn main() -> std::io::Result<()> {
     let most = Duration::from_secs(number(0).unwrap_or(60));
     let mut random = Random::new(number(1).unwrap_or(1));
     let steps = number(2).map_or(MOST, |steps| steps as usize);
-    let begin = WAITING.map(|waiting| {
-        let case = apart(waiting, 30 - waiting, steps);
-        Timed::new(Draft::of(&case))
-    });
-    let mut kept = Kept(begin.to_vec());
+    let mut begin = WAITING
+        .map(|waiting| apart(waiting, 30 - waiting, steps))
+        .to_vec();
+    begin.extend([rivals(3, 25, steps), since_parent(6)]);
+    let begin = begin.iter().map(|case| Timed::new(Draft::of(case)));
+    let mut kept = Kept(begin.collect());
     let mut tried = 0;
     say(&kept, tried, &words)?;
     while thread_time() < most {

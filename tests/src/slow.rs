@@ -93,8 +93,8 @@ impl Draft {
     }
 
     /// A chain of so many, for which Bob and Carol share: Alice's sends, each before a block. They wait in the pool, their locks are
-    /// reached, and the last exposes the secret.
-    fn wait(&mut self, count: u8) -> Vec<[u8; 4]> {
+    /// reached, and the last exposes the secret. With rivals each but the first has one whose lock is far.
+    fn wait(&mut self, count: u8, rivals: bool) -> Vec<[u8; 4]> {
         let mut sent = vec![];
         let mut parent = 255;
         for left in (0..count).rev() {
@@ -103,7 +103,11 @@ impl Draft {
             } else {
                 (0, 0, CONTRACT)
             };
-            parent = self.add(parent, payees, BOBS | CAROLS | more, [1, 1]);
+            let up = parent;
+            parent = self.add(up, payees, BOBS | CAROLS | more, [1, 1]);
+            if rivals && up != 255 {
+                self.add(up, 3, BOBS, [1, 255]);
+            }
             self.share(parent, to, [BOB, CAROL]);
             sent.extend([[3, ALICE, parent, to], MINE]);
         }
@@ -182,6 +186,11 @@ pub fn waiting(levels: u8, blocks: usize) -> Case {
 /// the pool. A chain of `going` others needs a secret that the last of these exposes. So each round can drop a step or two of that chain
 /// and then of the first. It has at most so many steps, if these have room.
 pub fn apart(waiting: u8, going: u8, steps: usize) -> Case {
+    waiting_apart(waiting, false, going, steps)
+}
+
+/// Either of the two, with or without rivals.
+fn waiting_apart(waiting: u8, rivals: bool, going: u8, steps: usize) -> Case {
     let mut draft = Draft::default();
     let first = draft.add(255, 0, BOBS, [0, 0]);
     draft.journal = vec![[3, BOB, first, CONTRACT], [5, 2, first, 2]];
@@ -189,7 +198,7 @@ pub fn apart(waiting: u8, going: u8, steps: usize) -> Case {
     let refused = draft.add(first, 1, BOBS | CAROLS | GIVEN, [0, 0]);
     draft.give();
     draft.share(refused, ALICE, [BOB, CAROL]);
-    let sent = draft.wait(waiting);
+    let sent = draft.wait(waiting, rivals);
     let end = draft.shared_chain(going);
     draft.journal.extend(sent);
     let before = (steps - 2).saturating_sub(end.len());
@@ -197,6 +206,11 @@ pub fn apart(waiting: u8, going: u8, steps: usize) -> Case {
     draft.journal.extend(end);
     let masks = [ALICES | SECRET, BOBS, CAROLS | GIVEN];
     draft.finish(refused, [vec![128, 8, SECRET], masks.to_vec()].concat())
+}
+
+/// The same, with rivals of those that wait.
+pub fn rivals(waiting: u8, going: u8, steps: usize) -> Case {
+    waiting_apart(waiting, true, going, steps)
 }
 
 /// The one of these that takes longest, of so many transactions.

@@ -7,7 +7,7 @@ use std::hint::black_box;
 use swap_tests::calls::FAST;
 use swap_tests::engine;
 use swap_tests::random::Case;
-use swap_tests::slow::{since_parent, slow, slowest, waiting};
+use swap_tests::slow::{apart, rivals, since_parent, slow, slowest, waiting};
 
 /// How often a call is timed. The least processor time counts.
 const TURNS: usize = 2;
@@ -91,8 +91,16 @@ pub fn rates() {
         let name = format!("{levels} waiting below far-locked rivals, and such a chain");
         shrink_row(&name, &waiting(levels, 8));
     }
+    for few in [2, 10] {
+        let name = format!("{few} waiting, and {} that go", 30 - few);
+        shrink_row(&name, &apart(few, 30 - few, 1_024));
+    }
+    shrink_row(
+        "3 waiting with rivals, and 25 that go",
+        &rivals(3, 25, 1_024),
+    );
     for steps in [512, 768, 1_024] {
-        shrink_row("the slowest of 32 transactions", &slowest(32, steps));
+        shrink_row("18 waiting, and 12 that go", &slowest(32, steps));
     }
     for transactions in [4, 8, 16] {
         let name = format!("the same of {transactions}");
