@@ -1,13 +1,7 @@
 -- More that X sends brings no less.
 -- Assumes nothing.
-use Rattle.laws.proofs.Prelude.{ℕ, _<_, _≡_, sym, _∙_, Bool, true, not, _&&_, List, eqb}
-use Rattle.laws.specs.Booleans.{and-parts}
-use Rattle.laws.specs.Below.{anyBelow, any-some, any-found}
-use Rattle.laws.specs.Mask.{bit}
-use Rattle.laws.specs.Sets.{set-bit}
-use Rattle.sheet.specs.Field.{count}
-use Rattle.sheet.specs.Checked.{Checked}
-use Rattle.slots.specs.Destination.{destinations}
+use Rattle.laws.proofs.Prelude.{ℕ, _<_, _≡_, sym, _∙_, Bool, true, not, _&&_, List, eqb, and-parts, anyBelow, any-some, any-found, bit, set-bit}
+use Rattle.position.proofs.Rules.{count, Checked, destinations}
 use Rattle.position.specs.declared.Position.{Position}
 use Rattle.attainable.specs.Attainable.{comes, attainable, attainableElsewhere}
 use Rattle.attainable.proofs.Parts.{Way, waits, lent, signs, comes-parts, comes-from, comes-more}

@@ -1,16 +1,10 @@
 -- The answers, of every position and party of which the record was read: a loop that looks for secrets shown, and one over the transactions.
 -- Assumes nothing.
-use Rattle.laws.proofs.Prelude.{ℕ, _-_, _^_, _≤_, _<_, _≡_, ap, _∙_, true, not, _&&_, _||_, List, eqb, arith}
-use lib.Bits.{bitAnd, bitOr, or-add-and, and-le-r, or-lt}
-use Rattle.laws.specs.Booleans.{clash}
-use Rattle.laws.specs.Below.{anyBelow}
-use Rattle.laws.specs.Mask.{bit}
-use Rattle.laws.specs.Bits.{bit-or, no-bit}
-use Rattle.laws.specs.Sets.{setBelow, set-bit, set-same, set-small}
-use Rattle.sheet.specs.Field.{count}
-use Rattle.sheet.specs.Checked.{Checked}
-use Rattle.slots.specs.Destination.{destinations}
+use Rattle.laws.proofs.Prelude.{ℕ, _-_, _^_, _≤_, _<_, _≡_, ap, _∙_, true, not, _&&_, _||_, List, eqb, arith, bitAnd, bitOr, or-lt, clash, anyBelow, bit, bit-or, no-bit}
+use Rattle.laws.proofs.Prelude.{setBelow, set-bit, set-same, set-small}
+use Rattle.position.proofs.Rules.{count, Checked, destinations}
 use Rattle.position.specs.declared.Position.{Position}
+use lib.Bits.{or-add-and, and-le-r}
 use Rattle.attainable.specs.declared.Others.{Others}
 use Rattle.attainable.specs.Attainable.{comes, attainable, attainableElsewhere}
 use Rattle.attainable.specs.Forms.Others.{waitsApart, sendsApart, Reads}

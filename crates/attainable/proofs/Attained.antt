@@ -1,22 +1,12 @@
 -- What is found from what was read is what can come.
 -- Assumes nothing.
-use Rattle.laws.proofs.Prelude.{ℕ, zero, suc, _-_, _≤_, _<_, _≡_, refl, sym, _∙_, Bool, true, false, not, _&&_, _||_, List, _⊎_, inl, inr, eqb, ltb}
-use Rattle.laws.proofs.Prelude.{ltb-true, ne-eqb, not-true, arith}
-use lib.Bits.{bitAnd, bitOr}
-use Rattle.laws.specs.Booleans.{pick, split, either, clash, and-parts, or-parts, or-right}
-use Rattle.laws.specs.Below.{anyBelow, any-some, any-found}
-use Rattle.laws.specs.Mask.{bit}
-use Rattle.laws.specs.Bits.{bit-or, bit-and, or-bit, union-bit}
-use Rattle.laws.specs.Sets.{setBelow, set-bit, set-same, set-small, bit-outside}
-use Rattle.laws.specs.Unions.{union-same}
-use Rattle.sheet.specs.Field.{count, parent, opening}
-use Rattle.sheet.specs.Checked.{Checked}
-use Rattle.slots.specs.Destination.{destinations}
-use Rattle.slots.specs.Ancestry.{hasParent}
-use Rattle.slots.proofs.Parents.{parent-below}
-use Rattle.steps.specs.Decode.{sendsTo}
+use Rattle.laws.proofs.Prelude.{ℕ, zero, suc, _-_, _≤_, _<_, _≡_, refl, sym, _∙_, Bool, true, false, not, _&&_, _||_, List, _⊎_, inl, inr, eqb, ltb, ltb-true, ne-eqb}
+use Rattle.laws.proofs.Prelude.{not-true, arith, bitAnd, bitOr, pick, split, either, clash, and-parts, or-parts, or-right, anyBelow, any-some, any-found, bit, bit-or}
+use Rattle.laws.proofs.Prelude.{bit-and, or-bit, union-bit, setBelow, set-bit, set-same, set-small, bit-outside}
+use Rattle.position.proofs.Rules.{count, parent, opening, Checked, destinations, hasParent, sendsTo, isConfirmed}
 use Rattle.position.specs.declared.Position.{Position}
-use Rattle.position.specs.Position.{isConfirmed}
+use Rattle.laws.specs.Unions.{union-same}
+use Rattle.slots.proofs.Parents.{parent-below}
 use Rattle.position.proofs.SendTests.{hasParent-set}
 use Rattle.attainable.specs.declared.Others.{Others}
 use Rattle.attainable.specs.Attainable.{gone, secretsOf, shownBy, waitsFor, comes, attainable, Closed}

@@ -1,19 +1,13 @@
 -- Lacks: which secrets meet them.
 -- Assumes nothing.
-use Rattle.laws.proofs.Prelude.{ℕ, zero, suc, _*_, _-_, _/_, _%_, _^_, _≤_, _<_, _≡_, refl, sym, _∙_, Bool, true, false, not, _&&_, List}
-use Rattle.laws.proofs.Prelude.{eqb, eqb-true, ne-eqb, eq-eqb, not-true, arith}
+use Rattle.laws.proofs.Prelude.{ℕ, zero, suc, _*_, _-_, _/_, _%_, _^_, _≤_, _<_, _≡_, refl, sym, _∙_, Bool, true, false, not, _&&_, List, eqb, eqb-true, ne-eqb, eq-eqb}
+use Rattle.laws.proofs.Prelude.{not-true, arith, Bool·beq, bitAnd, bitOr, split, clash, either, and-parts, beq-same, fails-by, allBelow, all-at, bit, subset, without}
+use Rattle.laws.proofs.Prelude.{bit-and, no-bit, or-bit, bit-above, zero-or-one, subset-bit, bit-outside}
+use Rattle.position.proofs.Rules.{count, signatures, required, Checked, signed, sharesTo}
 use native.Mathlib.Nat.{pow-succ'}
-use mathlib.Core.Bool.{Bool·beq}
-use lib.Bits.{bitAnd, bitOr, and-le-l}
-use Rattle.laws.specs.Booleans.{split, clash, either, and-parts, beq-same, fails-by}
-use Rattle.laws.specs.Below.{allBelow, all-at}
-use Rattle.laws.specs.Mask.{bit, subset, without}
-use Rattle.laws.specs.Bits.{bit-and, no-bit, or-bit, bit-half, bit-above, zero-or-one, subset-bit}
-use Rattle.laws.specs.Sets.{bit-first, bit-outside}
-use Rattle.sheet.specs.Field.{count, signatures, required}
-use Rattle.sheet.specs.Checked.{Checked}
-use Rattle.slots.specs.Signatures.{signed}
-use Rattle.steps.specs.Decode.{sharesTo}
+use lib.Bits.{and-le-l}
+use Rattle.laws.specs.Bits.{bit-half}
+use Rattle.laws.specs.Sets.{bit-first}
 use Rattle.attainable.specs.Forms.Others.{meets, Lacks}
 use Rattle.attainable.proofs.Masks.{subset-from, or-left, or-last}
 

@@ -1,15 +1,10 @@
 -- Bits of unions and subsets, and the number of a set's members.
 -- Assumes nothing.
-use Rattle.laws.proofs.Prelude.{ℕ, zero, suc, _+_, _-_, _≤_, _<_, _≡_, refl, ap, _∙_, Bool, true, false, not, _&&_, _||_, _⊎_, inl, inr, arith}
-use native.Mathlib.Nat.{not-suc-le-zero, le-of-suc-le-suc, eq-or-lt-of-le, le-antisymm}
+use Rattle.laws.proofs.Prelude.{ℕ, zero, suc, _+_, _-_, _≤_, _<_, _≡_, refl, ap, _∙_, Bool, true, false, not, _&&_, _||_, _⊎_, inl, inr, arith, not-suc-le-zero}
+use Rattle.laws.proofs.Prelude.{le-of-suc-le-suc, eq-or-lt-of-le, le-antisymm, bitAnd, bitOr, pick, split, either, or-right, allBelow, all-from, bit, subset, unionBelow}
+use Rattle.laws.proofs.Prelude.{bit-or, setBelow, set-same, bit-outside, sumBelow}
 use native.Mathlib.Numerals.{add-one}
-use lib.Bits.{bitAnd, bitOr}
-use Rattle.laws.specs.Booleans.{pick, split, either, or-right}
-use Rattle.laws.specs.Below.{allBelow, all-from}
-use Rattle.laws.specs.Mask.{bit, subset, unionBelow}
-use Rattle.laws.specs.Bits.{bit-or}
-use Rattle.laws.specs.Sets.{setBelow, set-same, set-outside, bit-outside}
-use Rattle.laws.specs.Sum.{sumBelow}
+use Rattle.laws.specs.Sets.{set-outside}
 
 -- a bit of an or's part is the or's
 pub or-left : (a b i : ℕ) → bit a i ≡ true → bit (bitOr a b) i ≡ true

@@ -1,19 +1,11 @@
 -- What a transaction that comes for a destination passes, part by part, and that a larger set brings no less.
 -- Assumes nothing.
-use Rattle.laws.proofs.Prelude.{ℕ, _<_, _≡_, refl, Bool, true, false, not, _&&_, _||_, List, _⊎_, inl, inr, eqb, not-true}
-use lib.Bits.{bitOr}
-use Rattle.laws.specs.Booleans.{pick, split, either, clash, and-parts, or-parts, or-right}
-use Rattle.laws.specs.Mask.{bit, unionBelow}
-use Rattle.laws.specs.Bits.{or-bit, union-bit, no-bit, subset-bit}
-use Rattle.sheet.specs.Field.{count, parent, opening, signatures, required}
-use Rattle.sheet.specs.Checked.{Checked}
-use Rattle.slots.specs.Ancestry.{hasParent}
-use Rattle.slots.specs.Slot.{sharedAny}
-use Rattle.slots.specs.Signatures.{sharedSecrets, senderMask, signed}
-use Rattle.slots.proofs.Parents.{parent-below}
+use Rattle.laws.proofs.Prelude.{ℕ, _<_, _≡_, refl, Bool, true, false, not, _&&_, _||_, List, _⊎_, inl, inr, eqb, not-true, bitOr, pick, split, either, clash, and-parts}
+use Rattle.laws.proofs.Prelude.{or-parts, or-right, bit, unionBelow, or-bit, union-bit, no-bit, subset-bit}
+use Rattle.position.proofs.Rules.{count, parent, opening, signatures, required, Checked, hasParent, sharedAny, sharedSecrets, senderMask, signed, slot}
 use Rattle.position.specs.declared.Position.{Position}
-use Rattle.position.specs.Position.{slot, isConfirmed, shared}
-use Rattle.steps.specs.Decode.{sendsTo, sharesTo}
+use Rattle.position.proofs.Rules.{isConfirmed, shared, sendsTo, sharesTo}
+use Rattle.slots.proofs.Parents.{parent-below}
 use Rattle.attainable.specs.Attainable.{gone, secretsOf, othersKeys, shownBy, knownFrom, neverSent, waitsFor, signable, comes}
 use Rattle.attainable.proofs.Masks.{or-left, or-last, union-has, subset-from}
 

@@ -1,15 +1,7 @@
 -- The lines within a set, parents first.
 -- Assumes nothing.
-use Rattle.laws.proofs.Prelude.{ℕ, _≤_, _<_, _≡_, ap, Bool, false, _&&_, _||_, List, ltb, lt-ltb, arith}
-use lib.Bits.{bitOr}
-use Rattle.laws.specs.Booleans.{pick, split}
-use Rattle.laws.specs.Climb.{climb-step}
-use Rattle.laws.specs.Mask.{bit}
-use Rattle.laws.specs.Bits.{bit-or}
-use Rattle.laws.specs.Sets.{setBelow, set-bit}
-use Rattle.sheet.specs.Field.{count, parent, opening}
-use Rattle.sheet.specs.Checked.{Checked}
-use Rattle.slots.specs.Ancestry.{hasParent}
+use Rattle.laws.proofs.Prelude.{ℕ, _≤_, _<_, _≡_, ap, Bool, false, _&&_, _||_, List, ltb, lt-ltb, arith, bitOr, pick, split, climb-step, bit, bit-or, setBelow, set-bit}
+use Rattle.position.proofs.Rules.{count, parent, opening, Checked, hasParent}
 use Rattle.slots.proofs.Parents.{parent-lower}
 use Rattle.attainable.specs.Forms.Round.{reachIn}
 

@@ -1,21 +1,9 @@
 -- What is read is what the record says.
 -- Assumes nothing.
-use Rattle.laws.proofs.Prelude.{ℕ, _<_, _≡_, _∙_, true, _||_, List, eqb}
-use lib.Bits.{bitAnd, bitOr}
-use Rattle.laws.specs.Booleans.{pick}
-use Rattle.laws.specs.Mask.{bit, unionBelow}
-use Rattle.laws.specs.Sets.{setBelow, set-bit, set-same}
-use Rattle.sheet.specs.Field.{parties, partyAt, count, secrets}
-use Rattle.sheet.specs.Checked.{Checked}
-use Rattle.slots.specs.Slot.{sharedFor, sharedAny}
-use Rattle.slots.specs.Signatures.{sharedSecrets}
-use Rattle.slots.specs.Forms.Conflict.{foundIn}
-use Rattle.steps.specs.declared.View.{View}
-use Rattle.steps.specs.Forms.View.{keysIn}
-use Rattle.readings.specs.Forms.Report.{deadIn}
+use Rattle.laws.proofs.Prelude.{ℕ, _<_, _≡_, _∙_, true, _||_, List, eqb, bitAnd, bitOr, pick, bit, unionBelow, setBelow, set-bit, set-same}
+use Rattle.position.proofs.Rules.{parties, partyAt, count, secrets, Checked, sharedFor, sharedAny, sharedSecrets, foundIn, View, keysIn, deadIn, slot}
 use Rattle.position.specs.declared.Position.{Position}
-use Rattle.position.specs.Position.{slot, isConfirmed, shared, keys}
-use Rattle.position.specs.Forms.View.{viewBelow}
+use Rattle.position.proofs.Rules.{isConfirmed, shared, keys, viewBelow}
 use Rattle.position.proofs.BlockSets.{set-dead}
 use Rattle.soonest.specs.Forms.Table.{Filled}
 use Rattle.attainable.specs.Attainable.{gone, otherKeys, othersKeys, neverSent}

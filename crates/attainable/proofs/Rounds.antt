@@ -1,14 +1,8 @@
 -- The attainable set is the least closed one: growing keeps what there is, and as many rounds as there are transactions suffice.
 -- Assumes nothing.
-use Rattle.laws.proofs.Prelude.{ℕ, zero, suc, _≤_, _<_, _≡_, sym, _∙_, Bool, true, not, _&&_, List, _⊎_, inl, inr, not-true, arith}
-use Rattle.laws.specs.Booleans.{split, either, clash, and-parts}
-use Rattle.laws.specs.Below.{anyBelow, any-some, any-none, any-found}
-use Rattle.laws.specs.Mask.{bit}
-use Rattle.laws.specs.Bits.{no-bit}
-use Rattle.laws.specs.Sets.{setBelow, set-bit, set-same, none-set}
-use Rattle.sheet.specs.Field.{count}
-use Rattle.sheet.specs.Checked.{Checked}
-use Rattle.slots.specs.Destination.{destinations}
+use Rattle.laws.proofs.Prelude.{ℕ, zero, suc, _≤_, _<_, _≡_, sym, _∙_, Bool, true, not, _&&_, List, _⊎_, inl, inr, not-true, arith, split, either, clash, and-parts}
+use Rattle.laws.proofs.Prelude.{anyBelow, any-some, any-none, any-found, bit, no-bit, setBelow, set-bit, set-same, none-set}
+use Rattle.position.proofs.Rules.{count, Checked, destinations}
 use Rattle.position.specs.declared.Position.{Position}
 use Rattle.attainable.specs.Attainable.{comes, grown, rounds, attainable, Closed, Least}
 use Rattle.attainable.proofs.Masks.{size, size-grows, size-all}

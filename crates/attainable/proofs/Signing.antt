@@ -1,17 +1,9 @@
 -- What the others can sign by a set, from what they lack and the secrets shown.
 -- Assumes nothing.
-use Rattle.laws.proofs.Prelude.{ℕ, zero, suc, _<_, _≡_, sym, _∙_, true, false, not, List, eqb, getD, not-true, arith}
-use lib.Bits.{bitOr}
-use Rattle.laws.specs.Booleans.{either, and-parts, or-parts, or-right}
-use Rattle.laws.specs.Mask.{bit, unionBelow}
-use Rattle.laws.specs.Bits.{or-bit, subset-bit}
-use Rattle.sheet.specs.Field.{count, signatures, required}
-use Rattle.slots.specs.Destination.{destinations}
-use Rattle.slots.specs.Slot.{sharedAny}
-use Rattle.slots.specs.Signatures.{sharedSecrets, senderMask, signed}
-use Rattle.steps.specs.Decode.{sharesTo}
+use Rattle.laws.proofs.Prelude.{ℕ, zero, suc, _<_, _≡_, sym, _∙_, true, false, not, List, eqb, getD, not-true, arith, bitOr, either, and-parts, or-parts, or-right, bit}
+use Rattle.laws.proofs.Prelude.{unionBelow, or-bit, subset-bit}
+use Rattle.position.proofs.Rules.{count, signatures, required, destinations, sharedAny, sharedSecrets, senderMask, signed, sharesTo, slot, shared}
 use Rattle.position.specs.declared.Position.{Position}
-use Rattle.position.specs.Position.{slot, shared}
 use Rattle.attainable.specs.declared.Others.{Others}
 use Rattle.attainable.specs.Attainable.{othersKeys, shownBy, knownFrom, neverSent}
 use Rattle.attainable.specs.Forms.Others.{meets, othersFor, OthersLack, Reads}

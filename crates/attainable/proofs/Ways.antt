@@ -1,14 +1,9 @@
 -- What waits and what X sends, for a destination other than `off`, as the code works it out.
 -- Assumes nothing.
-use Rattle.laws.proofs.Prelude.{ℕ, _-_, _≤_, _<_, _≡_, refl, Bool, true, false, not, _&&_, List, eqb, ltb}
-use Rattle.laws.proofs.Prelude.{eqb-true, eq-eqb, ltb-true, lt-ltb, le-ltb, arith}
-use Rattle.laws.specs.Booleans.{split, either, and-parts, or-parts, or-right}
-use Rattle.laws.specs.Below.{any-some, any-found}
-use Rattle.slots.specs.Destination.{contract, destinations, isPayee, isContract}
-use Rattle.slots.specs.Slot.{standing, entryTo}
-use Rattle.steps.specs.Decode.{sendsTo}
+use Rattle.laws.proofs.Prelude.{ℕ, _-_, _≤_, _<_, _≡_, refl, Bool, true, false, not, _&&_, List, eqb, ltb, eqb-true, eq-eqb, ltb-true, lt-ltb, le-ltb, arith, split}
+use Rattle.laws.proofs.Prelude.{either, and-parts, or-parts, or-right, any-some, any-found}
+use Rattle.position.proofs.Rules.{contract, destinations, isPayee, isContract, standing, entryTo, sendsTo, slot, inPool, poolTo, inBlock, blockTo}
 use Rattle.position.specs.declared.Position.{Position}
-use Rattle.position.specs.Position.{slot, inPool, poolTo, inBlock, blockTo}
 use Rattle.attainable.specs.Attainable.{waitsFor}
 use Rattle.attainable.specs.Forms.Others.{waitsApart, sendsApart, namesApart, waitsIn, sendsIn}
 use Rattle.attainable.proofs.Lacking.{both-ways}

@@ -1,12 +1,8 @@
 -- A journal with one more step behind it: its steps, and its run.
 -- Assumes nothing.
-use Rattle.laws.proofs.Prelude.{ℕ, _+_, _%_, _≤_, _≡_, refl, ap, _∙_, true, List, [], _∷_, _++_, length, length-append, eq-eqb, le-leb}
-use Rattle.laws.proofs.Prelude.{arith}
-use Rattle.laws.specs.Failing.{firstFailing}
-use Rattle.sheet.specs.Refusal.{accepted}
+use Rattle.laws.proofs.Prelude.{ℕ, _+_, _%_, _≤_, _≡_, refl, ap, _∙_, true, List, [], _∷_, _++_, length, length-append, eq-eqb, le-leb, arith, firstFailing}
+use Rattle.position.proofs.Rules.{accepted, start, FourBytes, journalSteps, step, runFrom, journalRight, callTests, run}
 use Rattle.position.specs.declared.Position.{Position}
-use Rattle.position.specs.Position.{start}
-use Rattle.position.specs.Play.{FourBytes, journalSteps, step, runFrom, journalRight, callTests, run}
 use Rattle.call_run.proofs.Calls.{sheet-passes, setup-passes, journal-whole}
 use Rattle.call_run.proofs.Runs.{row-append, run-allowed, run-checked}
 use Rattle.position.proofs.RowSteps.{run-next, run-ends}

@@ -1,12 +1,9 @@
 -- The answer of ask, case by case.
 -- Assumes nothing.
-use Rattle.laws.proofs.Prelude.{ℕ, _≤_, _<_, _≡_, refl, sym, _∙_, Bool, List, [], _∷_, eqb, lit<, length, eqb-true, eqb-false, eq-eqb}
-use Rattle.laws.proofs.Prelude.{ne-eqb, arith}
-use Rattle.laws.specs.Booleans.{split}
-use Rattle.sheet.specs.Refusal.{accepted, stepField}
+use Rattle.laws.proofs.Prelude.{ℕ, _≤_, _<_, _≡_, refl, sym, _∙_, Bool, List, [], _∷_, eqb, lit<, length, eqb-true, eqb-false, eq-eqb, ne-eqb, arith, split}
+use Rattle.position.proofs.Rules.{accepted, stepField, step}
 use Rattle.position.specs.declared.Position.{Position}
 use Rattle.position.specs.declared.Ran.{Ran}
-use Rattle.position.specs.Play.{step}
 use Rattle.call_run.proofs.Bounds.{step-below}
 use Rattle.call_ask.specs.declared.Asked.{Asked}
 use Rattle.call_ask.specs.Ask.{lengthRight, openRun, stepCount, stepOf, stepNumber, own, askTests, askAnswer}

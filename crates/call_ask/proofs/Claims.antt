@@ -1,12 +1,10 @@
 -- What the answers of ask and commit say of each other, of run and of the open steps.
 -- Assumes nothing.
-use Rattle.laws.proofs.Prelude.{ℕ, _+_, _%_, _≤_, _<_, _≡_, refl, sym, ap, _∙_, true, false, _&&_, List, _++_, append-assoc, eqb, ltb, leb}
-use Rattle.laws.proofs.Prelude.{length, take, drop, length-append, length-drop, eqb-true, eqb-false, ltb-true, ltb-false, eq-eqb, lt-ltb}
-use Rattle.laws.proofs.Prelude.{le-ltb, le-leb, arith}
-use lib.Seq.{take-append-seam, take-at, drop-at, length-take-le}
-use Rattle.laws.specs.Booleans.{pick, split, and-parts}
-use Rattle.sheet.specs.Refusal.{accepted, journalLength, bufferShort}
-use Rattle.position.specs.Play.{run}
+use Rattle.laws.proofs.Prelude.{ℕ, _+_, _%_, _≤_, _<_, _≡_, refl, sym, ap, _∙_, true, false, _&&_, List, _++_, append-assoc, eqb, ltb, leb, length, take, drop}
+use Rattle.laws.proofs.Prelude.{length-append, length-drop, eqb-true, eqb-false, ltb-true, ltb-false, eq-eqb, lt-ltb, le-ltb, le-leb, arith, drop-at, length-take-le}
+use Rattle.laws.proofs.Prelude.{pick, split, and-parts}
+use Rattle.position.proofs.Rules.{accepted, journalLength, bufferShort, run}
+use lib.Seq.{take-append-seam, take-at}
 use Rattle.call_run.proofs.Calls.{sheet-passes, setup-passes, journal-whole}
 use Rattle.call_run.proofs.Runs.{run-checked}
 use Rattle.step_laws.proofs.Theorems.{open-exact}

@@ -1,17 +1,12 @@
 -- The answer of commit, case by case, and what an answer of 0 says.
 -- Assumes nothing.
-use Rattle.laws.proofs.Prelude.{ℕ, _+_, _-_, _≤_, _<_, _≡_, refl, sym, ap, _∙_, Bool, true, false, List, [], _∷_, _++_, append-nil, eqb}
-use Rattle.laws.proofs.Prelude.{leb, lit<, length, getD, take, drop, set, length-drop, eqb-true, eqb-false, leb-true, eq-eqb, ne-eqb}
-use Rattle.laws.proofs.Prelude.{le-leb, lt-leb, arith}
-use lib.ListN.{drop-of-length-le}
-use lib.Seq.{take-all, drop-drop}
-use borrow.Rule.Slice.PartMut.{putMid}
-use Rattle.laws.specs.Booleans.{split, and-parts}
-use Rattle.laws.specs.Failing.{firstFailing}
-use Rattle.laws.specs.Over.{over, stores-over}
-use Rattle.sheet.specs.Refusal.{accepted, bufferShort}
+use Rattle.laws.proofs.Prelude.{ℕ, _+_, _-_, _≤_, _<_, _≡_, refl, sym, ap, _∙_, Bool, true, false, List, [], _∷_, _++_, append-nil, eqb, leb, lit<, length, getD, take}
+use Rattle.laws.proofs.Prelude.{drop, set, length-drop, eqb-true, eqb-false, leb-true, eq-eqb, ne-eqb, le-leb, lt-leb, arith, take-all, drop-drop, split, and-parts}
+use Rattle.laws.proofs.Prelude.{firstFailing, over, stores-over}
+use Rattle.position.proofs.Rules.{accepted, bufferShort, step, run}
 use Rattle.position.specs.declared.Ran.{Ran}
-use Rattle.position.specs.Play.{step, run}
+use lib.ListN.{drop-of-length-le}
+use borrow.Rule.Slice.PartMut.{putMid}
 use Rattle.call_ask.specs.Refusal.{countStale}
 use Rattle.call_ask.specs.Ask.{lengthRight, openRun, stepCount, stepOf, stepNumber, own}
 use Rattle.call_ask.specs.Commit.{lengthWithin, commitRun, commitTests, committed, commitAnswer}

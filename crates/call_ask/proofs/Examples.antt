@@ -1,8 +1,7 @@
 -- Computed examples: the answers of ask and commit with their refusals on both sides, and the words of the claims.
 -- Assumes nothing.
 use Rattle.laws.proofs.Prelude.{ℕ, _≡_, refl, ap, true, false, List, [], _∷_, _++_, length, getD, take, drop, arith}
-use Rattle.sheet.specs.Refusal.{accepted, setupBlocks, stepField, stepConflict, journalLength, bufferShort}
-use Rattle.position.specs.Play.{run}
+use Rattle.position.proofs.Rules.{accepted, setupBlocks, stepField, stepConflict, journalLength, bufferShort, run}
 use Rattle.position.proofs.Opened.{opened}
 use Rattle.call_ask.specs.Refusal.{countStale}
 use Rattle.call_ask.specs.Ask.{lengthRight, openTests, openRun, stepCount, stepOf, stepNumber, askTests, askAnswer}

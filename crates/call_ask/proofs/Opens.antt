@@ -1,16 +1,10 @@
 -- The journal's run behind the tests of both calls: with a length that passes it is run's.
 -- Assumes nothing.
-use Rattle.laws.proofs.Prelude.{ℕ, _≤_, _<_, _≡_, refl, sym, _∙_, Bool, true, false, false≢true, List, [], _∷_, _++_, eqb, lit<, lit≤}
-use Rattle.laws.proofs.Prelude.{eqb-true, eqb-false, ne-eqb, arith}
-use Rattle.laws.specs.Booleans.{split}
-use Rattle.laws.specs.Failing.{firstFailing, passed, passed-append, failed-append, answer-below}
-use Rattle.sheet.specs.Refusal.{accepted, journalLength}
-use Rattle.sheet.specs.Check.{arrayTests, sheetTests, sheetRefusal}
-use Rattle.sheet.specs.Setup.{setupTests, setupRefusal}
-use Rattle.sheet.specs.Checked.{Fit}
+use Rattle.laws.proofs.Prelude.{ℕ, _≤_, _<_, _≡_, refl, sym, _∙_, Bool, true, false, false≢true, List, [], _∷_, _++_, eqb, lit<, lit≤, eqb-true, eqb-false, ne-eqb, arith}
+use Rattle.laws.proofs.Prelude.{split, firstFailing, passed, passed-append, failed-append, answer-below}
+use Rattle.position.proofs.Rules.{accepted, journalLength, arrayTests, sheetTests, sheetRefusal, setupTests, setupRefusal, Fit, start, journalSteps, journalRight}
 use Rattle.position.specs.declared.Ran.{Ran}
-use Rattle.position.specs.Position.{start}
-use Rattle.position.specs.Play.{journalSteps, journalRight, callTests, run}
+use Rattle.position.proofs.Rules.{callTests, run}
 use Rattle.call_run.proofs.Runs.{row-counts, run-allowed, run-refused, run-checked, ran-fit}
 use Rattle.call_run.proofs.Bounds.{run-bounds}
 use Rattle.call_ask.specs.Ask.{openTests, openRun, stepCount}

@@ -1,8 +1,6 @@
 -- A number that stands for itself among tests: it passes where it is 0, and is the answer where it is not.
 -- Assumes nothing.
-use Rattle.laws.proofs.Prelude.{ℕ, _≡_, sym, _∙_, Bool, List, [], _∷_, eqb, eqb-true, eqb-false, eq-eqb, ne-eqb}
-use Rattle.laws.specs.Booleans.{split}
-use Rattle.laws.specs.Failing.{firstFailing}
+use Rattle.laws.proofs.Prelude.{ℕ, _≡_, sym, _∙_, Bool, List, [], _∷_, eqb, eqb-true, eqb-false, eq-eqb, ne-eqb, split, firstFailing}
 use Rattle.call_ask.specs.Ask.{own}
 
 module _ (x : ℕ) (xs : List (ℕ × Bool)) where

@@ -1,17 +1,11 @@
 -- What an array keeps for each coin, and the ledger over it.
 -- Assumes nothing.
-use Rattle.laws.proofs.Prelude.{ℕ, zero, suc, _+_, _*_, _≤_, _<_, _≡_, refl, sym, _∙_, fun-ext, Bool, true, false, not, List, [], _∷_, eqb}
-use Rattle.laws.proofs.Prelude.{ltb, length, getD, replicate, set, eqb-true, eqb-false, ltb-true, eq-eqb, ne-eqb, not-false, arith}
-use mathlib.Core.Option.{Option, none, some}
-use lib.Seq.{getD-set-same, getD-set-other}
-use Rattle.laws.specs.Booleans.{pick, split, clash}
-use Rattle.laws.specs.Climb.{climbIn, climb}
-use Rattle.sheet.specs.Field.{count, parent, opening}
-use Rattle.sheet.specs.LockHeight.{sinceParent, lockHeight}
-use Rattle.sheet.specs.Checked.{Checked, LockPair, none, absolute, since}
-use Rattle.ledger.specs.Entry.{Entry}
-use Rattle.ledger.specs.Coin.{coinOf}
-use Rattle.ledger.specs.Ledger.{Kept, noneKept, lockFrom, fits, keep, enter, ledger}
+use Rattle.laws.proofs.Prelude.{ℕ, zero, suc, _+_, _*_, _≤_, _<_, _≡_, refl, sym, _∙_, fun-ext, Bool, true, false, not, List, [], _∷_, eqb, ltb, length, getD, replicate}
+use Rattle.laws.proofs.Prelude.{set, eqb-true, eqb-false, ltb-true, eq-eqb, ne-eqb, not-false, arith, Option, none, some, getD-set-same, getD-set-other, pick, split}
+use Rattle.laws.proofs.Prelude.{clash, climbIn, climb}
+use Rattle.position.proofs.Rules.{count, parent, opening, sinceParent, lockHeight, Checked, LockPair, absolute, since, Entry, coinOf, Kept, noneKept, lockFrom, fits}
+use Rattle.position.proofs.Rules.{keep, enter, ledger}
+use Rattle.sheet.specs.Checked.{none}
 use Rattle.ledger.proofs.Taking.{Fit, opens, spends, fits-says}
 use Rattle.call_blocks.specs.declared.Listed.{Listed}
 use Rattle.call_blocks.specs.BlockList.{listEntries}

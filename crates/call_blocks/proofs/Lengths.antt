@@ -1,8 +1,7 @@
 -- "A list has 4 bytes for each entry".
 -- Assumes nothing.
-use Rattle.laws.proofs.Prelude.{_*_, _≡_, refl, List, [], _∷_, length, length-append, arith}
-use Rattle.laws.specs.Little.{length-bytes}
-use Rattle.ledger.specs.Entry.{Entry}
+use Rattle.laws.proofs.Prelude.{_*_, _≡_, refl, List, [], _∷_, length, length-append, arith, length-bytes}
+use Rattle.position.proofs.Rules.{Entry}
 use Rattle.call_blocks.specs.BlockList.{entryBytes, listBytes}
 
 pub length-entry : (e : Entry) → length (entryBytes e) ≡ 4

@@ -1,11 +1,7 @@
 -- Entries whose fields are right, one after the other.
 -- Assumes nothing.
-use Rattle.laws.proofs.Prelude.{ℕ, _+_, _*_, _%_, _≤_, _<_, _≡_, _∙_, Bool, true, false, List, eqb, ltb, length, ltb-true, eq-eqb, ne-eqb}
-use Rattle.laws.specs.Booleans.{and-parts}
-use Rattle.laws.specs.Gather.{every}
-use Rattle.sheet.specs.Field.{count}
-use Rattle.ledger.specs.Entry.{Entry}
-use Rattle.steps.specs.Decode.{sharesTo}
+use Rattle.laws.proofs.Prelude.{ℕ, _+_, _*_, _%_, _≤_, _<_, _≡_, _∙_, Bool, true, false, List, eqb, ltb, length, ltb-true, eq-eqb, ne-eqb, and-parts, every}
+use Rattle.position.proofs.Rules.{count, Entry, sharesTo}
 use Rattle.call_blocks.specs.declared.Listed.{Listed}
 use Rattle.call_blocks.specs.BlockList.{listEntries, entryNamed, fieldsNamed}
 use Rattle.call_blocks.specs.Forms.Listed.{listedAt, entryOf}

@@ -1,11 +1,7 @@
 -- Entries that rise within the blocks, one behind the other.
 -- Assumes nothing.
-use Rattle.laws.proofs.Prelude.{_≡_, refl, Bool, true, false, _&&_, and-false, List, [], _∷_, ltb, leb, leb-true, eq-eqb, lt-ltb, le-ltb}
-use Rattle.laws.proofs.Prelude.{arith}
-use Rattle.laws.specs.Booleans.{split, and-parts}
-use Rattle.laws.specs.Gather.{every}
-use Rattle.ledger.specs.Entry.{Entry, before, inOrder}
-use Rattle.position.specs.Tests.{blockLimit}
+use Rattle.laws.proofs.Prelude.{_≡_, refl, Bool, true, false, _&&_, and-false, List, [], _∷_, ltb, leb, leb-true, eq-eqb, lt-ltb, le-ltb, arith, split, and-parts, every}
+use Rattle.position.proofs.Rules.{Entry, before, inOrder, blockLimit}
 use Rattle.call_blocks.specs.BlockList.{blockWithin, entriesRise}
 use Rattle.call_blocks.specs.Forms.Listed.{nothing, entryOf}
 use Rattle.call_blocks.proofs.Walk.{walk}

@@ -1,11 +1,7 @@
 -- The tests of the call, one after another: the sheet's, the setup's, the list's own.
 -- Assumes nothing.
-use Rattle.laws.proofs.Prelude.{ℕ, _<_, _≡_, refl, sym, _∙_, Bool, List, _++_, lit<}
-use Rattle.laws.specs.Failing.{firstFailing, answer-below, passed-append, failed-append}
-use Rattle.sheet.specs.Check.{arrayTests, sheetTests, sheetRefusal}
-use Rattle.sheet.specs.Setup.{perDay, setupTests, setupRefusal}
-use Rattle.ledger.specs.Entry.{Entry}
-use Rattle.ledger.specs.Ledger.{ledger}
+use Rattle.laws.proofs.Prelude.{ℕ, _<_, _≡_, refl, sym, _∙_, Bool, List, _++_, lit<, firstFailing, answer-below, passed-append, failed-append}
+use Rattle.position.proofs.Rules.{arrayTests, sheetTests, sheetRefusal, perDay, setupTests, setupRefusal, Entry, ledger}
 use Rattle.call_blocks.specs.BlockList.{listTests, blocksTests, blocksRefusal}
 
 module _ (s u list : List ℕ) where

@@ -1,11 +1,10 @@
 -- A list passed entry by entry, each tested over what was passed before: one law for every loop over a list.
 -- Assumes nothing.
-use Rattle.laws.proofs.Prelude.{ℕ, _+_, _*_, _≤_, _<_, _≡_, refl, sym, _∙_, Bool, true, false, not, _&&_, List, [], _∷_, length, drop}
-use Rattle.laws.proofs.Prelude.{length-drop, not-true, not-false, arith}
-use lib.Seq.{getD-drop, drop-drop}
-use Rattle.laws.specs.Gather.{every}
-use Rattle.laws.specs.Little.{numberAt, number-part}
-use Rattle.ledger.specs.Entry.{Entry}
+use Rattle.laws.proofs.Prelude.{ℕ, _+_, _*_, _≤_, _<_, _≡_, refl, sym, _∙_, Bool, true, false, not, _&&_, List, [], _∷_, length, drop, length-drop, not-true, not-false}
+use Rattle.laws.proofs.Prelude.{arith, drop-drop, every, numberAt}
+use Rattle.position.proofs.Rules.{Entry}
+use lib.Seq.{getD-drop}
+use Rattle.laws.specs.Little.{number-part}
 use Rattle.call_blocks.specs.declared.Listed.{Listed}
 use Rattle.call_blocks.specs.BlockList.{listEntries}
 use Rattle.call_blocks.specs.Forms.Listed.{listedAt, entryOf}

@@ -1,15 +1,11 @@
 -- Two bundles that differ in one swap's setup and journal alone.
 -- Assumes nothing.
-use Rattle.laws.proofs.Prelude.{ℕ, _+_, _*_, _/_, _%_, _≤_, _<_, _≡_, refl, sym, ap, _∙_, List, _⊎_, inl, inr, eqb, ltb, leb, length, getD}
-use Rattle.laws.proofs.Prelude.{take, drop, length-drop, eqb-true, eqb-false, ltb-true, ltb-false, leb-true, leb-false, arith}
-use lib.ListN.{length-take}
+use Rattle.laws.proofs.Prelude.{ℕ, _+_, _*_, _/_, _%_, _≤_, _<_, _≡_, refl, sym, ap, _∙_, List, _⊎_, inl, inr, eqb, ltb, leb, length, getD, take, drop, length-drop}
+use Rattle.laws.proofs.Prelude.{eqb-true, eqb-false, ltb-true, ltb-false, leb-true, leb-false, arith, length-take, split, either, firstFailing, over, sum-same}
+use Rattle.position.proofs.Rules.{byte}
 use lib.Seq.{getD-take, getD-drop, ext-getD}
-use Rattle.laws.specs.Booleans.{split, either}
-use Rattle.laws.specs.Failing.{firstFailing}
 use Rattle.laws.specs.Little.{number-same}
-use Rattle.laws.specs.Over.{over, over-behind}
-use Rattle.laws.specs.Sum.{sum-same}
-use Rattle.sheet.specs.Field.{byte}
+use Rattle.laws.specs.Over.{over-behind}
 use Rattle.call_desk.specs.Bundle.{swaps, setupOf, lengthOf, journals, startOf, journalOf, addsUp, bundleRight}
 use Rattle.call_desk.specs.Desk.{swapRun, swapBytes, deskBytes, deskTests, deskAnswer}
 use Rattle.call_desk.specs.Claim.{Beside, SwapApart}

@@ -1,10 +1,7 @@
 -- Where the parts of a bundle stand, and the two ways out of its check.
 -- Assumes nothing.
-use Rattle.laws.proofs.Prelude.{ℕ, zero, suc, _+_, _-_, _*_, _≤_, _<_, _≡_, refl, true, false, _&&_, List, eqb, leb, length, eqb-true}
-use Rattle.laws.proofs.Prelude.{leb-true, le-leb, lt-leb, arith}
-use native.Mathlib.Nat.{not-suc-le-zero, le-of-suc-le-suc, eq-or-lt-of-le}
-use Rattle.laws.specs.Booleans.{either, and-parts}
-use Rattle.laws.specs.Sum.{sumBelow}
+use Rattle.laws.proofs.Prelude.{ℕ, zero, suc, _+_, _-_, _*_, _≤_, _<_, _≡_, refl, true, false, _&&_, List, eqb, leb, length, eqb-true, leb-true, le-leb, lt-leb, arith}
+use Rattle.laws.proofs.Prelude.{not-suc-le-zero, le-of-suc-le-suc, eq-or-lt-of-le, either, and-parts, sumBelow}
 use Rattle.call_desk.specs.Bundle.{swaps, lengthOf, journals, startOf, addsUp, bundleRight}
 use Rattle.call_desk.specs.Forms.Bundle.{Arrays, Stands}
 

@@ -1,15 +1,9 @@
 -- The checks of the call, one after another, and its answers, case by case.
 -- Assumes nothing.
-use Rattle.laws.proofs.Prelude.{ℕ, _*_, _≤_, _<_, _≡_, refl, sym, _∙_, Bool, true, false, not, List, [], _∷_, eqb, lit<, length, eqb-true}
-use Rattle.laws.proofs.Prelude.{eqb-false, eq-eqb, ne-eqb, arith}
-use Rattle.laws.specs.Booleans.{split}
-use Rattle.laws.specs.Failing.{firstFailing, passed, passed-append, failed-append, answer-below, fails, passes, none-left}
-use Rattle.laws.specs.Gather.{length-gather}
-use Rattle.laws.specs.Little.{length-pair}
-use Rattle.laws.specs.Over.{over}
-use Rattle.sheet.specs.Refusal.{accepted, bufferShort}
-use Rattle.sheet.specs.Check.{arrayTests, sheetTests, sheetRefusal}
-use Rattle.position.specs.Answers.{Written, fitted}
+use Rattle.laws.proofs.Prelude.{ℕ, _*_, _≤_, _<_, _≡_, refl, sym, _∙_, Bool, true, false, not, List, [], _∷_, eqb, lit<, length, eqb-true, eqb-false, eq-eqb, ne-eqb}
+use Rattle.laws.proofs.Prelude.{arith, split, firstFailing, passed, passed-append, failed-append, answer-below, fails, passes, none-left, length-gather, length-pair}
+use Rattle.laws.proofs.Prelude.{over}
+use Rattle.position.proofs.Rules.{accepted, bufferShort, arrayTests, sheetTests, sheetRefusal, Written, fitted}
 use Rattle.position.proofs.Passing.{written, not-written, fitted-bounds}
 use Rattle.call_desk.specs.Refusal.{bundleLayout}
 use Rattle.call_desk.specs.Bundle.{swaps, bundleRight}

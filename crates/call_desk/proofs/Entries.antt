@@ -1,14 +1,10 @@
 -- The entries in the buffer afterwards.
 -- Assumes nothing.
-use Rattle.laws.proofs.Prelude.{ℕ, _+_, _*_, _≤_, _<_, _≡_, refl, _∙_, List, eqb, leb, length, getD, eqb-true, eqb-false, leb-true}
-use Rattle.laws.proofs.Prelude.{leb-false, arith}
-use Rattle.laws.specs.Booleans.{split}
-use Rattle.laws.specs.Failing.{firstFailing}
-use Rattle.laws.specs.Gather.{gather-at}
+use Rattle.laws.proofs.Prelude.{ℕ, _+_, _*_, _≤_, _<_, _≡_, refl, _∙_, List, eqb, leb, length, getD, eqb-true, eqb-false, leb-true, leb-false, arith, split, firstFailing}
+use Rattle.laws.proofs.Prelude.{gather-at, over}
+use Rattle.position.proofs.Rules.{accepted, run}
 use Rattle.laws.specs.Little.{first-read, second-read}
-use Rattle.laws.specs.Over.{over, over-front}
-use Rattle.sheet.specs.Refusal.{accepted}
-use Rattle.position.specs.Play.{run}
+use Rattle.laws.specs.Over.{over-front}
 use Rattle.call_run.proofs.Bounds.{run-bounds}
 use Rattle.call_desk.specs.Bundle.{swaps, setupOf, journalOf}
 use Rattle.call_desk.specs.Desk.{swapRun, entryBytes, swapBytes, deskBytes, deskTests, deskAnswer}

@@ -1,11 +1,9 @@
 -- Computed examples: the parts of a bundle, the answers of a desk with its refusals on both sides, and the words of the claims.
 -- Assumes nothing.
-use Rattle.laws.proofs.Prelude.{ℕ, zero, suc, _+_, _*_, _≤_, _<_, _≡_, refl, ap, true, false, List, [], _∷_, _++_, _⊎_, inl, inr, length}
-use Rattle.laws.proofs.Prelude.{getD, replicate, set, length-set, arith}
-use lib.Seq.{getD-set-other}
-use Rattle.laws.specs.Booleans.{either}
-use Rattle.laws.specs.Sum.{sumBelow}
-use Rattle.sheet.specs.Refusal.{accepted, sheetLength, bufferShort}
+use Rattle.laws.proofs.Prelude.{ℕ, zero, suc, _+_, _*_, _≤_, _<_, _≡_, refl, ap, true, false, List, [], _∷_, _++_, _⊎_, inl, inr, length, getD, replicate, set}
+use Rattle.laws.proofs.Prelude.{length-set, arith, getD-set-other, either, sumBelow}
+use Rattle.position.proofs.Rules.{accepted, bufferShort}
+use Rattle.sheet.specs.Refusal.{sheetLength}
 use Rattle.position.proofs.Opened.{opened}
 use Rattle.call_desk.specs.Refusal.{bundleLayout}
 use Rattle.call_desk.specs.Bundle.{swaps, setupOf, lengthOf, journals, startOf, journalOf, addsUp, bundleRight}

@@ -1,13 +1,11 @@
 -- Lists of a list's elements, end to end: where each stands.
 -- Assumes nothing.
-use Rattle.laws.proofs.Prelude.{ℕ, zero, suc, _+_, _*_, _≤_, _<_, _≡_, refl, sym, ap, _∙_, List, [], _∷_, _++_, append-assoc, append-nil}
-use Rattle.laws.proofs.Prelude.{length, getD, take, drop, length-append, arith}
-use native.Mathlib.Nat.{mul-zero, mul-suc, not-suc-le-zero, le-of-suc-le-suc}
-use mathlib.Core.List.{flatMap}
+use Rattle.laws.proofs.Prelude.{ℕ, zero, suc, _+_, _*_, _≤_, _<_, _≡_, refl, sym, ap, _∙_, List, [], _∷_, _++_, append-assoc, append-nil, length, getD, take, drop}
+use Rattle.laws.proofs.Prelude.{length-append, arith, not-suc-le-zero, le-of-suc-le-suc, flatMap, All, also, gather, sumBelow}
+use native.Mathlib.Nat.{mul-zero, mul-suc}
 use lib.Seq.{take-append-seam, drop-append-add}
-use Rattle.laws.specs.All.{All, also}
-use Rattle.laws.specs.Gather.{gather, gather-none}
-use Rattle.laws.specs.Sum.{sumBelow, sum-front}
+use Rattle.laws.specs.Gather.{gather-none}
+use Rattle.laws.specs.Sum.{sum-front}
 
 module _ {A : Type 0} (f : A → List ℕ) (d : A) where
   -- the element at place i, whatever follows

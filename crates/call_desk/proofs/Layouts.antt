@@ -1,12 +1,9 @@
 -- The parts of a bundle that is laid out from its swaps are theirs.
 -- Assumes nothing.
-use Rattle.laws.proofs.Prelude.{ℕ, zero, suc, _+_, _-_, _*_, _≤_, _<_, _≡_, refl, ap, _∙_, true, List, [], _∷_, _++_, append-nil, length}
-use Rattle.laws.proofs.Prelude.{getD, take, drop, length-append, eq-eqb, le-leb, arith}
-use mathlib.Core.List.{flatMap}
-use lib.Seq.{take-all, drop-append-add}
-use Rattle.laws.specs.All.{All, empty, also, all-weaken}
-use Rattle.laws.specs.Little.{bytesOf, numberAt, length-bytes, number-part, number-back}
-use Rattle.laws.specs.Sum.{sumBelow, sum-same}
+use Rattle.laws.proofs.Prelude.{ℕ, zero, suc, _+_, _-_, _*_, _≤_, _<_, _≡_, refl, ap, _∙_, true, List, [], _∷_, _++_, append-nil, length, getD, take, drop, length-append}
+use Rattle.laws.proofs.Prelude.{eq-eqb, le-leb, arith, flatMap, take-all, All, empty, also, all-weaken, bytesOf, numberAt, length-bytes, sumBelow, sum-same}
+use lib.Seq.{drop-append-add}
+use Rattle.laws.specs.Little.{number-part, number-back}
 use Rattle.call_desk.specs.Bundle.{swaps, setupOf, lengthOf, journals, startOf, journalOf, addsUp, bundleRight}
 use Rattle.call_desk.specs.Desk.{swapRun, swapBytes, deskBytes}
 use Rattle.call_desk.specs.Layout.{Swap, bundleOf, Fitting, answerOf}

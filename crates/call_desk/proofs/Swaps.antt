@@ -1,13 +1,10 @@
 -- The answers of the swaps, one after the other: what each need of their writer asks.
 -- Assumes nothing.
-use Rattle.laws.proofs.Prelude.{ℕ, _+_, _-_, _*_, _≤_, _<_, _≡_, sym, List, _++_, length, take, drop, arith}
-use borrow.Rule.Slice.PartMut.{putMid}
-use Rattle.laws.specs.Gather.{gather, length-gather}
-use Rattle.laws.specs.Little.{bytesOf}
-use Rattle.laws.specs.Over.{over}
-use Rattle.laws.specs.Wrote.{Turns, turn-room, turn-end, turn-more, turns-done}
+use Rattle.laws.proofs.Prelude.{ℕ, _+_, _-_, _*_, _≤_, _<_, _≡_, sym, List, _++_, length, take, drop, arith, gather, length-gather, bytesOf, over, Turns, turn-room}
+use Rattle.laws.proofs.Prelude.{turn-end, turn-more, turns-done}
+use Rattle.position.proofs.Rules.{run}
 use Rattle.position.specs.declared.Ran.{Ran}
-use Rattle.position.specs.Play.{run}
+use borrow.Rule.Slice.PartMut.{putMid}
 use Rattle.call_desk.specs.Bundle.{swaps, setupOf, journalOf}
 use Rattle.call_desk.specs.Desk.{swapRun, entryBytes, swapBytes, deskBytes}
 use Rattle.call_desk.specs.Forms.Bundle.{Stands}

@@ -1,21 +1,13 @@
 -- The answer of the call, case by case, and how large it can be.
 -- Assumes nothing.
-use Rattle.laws.proofs.Prelude.{ℕ, _*_, _^_, _≤_, _<_, _≡_, refl, sym, _∙_, true, not, _&&_, List, _++_, eqb, ltb, lit<, length, eqb-true}
-use Rattle.laws.proofs.Prelude.{eq-eqb, ne-eqb, not-true, arith}
-use Rattle.laws.specs.Booleans.{split, and-parts}
-use Rattle.laws.specs.Below.{allBelow, all-at}
-use Rattle.laws.specs.Failing.{firstFailing, answer-below, passed, passed-append, failed-append, front-passes}
-use Rattle.laws.specs.Over.{over}
-use Rattle.laws.specs.Sum.{bitsBelow, bits-bound}
-use Rattle.sheet.specs.Field.{count}
-use Rattle.sheet.specs.Check.{arrayTests, sheetTests, sheetRefusal}
-use Rattle.sheet.specs.Setup.{perDay, setupTests, setupRefusal}
+use Rattle.laws.proofs.Prelude.{ℕ, _*_, _^_, _≤_, _<_, _≡_, refl, sym, _∙_, true, not, _&&_, List, _++_, eqb, ltb, lit<, length, eqb-true, eq-eqb, ne-eqb, not-true}
+use Rattle.laws.proofs.Prelude.{arith, split, and-parts, allBelow, all-at, firstFailing, answer-below, passed, passed-append, failed-append, over, bitsBelow}
+use Rattle.position.proofs.Rules.{count, arrayTests, sheetTests, sheetRefusal, perDay, setupTests, setupRefusal, isContract, isParty, isPayee, sharesTo, blockLimit}
+use Rattle.position.proofs.Rules.{fitted}
+use Rattle.laws.specs.Failing.{front-passes}
+use Rattle.laws.specs.Sum.{bits-bound}
 use Rattle.sheet.proofs.Theorems.{sheet-checked}
 use Rattle.sheet.proofs.Parties.{party-small}
-use Rattle.slots.specs.Destination.{isContract, isParty, isPayee}
-use Rattle.steps.specs.Decode.{sharesTo}
-use Rattle.position.specs.Tests.{blockLimit}
-use Rattle.position.specs.Answers.{fitted}
 use Rattle.position.proofs.Passing.{Gives, written, not-written, fitted-bounds}
 use Rattle.call_blocks.specs.BlockList.{listBytes}
 use Rattle.call_blocks.proofs.Lengths.{length-list}

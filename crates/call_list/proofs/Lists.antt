@@ -1,16 +1,12 @@
 -- What the list answers, from the actors' sets, and how large it can be.
 -- Assumes nothing.
-use Rattle.laws.proofs.Prelude.{ℕ, _*_, _≤_, _<_, _≡_, refl, sym, ap, _∙_, List, _++_, append-assoc, length, length-append, arith}
-use Rattle.laws.specs.Over.{over}
-use Rattle.slots.specs.Destination.{alice, bob, carol, miner}
+use Rattle.laws.proofs.Prelude.{ℕ, _*_, _≤_, _<_, _≡_, refl, sym, ap, _∙_, List, _++_, append-assoc, length, length-append, arith, over}
+use Rattle.position.proofs.Rules.{alice, bob, carol, miner, run, openSteps, listBytes, fitted, listAnswer}
+use Rattle.position.specs.declared.Position.{Position}
+use Rattle.position.specs.declared.Ran.{Ran}
 use Rattle.output.specs.Forms.Emitted.{actorBytes}
 use Rattle.output.proofs.Lengths.{length-actor, count-bound}
 use Rattle.queries.specs.declared.OpenSets.{OpenSets}
-use Rattle.position.specs.declared.Position.{Position}
-use Rattle.position.specs.declared.Ran.{Ran}
-use Rattle.position.specs.Play.{run}
-use Rattle.position.specs.Open.{openSteps, listBytes}
-use Rattle.position.specs.Answers.{fitted, listAnswer}
 use Rattle.position.proofs.Passing.{Gives, passed-on, not-passed-on, written, not-written}
 use Rattle.queries.specs.Forms.OpenSets.{belowSets, lastSet, openSets}
 use Rattle.queries.proofs.OpenBytes.{list-bytes, list-length, sets-open}

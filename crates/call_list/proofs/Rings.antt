@@ -2,13 +2,7 @@
 -- sheet of two.
 -- Assumes nothing.
 use Rattle.laws.proofs.Prelude.{ℕ, _≡_, refl, List, [], _∷_, _++_}
-use Rattle.sheet.specs.Check.{sheetRefusal}
-use Rattle.sheet.specs.Setup.{setupRefusal}
-use Rattle.slots.specs.Destination.{carol}
-use Rattle.position.specs.Position.{start}
-use Rattle.position.specs.Play.{run, step}
-use Rattle.position.specs.Open.{listBytes}
-use Rattle.position.specs.Holder.{holderIn}
+use Rattle.position.proofs.Rules.{sheetRefusal, setupRefusal, carol, start, run, step, listBytes, holderIn}
 use Rattle.position.proofs.Opened.{opened}
 
 -- two transactions, three signatures, one held by each party: Alice opens the coin, and it pays Carol

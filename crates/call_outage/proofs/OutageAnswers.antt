@@ -1,12 +1,8 @@
 -- The answers of an outage, case by case.
 -- Assumes nothing.
-use Rattle.laws.proofs.Prelude.{ℕ, _*_, _≤_, _<_, _≡_, _∙_, List, length}
-use Rattle.laws.specs.Over.{over}
-use Rattle.sheet.specs.Field.{count}
-use Rattle.sheet.specs.Refusal.{accepted, bufferShort}
+use Rattle.laws.proofs.Prelude.{ℕ, _*_, _≤_, _<_, _≡_, _∙_, List, length, over}
+use Rattle.position.proofs.Rules.{count, accepted, bufferShort, run, passOn}
 use Rattle.position.specs.declared.Ran.{Ran}
-use Rattle.position.specs.Play.{run}
-use Rattle.position.specs.Answers.{passOn}
 use Rattle.position.proofs.Passing.{not-passed-on, passed-short, passed-whole}
 use Rattle.call_run.proofs.Bounds.{written-bounds}
 use Rattle.call_outage.specs.Verdict.{outageBytes}

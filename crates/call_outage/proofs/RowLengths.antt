@@ -1,9 +1,7 @@
 -- The lengths of the rows.
 -- Assumes nothing.
-use Rattle.laws.proofs.Prelude.{ℕ, _*_, _≤_, _≡_, List, length, length-append}
-use Rattle.laws.specs.Gather.{gather, length-gather}
-use Rattle.laws.specs.Little.{length-bytes}
-use Rattle.sheet.specs.Field.{count}
+use Rattle.laws.proofs.Prelude.{ℕ, _*_, _≤_, _≡_, List, length, length-append, gather, length-gather, length-bytes}
+use Rattle.position.proofs.Rules.{count}
 use Rattle.position.specs.declared.Position.{Position}
 use Rattle.call_outage.specs.Verdict.{outageRow, outageBytes}
 

@@ -1,23 +1,12 @@
 -- A row over what is read once is the row of the position.
 -- Assumes nothing.
-use Rattle.laws.proofs.Prelude.{ℕ, _≤_, _<_, _≡_, refl, sym, _∙_, Bool, true, List, ltb, length, getD, ltb-true, arith}
-use Rattle.laws.specs.Booleans.{pick, split}
-use Rattle.laws.specs.Mask.{bit}
-use Rattle.laws.specs.Sets.{joined, setBelow, set-bit}
+use Rattle.laws.proofs.Prelude.{ℕ, _≤_, _<_, _≡_, refl, sym, _∙_, Bool, true, List, ltb, length, getD, ltb-true, arith, pick, split, bit, joined, setBelow, set-bit}
+use Rattle.position.proofs.Rules.{count, parent, payees, Checked, perDay, isSelfOrAncestor, invalidated, foundIn, View, deadIn, inPool, isConfirmed, blockOf}
+use Rattle.position.specs.declared.Position.{Position}
+use Rattle.position.proofs.Rules.{viewBelow, sinceIn}
 use Rattle.laws.specs.Unions.{union-same}
-use Rattle.sheet.specs.Field.{count, parent, payees}
-use Rattle.sheet.specs.Checked.{Checked}
-use Rattle.sheet.specs.Setup.{perDay}
-use Rattle.slots.specs.Ancestry.{isSelfOrAncestor}
-use Rattle.slots.specs.Invalidated.{invalidated}
-use Rattle.slots.specs.Forms.Conflict.{foundIn}
 use Rattle.slots.specs.Forms.Line.{lineSet}
 use Rattle.slots.proofs.LineSets.{lineSet-step, line-bit}
-use Rattle.steps.specs.declared.View.{View}
-use Rattle.readings.specs.Forms.Report.{deadIn}
-use Rattle.position.specs.declared.Position.{Position}
-use Rattle.position.specs.Position.{inPool, isConfirmed, blockOf}
-use Rattle.position.specs.Forms.View.{viewBelow, sinceIn}
 use Rattle.position.proofs.BlockSets.{set-dead}
 use Rattle.position.proofs.SendTests.{hasParent-set, since-parent}
 use Rattle.soonest.specs.Soonest.{soonestBlock, soonestParent}

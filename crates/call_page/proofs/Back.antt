@@ -1,9 +1,7 @@
 -- A line with any values that fit, read back.
 -- Assumes nothing.
-use Rattle.laws.proofs.Prelude.{ℕ, zero, suc, _^_, _≤_, _<_, _≡_, ap, _∙_, [], _∷_, _++_, _⊎_, lit<, length, getD, arith}
-use Rattle.laws.specs.Sum.{sumBelow}
-use Rattle.laws.specs.Little.{bytesOf}
-use Rattle.position.specs.Report.{unconfirmed}
+use Rattle.laws.proofs.Prelude.{ℕ, zero, suc, _^_, _≤_, _<_, _≡_, ap, _∙_, [], _∷_, _++_, _⊎_, lit<, length, getD, arith, sumBelow, bytesOf}
+use Rattle.position.proofs.Rules.{unconfirmed}
 use Rattle.call_page.specs.Line.{widths, line}
 use Rattle.call_page.specs.Page.{texts}
 use Rattle.call_page.specs.Claim.{readNumber, readRow, numberFrom, payeeOf, heightOf}

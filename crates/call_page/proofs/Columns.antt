@@ -1,9 +1,8 @@
 -- Columns: a text copied behind its blanks, byte by byte.
 -- Assumes nothing.
-use Rattle.laws.proofs.Prelude.{ℕ, _+_, _-_, _≤_, _<_, _≡_, sym, ap, _∙_, List, _++_, length, getD, set, length-append, arith}
-use lib.ListN.{length-replicate, getD-replicate, List·getD-append}
+use Rattle.laws.proofs.Prelude.{ℕ, _+_, _-_, _≤_, _<_, _≡_, sym, ap, _∙_, List, _++_, length, getD, set, length-append, arith, getD-replicate, over}
+use lib.ListN.{length-replicate, List·getD-append}
 use lib.Seq.{getD-append-add}
-use Rattle.laws.specs.Over.{over}
 use Rattle.output.proofs.Writing.{Copied, copied-more, copied-all}
 use Rattle.call_page.specs.Line.{blank, blanks, column}
 

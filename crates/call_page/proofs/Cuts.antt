@@ -1,12 +1,8 @@
 -- Where a column stands in its line, and a line in its page.
 -- Assumes nothing.
-use Rattle.laws.proofs.Prelude.{ℕ, zero, suc, _-_, _*_, _≤_, _<_, _≡_, refl, sym, ap, _∙_, List, [], _∷_, _++_, append-assoc, append-nil}
-use Rattle.laws.proofs.Prelude.{length, getD, take, drop, arith}
-use native.Mathlib.Nat.{not-suc-le-zero, le-of-suc-le-suc, eq-or-lt-of-le}
-use lib.Seq.{take-at, drop-at}
-use Rattle.laws.specs.Booleans.{either}
-use Rattle.laws.specs.Gather.{gather}
-use Rattle.laws.specs.Sum.{sumBelow, sum-same, length-gathered}
+use Rattle.laws.proofs.Prelude.{ℕ, zero, suc, _-_, _*_, _≤_, _<_, _≡_, refl, sym, ap, _∙_, List, [], _∷_, _++_, append-assoc, append-nil, length, getD, take, drop, arith}
+use Rattle.laws.proofs.Prelude.{not-suc-le-zero, le-of-suc-le-suc, eq-or-lt-of-le, drop-at, either, gather, sumBelow, sum-same, length-gathered}
+use lib.Seq.{take-at}
 use Rattle.call_page.specs.Line.{blanks, lineFeed, lineWidth, column, widths, columns, ended, line}
 use Rattle.call_page.specs.Claim.{trimmed, textAt}
 use Rattle.call_page.proofs.Columns.{length-column}

@@ -1,12 +1,11 @@
 -- Decimal digits: the last one and those before it, how many they are, and how they are made from the last one on.
 -- Assumes nothing.
-use Rattle.laws.proofs.Prelude.{ℕ, zero, suc, _+_, _-_, _/_, _%_, _^_, _≤_, _<_, _≡_, refl, sym, ap, _∙_, true, false, List, [], _∷_, _++_}
-use Rattle.laws.proofs.Prelude.{append-nil, ltb, length, take, drop, set, length-append, length-set, length-drop, ltb-true, ltb-false}
-use Rattle.laws.proofs.Prelude.{lt-ltb, le-ltb, arith}
-use native.Mathlib.Nat.{not-suc-le-zero, le-of-suc-le-suc, pow-succ'}
+use Rattle.laws.proofs.Prelude.{ℕ, zero, suc, _+_, _-_, _/_, _%_, _^_, _≤_, _<_, _≡_, refl, sym, ap, _∙_, true, false, List, [], _∷_, _++_, append-nil, ltb, length, take}
+use Rattle.laws.proofs.Prelude.{drop, set, length-append, length-set, length-drop, ltb-true, ltb-false, lt-ltb, le-ltb, arith, not-suc-le-zero, le-of-suc-le-suc}
+use Rattle.laws.proofs.Prelude.{take-all, split}
+use native.Mathlib.Nat.{pow-succ'}
 use lib.ListN.{drop-of-length-le}
-use lib.Seq.{append-snoc, take-all}
-use Rattle.laws.specs.Booleans.{split}
+use lib.Seq.{append-snoc}
 use Rattle.call_page.specs.Line.{digit, digitsIn, digits}
 
 -- a number of one digit, and of more

@@ -1,9 +1,6 @@
 -- What the words of the page and of its claims mean, by computed examples.
 -- Assumes nothing.
-use Rattle.laws.proofs.Prelude.{ℕ, _≡_, refl, ap, List, [], _∷_, lit<, length, getD, replicate, arith}
-use Rattle.laws.specs.Below.{allBelow}
-use Rattle.laws.specs.Gather.{gather}
-use Rattle.laws.specs.Little.{bytesOf}
+use Rattle.laws.proofs.Prelude.{ℕ, _≡_, refl, ap, List, [], _∷_, lit<, length, getD, replicate, arith, allBelow, gather, bytesOf}
 use Rattle.laws.specs.Same.{same}
 use Rattle.call_page.specs.Line.{blanks, digit, digitsIn, digits, column, columns, ended, line}
 use Rattle.position.proofs.Opened.{opened}

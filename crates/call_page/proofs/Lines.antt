@@ -1,15 +1,10 @@
 -- The lines of a page have one length, whatever bytes the report has.
 -- Assumes nothing.
-use Rattle.laws.proofs.Prelude.{ℕ, zero, suc, _+_, _-_, _*_, _^_, _≤_, _<_, _≡_, refl, sym, ap, _∙_, List, [], _∷_, _++_, eqb, lit≤, length}
-use Rattle.laws.proofs.Prelude.{getD, length-append, arith}
+use Rattle.laws.proofs.Prelude.{ℕ, zero, suc, _+_, _-_, _*_, _^_, _≤_, _<_, _≡_, refl, sym, ap, _∙_, List, [], _∷_, _++_, eqb, lit≤, length, getD, length-append, arith}
+use Rattle.laws.proofs.Prelude.{split, gather, numberAt, sumBelow, length-gathered}
+use Rattle.position.proofs.Rules.{never, alice, bob, carol, contract, rowWidth, reportedStatus, reportedLine}
 use native.Mathlib.Nat.{mul-suc, mul-zero}
-use Rattle.laws.specs.Booleans.{split}
-use Rattle.laws.specs.Gather.{gather}
-use Rattle.laws.specs.Little.{numberAt, number-below}
-use Rattle.laws.specs.Sum.{sumBelow, length-gathered}
-use Rattle.sheet.specs.LockHeight.{never}
-use Rattle.slots.specs.Destination.{alice, bob, carol, contract}
-use Rattle.readings.specs.Reported.{rowWidth, reportedStatus, reportedLine}
+use Rattle.laws.specs.Little.{number-below}
 use Rattle.printed.specs.declared.Line.{Line}
 use Rattle.call_page.specs.Line.{blanks, digits, column, widths, columns, lineFeed, lineWidth, ended, line}
 use Rattle.call_page.specs.Page.{payeeText, heightText, header, texts, lineTexts, pageOf}

@@ -1,8 +1,7 @@
 -- Which text stands for a payee, for a height, and for a column of the header or of a transaction.
 -- Assumes nothing.
 use Rattle.laws.proofs.Prelude.{ℕ, suc, _-_, _<_, _≡_, ap, List, [], getD, eq-eqb, ne-eqb, arith}
-use Rattle.sheet.specs.LockHeight.{never}
-use Rattle.slots.specs.Destination.{alice, bob, carol, contract}
+use Rattle.position.proofs.Rules.{never, alice, bob, carol, contract}
 use Rattle.call_page.specs.Line.{digits}
 use Rattle.printed.specs.declared.Line.{Line}
 use Rattle.call_page.specs.Forms.Cell.{values}

@@ -1,15 +1,7 @@
 -- The answers of a page, case by case.
 -- Assumes nothing.
-use Rattle.laws.proofs.Prelude.{ℕ, suc, _*_, _≤_, _<_, _≡_, refl, sym, _∙_, List, eqb, length, take, eqb-true, eqb-false, arith}
-use Rattle.laws.specs.Booleans.{split}
-use Rattle.laws.specs.Over.{over}
-use Rattle.sheet.specs.Field.{count}
-use Rattle.sheet.specs.Checked.{Fit}
-use Rattle.sheet.specs.Refusal.{accepted, bufferShort}
-use Rattle.readings.specs.Reported.{rowWidth, reportedLine}
-use Rattle.position.specs.Position.{slotCount}
-use Rattle.position.specs.Play.{run}
-use Rattle.position.specs.Printed.{printedLine}
+use Rattle.laws.proofs.Prelude.{ℕ, suc, _*_, _≤_, _<_, _≡_, refl, sym, _∙_, List, eqb, length, take, eqb-true, eqb-false, arith, split, over}
+use Rattle.position.proofs.Rules.{count, Fit, accepted, bufferShort, rowWidth, reportedLine, slotCount, run, printedLine}
 use Rattle.dated.specs.Report.{reportAnswer}
 use Rattle.dated.proofs.ReportAnswers.{countsAfter, rowsAfter, rows-length, report-as, report-buffer}
 use Rattle.position.proofs.Passing.{not-passed-on, passed-short, passed-whole}

@@ -1,16 +1,10 @@
 -- Texts read back: blanks are trimmed, digits give their number, names their payee, never its height.
 -- Assumes nothing.
-use Rattle.laws.proofs.Prelude.{ℕ, zero, suc, _+_, _-_, _*_, _/_, _%_, _≤_, _<_, _≡_, refl, sym, _∙_, Bool, true, false, _&&_, List, []}
-use Rattle.laws.proofs.Prelude.{_∷_, _++_, _⊎_, eqb, ltb, length, eqb-true, ltb-true, ltb-false, ne-eqb, lt-ltb, arith}
-use native.Mathlib.Nat.{not-suc-le-zero}
-use mathlib.Core.Bool.{true≢false}
-use Rattle.laws.specs.Booleans.{split, either, and-parts, fails-by}
-use Rattle.laws.specs.Below.{allBelow}
-use Rattle.laws.specs.Gather.{every}
+use Rattle.laws.proofs.Prelude.{ℕ, zero, suc, _+_, _-_, _*_, _/_, _%_, _≤_, _<_, _≡_, refl, sym, _∙_, Bool, true, false, _&&_, List, [], _∷_, _++_, _⊎_, eqb, ltb, length}
+use Rattle.laws.proofs.Prelude.{eqb-true, ltb-true, ltb-false, ne-eqb, lt-ltb, arith, not-suc-le-zero, true≢false, split, either, and-parts, fails-by, allBelow, every}
+use Rattle.position.proofs.Rules.{never, unconfirmed}
 use Rattle.laws.specs.Same.{same, same-equal, equal-same}
-use Rattle.sheet.specs.LockHeight.{never}
 use Rattle.call_page.specs.Line.{blank, blanks, digit, digitsIn, digits, column}
-use Rattle.position.specs.Report.{unconfirmed}
 use Rattle.call_page.specs.Page.{aliceText, bobText, carolText, contractText, dashText, neverText, payeeText, heightText}
 use Rattle.call_page.specs.Claim.{trimmed, numberFrom, payeeOf, heightOf}
 use Rattle.call_page.proofs.Digits.{one-digit, more-digits}

@@ -1,17 +1,12 @@
 -- What stands on a line, for every position.
 -- Assumes nothing.
-use Rattle.laws.proofs.Prelude.{ℕ, zero, suc, _+_, _^_, _≤_, _<_, _≡_, refl, ap, _∙_, Bool, true, false, List, [], _∷_, getD, arith}
-use native.Mathlib.Nat.{mod-le}
-use Rattle.laws.specs.Booleans.{pick}
-use Rattle.laws.specs.Gather.{gather-same}
-use Rattle.laws.specs.Little.{bytesOf, numberAt, number-bytes, bytes-again}
-use Rattle.sheet.specs.Field.{count}
-use Rattle.slots.specs.Invalidated.{invalidated}
-use Rattle.readings.specs.Reported.{reportedLine, rowLine}
+use Rattle.laws.proofs.Prelude.{ℕ, zero, suc, _+_, _^_, _≤_, _<_, _≡_, refl, ap, _∙_, Bool, true, false, List, [], _∷_, getD, arith, pick, gather-same, bytesOf, numberAt}
+use Rattle.position.proofs.Rules.{count, invalidated, reportedLine, inPool, inBlock, isConfirmed, blockOf, lockHeightIn, deadlineIn, status, payee, row}
 use Rattle.position.specs.declared.Position.{Position}
-use Rattle.position.specs.Position.{inPool, inBlock, isConfirmed, blockOf, lockHeightIn, deadlineIn}
-use Rattle.position.specs.Report.{status, payee, row, reportBytes}
-use Rattle.position.specs.Printed.{printedLine}
+use Rattle.position.proofs.Rules.{reportBytes, printedLine}
+use native.Mathlib.Nat.{mod-le}
+use Rattle.laws.specs.Little.{number-bytes, bytes-again}
+use Rattle.readings.specs.Reported.{rowLine}
 use Rattle.step_laws.proofs.Reports.{line-read}
 use Rattle.call_page.specs.Line.{line}
 use Rattle.call_page.specs.Page.{lineTexts, pageOf}

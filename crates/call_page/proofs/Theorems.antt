@@ -1,21 +1,13 @@
 -- Every line has its length; read back, it gives the report's row.
 -- Assumes nothing.
-use Rattle.laws.proofs.Prelude.{ℕ, suc, _+_, _*_, _^_, _≤_, _<_, _≡_, refl, sym, ap, _∙_, true, false, List, _++_, _⊎_, inl, inr, eqb, ltb}
-use Rattle.laws.proofs.Prelude.{length, take, drop, length-drop, eqb-true, eqb-false, ltb-true, ltb-false, lt-ltb, le-ltb, arith}
-use native.Mathlib.Nat.{zero-add, mul-le-mul-left}
-use lib.Seq.{sets-eq, drop-at, take-append-le, drop-append-le}
-use Rattle.laws.specs.Booleans.{split}
-use Rattle.laws.specs.Over.{over, take-over, length-over, stores-over}
-use Rattle.sheet.specs.Refusal.{accepted, bufferShort}
-use Rattle.sheet.specs.Field.{count}
-use Rattle.slots.specs.Slot.{entryTo}
+use Rattle.laws.proofs.Prelude.{ℕ, suc, _+_, _*_, _^_, _≤_, _<_, _≡_, refl, sym, ap, _∙_, true, false, List, _++_, _⊎_, inl, inr, eqb, ltb, length, take, drop}
+use Rattle.laws.proofs.Prelude.{length-drop, eqb-true, eqb-false, ltb-true, ltb-false, lt-ltb, le-ltb, arith, zero-add, mul-le-mul-left, drop-at, split, over, take-over}
+use Rattle.laws.proofs.Prelude.{length-over, stores-over}
+use Rattle.position.proofs.Rules.{accepted, bufferShort, count, entryTo, slot, isConfirmed, confirmedTo, blockOf, lockHeightIn, deadlineIn, run, unconfirmed}
 use Rattle.position.specs.declared.Position.{Position}
-use Rattle.position.specs.Position.{slot, isConfirmed, confirmedTo, blockOf, lockHeightIn, deadlineIn}
-use Rattle.position.specs.Play.{run}
-use Rattle.position.specs.Report.{unconfirmed, status, payee, row}
+use Rattle.position.proofs.Rules.{status, payee, row, printedLine, Written}
+use lib.Seq.{sets-eq, take-append-le, drop-append-le}
 use Rattle.step_laws.specs.Wellformed.{Wellformed}
-use Rattle.position.specs.Printed.{printedLine}
-use Rattle.position.specs.Answers.{Written}
 use Rattle.call_page.specs.Line.{line}
 use Rattle.call_page.specs.Page.{lineTexts, pageOf, pageAnswer}
 use Rattle.call_page.specs.Claim.{lineAt, LinesLong, ReadsBack, RunsReadBack, PageWritten, PageAnswered, PageAnswers}

@@ -1,8 +1,7 @@
 -- A call on a position with its counts, by its number.
 -- Assumes nothing.
-use Rattle.laws.proofs.Prelude.{ℕ, _≡_, sym, _∙_, List, ne-eqb}
-use Rattle.laws.specs.Failing.{firstFailing}
-use Rattle.position.specs.Play.{journalSteps, callTests}
+use Rattle.laws.proofs.Prelude.{ℕ, _≡_, sym, _∙_, List, ne-eqb, firstFailing}
+use Rattle.position.proofs.Rules.{journalSteps, callTests}
 use Rattle.dated.specs.declared.Dated.{Dated}
 use Rattle.dated.specs.Dated.{unseen, datedStart, datedRunFrom, datedRun, DatedRun}
 use Rattle.dated.proofs.Forgetting.{dated-allowed, dated-refused}

@@ -1,14 +1,7 @@
 -- The answers of a report, case by case.
 -- Assumes nothing.
-use Rattle.laws.proofs.Prelude.{ℕ, _*_, _≤_, _<_, _≡_, _∙_, List, length}
-use Rattle.laws.specs.Failing.{firstFailing}
-use Rattle.laws.specs.Over.{over}
-use Rattle.sheet.specs.Field.{count}
-use Rattle.sheet.specs.Refusal.{accepted, bufferShort}
-use Rattle.readings.specs.Reported.{rowWidth}
-use Rattle.position.specs.Play.{callTests}
-use Rattle.position.specs.Report.{reportBytes}
-use Rattle.position.specs.Answers.{passOn}
+use Rattle.laws.proofs.Prelude.{ℕ, _*_, _≤_, _<_, _≡_, _∙_, List, length, firstFailing, over}
+use Rattle.position.proofs.Rules.{count, accepted, bufferShort, rowWidth, callTests, reportBytes, passOn}
 use Rattle.position.proofs.ReportLengths.{report-length}
 use Rattle.position.proofs.Passing.{not-passed-on, passed-short, passed-whole}
 use Rattle.dated.specs.Dated.{unseen, datedRun, forgotten, DatedRun}

@@ -1,22 +1,12 @@
 -- How large a run's answers can be.
 -- Assumes nothing.
-use Rattle.laws.proofs.Prelude.{ℕ, _+_, _*_, _≤_, _<_, _≡_, refl, List, [], _∷_, eqb, lit<, lit≤, length, eqb-true, eqb-false, arith}
-use Rattle.laws.specs.Booleans.{split}
-use Rattle.laws.specs.Failing.{firstFailing, answer-below}
-use Rattle.sheet.specs.Refusal.{accepted}
-use Rattle.sheet.specs.Check.{arrayTests, sheetTests}
-use Rattle.sheet.specs.Setup.{setupTests}
-use Rattle.slots.specs.declared.Step.{Step}
-use Rattle.slots.specs.declared.Step.the-variants.{Share, Give, SendToPool, HandToMiner, Include, Mine, Bump}
-use Rattle.steps.specs.declared.Decoded.{Decoded}
-use Rattle.steps.specs.declared.Decoded.the-variants.{Read, Refused}
+use Rattle.laws.proofs.Prelude.{ℕ, _+_, _*_, _≤_, _<_, _≡_, refl, List, [], _∷_, eqb, lit<, lit≤, length, eqb-true, eqb-false, arith, split, firstFailing, answer-below}
+use Rattle.position.proofs.Rules.{accepted, arrayTests, sheetTests, setupTests, Step, Share, Give, SendToPool, HandToMiner, Include, Mine, Bump, Decoded, Read, Refused}
+use Rattle.position.proofs.Rules.{start, shareTests, giveTests, sendTests, poolTests, minerTests, includeTests, mineTests, bumpTests, stepRefusal}
 use Rattle.position.specs.declared.Position.{Position}
 use Rattle.position.specs.declared.Ran.{Ran}
-use Rattle.position.specs.Position.{start}
-use Rattle.position.specs.Tests.{shareTests, giveTests, sendTests, poolTests, minerTests, includeTests, mineTests, bumpTests}
-use Rattle.position.specs.StepRefusal.{tests, stepRefusal}
-use Rattle.position.specs.Play.{FourBytes, journalSteps, decodeBytes, takeStep, takeDecoded, step, runFrom, callTests, run}
-use Rattle.position.specs.Answers.{passOn}
+use Rattle.position.proofs.Rules.{FourBytes, journalSteps, decodeBytes, takeStep, takeDecoded, step, runFrom, callTests, run, passOn}
+use Rattle.position.specs.StepRefusal.{tests}
 use Rattle.position.proofs.Passing.{passed-on, not-passed-on, fitted-bounds}
 use Rattle.call_run.proofs.Calls.{journal-whole}
 use Rattle.call_run.proofs.Runs.{run-allowed, run-refused}

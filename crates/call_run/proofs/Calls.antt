@@ -1,14 +1,9 @@
 -- The checks before any step, one after another, and what they give where none fails.
 -- Assumes nothing.
-use Rattle.laws.proofs.Prelude.{ℕ, _%_, _≤_, _≡_, refl, sym, _∙_, Bool, true, false, not, List, [], _∷_, _++_, eqb, leb, length, eqb-true}
-use Rattle.laws.proofs.Prelude.{leb-true}
-use Rattle.laws.specs.Booleans.{and-parts}
-use Rattle.laws.specs.Failing.{firstFailing, passed, passed-append, failed-append, fails, passes, none-left, front-passes}
-use Rattle.sheet.specs.Refusal.{journalLength}
-use Rattle.sheet.specs.Check.{arrayTests, sheetTests, sheetRefusal}
-use Rattle.sheet.specs.Setup.{setupTests, setupRefusal}
-use Rattle.sheet.specs.Checked.{Fit}
-use Rattle.position.specs.Play.{journalRight, callTests}
+use Rattle.laws.proofs.Prelude.{ℕ, _%_, _≤_, _≡_, refl, sym, _∙_, Bool, true, false, not, List, [], _∷_, _++_, eqb, leb, length, eqb-true, leb-true, and-parts}
+use Rattle.laws.proofs.Prelude.{firstFailing, passed, passed-append, failed-append, fails, passes, none-left}
+use Rattle.position.proofs.Rules.{journalLength, arrayTests, sheetTests, sheetRefusal, setupTests, setupRefusal, Fit, journalRight, callTests}
+use Rattle.laws.specs.Failing.{front-passes}
 use Rattle.sheet.proofs.Theorems.{fit}
 
 module _ (s u j : List ℕ) where

@@ -1,11 +1,8 @@
 -- The steps of any bytes, group by group of four: the next one, and none where fewer than four bytes are left.
 -- Assumes nothing.
-use Rattle.laws.proofs.Prelude.{ℕ, suc, _+_, _-_, _*_, _≤_, _<_, _≡_, refl, ap, _∙_, List, [], _∷_, _++_, length, take, drop, length-drop}
-use Rattle.laws.proofs.Prelude.{arith}
+use Rattle.laws.proofs.Prelude.{ℕ, suc, _+_, _-_, _*_, _≤_, _<_, _≡_, refl, ap, _∙_, List, [], _∷_, _++_, length, take, drop, length-drop, arith}
+use Rattle.position.proofs.Rules.{byte, FourBytes, journalSteps, journalBytes, stepAt}
 use lib.Seq.{drop-cons}
-use Rattle.sheet.specs.Field.{byte}
-use Rattle.position.specs.Play.{FourBytes, journalSteps, journalBytes}
-use Rattle.position.specs.Forms.Journal.{stepAt}
 
 -- one byte in front, and four
 one-byte : (j : List ℕ) (i k : ℕ) → i < length j → k ≡ suc i → drop i j ≡ byte j i ∷ drop k j

@@ -1,24 +1,12 @@
 -- A row of steps with its counts and its view: what is left of it, what it is without them, and with the counts.
 -- Assumes nothing.
-use Rattle.laws.proofs.Prelude.{ℕ, _+_, _*_, _≤_, _<_, _≡_, refl, sym, _∙_, Bool, true, false, List, [], _∷_, eqb, length, eqb-true, eq-eqb}
-use Rattle.laws.proofs.Prelude.{ne-eqb}
-use Rattle.laws.specs.Booleans.{pick, split}
-use Rattle.laws.specs.Sets.{removed}
-use Rattle.sheet.specs.Refusal.{accepted, stepField}
-use Rattle.sheet.specs.Field.{count}
-use Rattle.sheet.specs.Checked.{Fit}
-use Rattle.slots.specs.declared.Step.{Step}
-use Rattle.steps.specs.declared.Decoded.{Decoded}
-use Rattle.steps.specs.declared.Decoded.the-variants.{Read, Refused}
-use Rattle.steps.specs.declared.View.{View}
-use Rattle.steps.specs.Forms.View.{viewAfter, viewPassed}
+use Rattle.laws.proofs.Prelude.{ℕ, _+_, _*_, _≤_, _<_, _≡_, refl, sym, _∙_, Bool, true, false, List, [], _∷_, eqb, length, eqb-true, eq-eqb, ne-eqb, pick, split, removed}
+use Rattle.position.proofs.Rules.{accepted, stepField, count, Fit, Step, Decoded, Read, Refused, View, slot, FourBytes, journalSteps, decodeBytes}
 use Rattle.position.specs.declared.Position.{Position}
 use Rattle.position.specs.declared.Stepped.{Stepped}
 use Rattle.position.specs.declared.Ran.{Ran}
-use Rattle.position.specs.Position.{slot}
-use Rattle.position.specs.Play.{FourBytes, journalSteps, decodeBytes, takeStep, takeDecoded, step, runFrom}
-use Rattle.position.specs.Forms.Journal.{stepAt}
-use Rattle.position.specs.Forms.View.{viewBelow}
+use Rattle.position.proofs.Rules.{takeStep, takeDecoded, step, runFrom, stepAt, viewBelow}
+use Rattle.steps.specs.Forms.View.{viewAfter, viewPassed}
 use Rattle.position.specs.Forms.Seen.{changedSet, lowest}
 use Rattle.position.proofs.SeenAfter.{seen-none, seen-one}
 use Rattle.position.proofs.StepCases.{refused-same}

@@ -1,16 +1,10 @@
 -- A journal run: a row of steps by its first, behind another row, of one step or none; the checks before any step.
 -- Assumes nothing.
-use Rattle.laws.proofs.Prelude.{ℕ, _+_, _-_, _≤_, _≡_, refl, sym, ap, _∙_, List, [], _∷_, _++_, eqb, length, take, drop, eqb-true}
-use Rattle.laws.proofs.Prelude.{eqb-false, eq-eqb, ne-eqb, arith}
-use Rattle.laws.specs.Booleans.{split}
-use Rattle.laws.specs.Failing.{firstFailing}
-use Rattle.sheet.specs.Refusal.{accepted}
-use Rattle.sheet.specs.Checked.{Fit}
+use Rattle.laws.proofs.Prelude.{ℕ, _+_, _-_, _≤_, _≡_, refl, sym, ap, _∙_, List, [], _∷_, _++_, eqb, length, take, drop, eqb-true, eqb-false, eq-eqb, ne-eqb, arith}
+use Rattle.laws.proofs.Prelude.{split, firstFailing}
+use Rattle.position.proofs.Rules.{accepted, Fit, start, FourBytes, journalSteps, step, runFrom, callTests, run, stepAt}
 use Rattle.position.specs.declared.Position.{Position}
 use Rattle.position.specs.declared.Ran.{Ran}
-use Rattle.position.specs.Position.{start}
-use Rattle.position.specs.Play.{FourBytes, journalSteps, step, runFrom, callTests, run}
-use Rattle.position.specs.Forms.Journal.{stepAt}
 use Rattle.position.proofs.StepCases.{refused-same}
 use Rattle.call_run.proofs.Groups.{groups-all, groups-none, part-step}
 use Rattle.call_run.proofs.Calls.{call-fit}

@@ -1,19 +1,12 @@
 -- The answer, case by case.
 -- Assumes nothing.
-use Rattle.laws.proofs.Prelude.{ℕ, _+_, _*_, _/_, _%_, _≤_, _<_, _≡_, refl, sym, ap, _∙_, Bool, true, false, not, List, [], _∷_, eqb, leb}
-use Rattle.laws.proofs.Prelude.{lit<, lit≤, length, take, eqb-true, eqb-false, leb-true, eq-eqb, ne-eqb, arith}
-use lib.ListN.{length-take}
-use Rattle.laws.specs.Booleans.{split}
-use Rattle.laws.specs.Failing.{firstFailing, numbered, passed, passed-append, failed-append, answer-below}
-use Rattle.laws.specs.Over.{over, take-over}
-use Rattle.sheet.specs.Refusal.{accepted}
-use Rattle.sheet.specs.Check.{arrayTests, sheetTests}
-use Rattle.sheet.specs.Setup.{setupTests}
+use Rattle.laws.proofs.Prelude.{ℕ, _+_, _*_, _/_, _%_, _≤_, _<_, _≡_, refl, sym, ap, _∙_, Bool, true, false, not, List, [], _∷_, eqb, leb, lit<, lit≤, length, take}
+use Rattle.laws.proofs.Prelude.{eqb-true, eqb-false, leb-true, eq-eqb, ne-eqb, arith, length-take, split, firstFailing, numbered, passed, passed-append, failed-append}
+use Rattle.laws.proofs.Prelude.{answer-below, over, take-over}
+use Rattle.position.proofs.Rules.{accepted, arrayTests, sheetTests, setupTests, start, FourBytes, journalSteps, journalBytes, runFrom, callTests, run}
 use Rattle.position.specs.declared.Position.{Position}
 use Rattle.position.specs.declared.Ran.{Ran}
-use Rattle.position.specs.Position.{start}
-use Rattle.position.specs.Play.{FourBytes, journalSteps, journalBytes, runFrom, callTests, run}
-use Rattle.position.specs.Answers.{fitted}
+use Rattle.position.proofs.Rules.{fitted}
 use Rattle.position.proofs.Passing.{Gives, written, not-written, fitted-bounds}
 use Rattle.step_laws.proofs.Journals.{journal-length}
 use Rattle.call_run.proofs.Runs.{run-allowed}

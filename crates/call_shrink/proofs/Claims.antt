@@ -1,21 +1,13 @@
 -- The claims: order and ending, the same refusal, and nothing that could still go.
 -- Assumes nothing.
-use Rattle.laws.proofs.Prelude.{ℕ, suc, _+_, _%_, _≤_, _<_, _≡_, refl, _∙_, true, false, List, [], _∷_, _++_, append-assoc, append-nil, _⊎_}
-use Rattle.laws.proofs.Prelude.{inl, inr, eqb, length, getD, take, drop, length-append, length-drop, eqb-true, eqb-false, eq-eqb, le-leb}
-use Rattle.laws.proofs.Prelude.{arith}
+use Rattle.laws.proofs.Prelude.{ℕ, suc, _+_, _%_, _≤_, _<_, _≡_, refl, _∙_, true, false, List, [], _∷_, _++_, append-assoc, append-nil, _⊎_, inl, inr, eqb, length, getD}
+use Rattle.laws.proofs.Prelude.{take, drop, length-append, length-drop, eqb-true, eqb-false, eq-eqb, le-leb, arith, length-take, split, clash, firstFailing}
+use Rattle.laws.proofs.Prelude.{passed-append, over, take-over}
+use Rattle.position.proofs.Rules.{accepted, journalLength, arrayTests, sheetTests, sheetRefusal, setupTests, setupRefusal, start, FourBytes, journalSteps, journalBytes}
+use Rattle.position.proofs.Rules.{runFrom, journalRight, callTests, run, fitted}
 use native.Mathlib.Numerals.{add-one}
 use mathlib.Core.List.{Sublistᴰ, Sublistᴰ·refl, Sublistᴰ·cons, Sublistᴰ·trans, Sublistᴰ·append}
-use lib.ListN.{length-take}
 use lib.Seq.{take-suc, drop-cons}
-use Rattle.laws.specs.Booleans.{split, clash}
-use Rattle.laws.specs.Failing.{firstFailing, passed-append}
-use Rattle.laws.specs.Over.{over, take-over}
-use Rattle.sheet.specs.Refusal.{accepted, journalLength}
-use Rattle.sheet.specs.Check.{arrayTests, sheetTests, sheetRefusal}
-use Rattle.sheet.specs.Setup.{setupTests, setupRefusal}
-use Rattle.position.specs.Position.{start}
-use Rattle.position.specs.Play.{FourBytes, journalSteps, journalBytes, runFrom, journalRight, callTests, run}
-use Rattle.position.specs.Answers.{fitted}
 use Rattle.position.proofs.Passing.{written, fitted-room}
 use Rattle.step_laws.proofs.Journals.{journal-steps, journal-length}
 use Rattle.call_run.proofs.Calls.{sheet-passes, setup-passes}

@@ -1,10 +1,7 @@
 -- Computed examples: the answer with each number of its own, on both sides; rounds; and the words of the claims.
 -- Assumes nothing.
-use Rattle.laws.proofs.Prelude.{ℕ, _≡_, refl, true, false, List, [], _∷_, _++_, lit<, length, take, replicate, arith}
-use Rattle.laws.specs.Failing.{firstFailing}
-use Rattle.sheet.specs.Refusal.{accepted, setupBlocks, stepField, stepConflict, journalLength, bufferShort}
-use Rattle.position.specs.Position.{start}
-use Rattle.position.specs.Play.{FourBytes, journalBytes}
+use Rattle.laws.proofs.Prelude.{ℕ, _≡_, refl, true, false, List, [], _∷_, _++_, lit<, length, take, replicate, arith, firstFailing}
+use Rattle.position.proofs.Rules.{accepted, setupBlocks, stepField, stepConflict, journalLength, bufferShort, start, FourBytes, journalBytes}
 use Rattle.position.proofs.Opened.{opened}
 use Rattle.call_shrink.specs.Refusal.{journalLong, noneRefused}
 use Rattle.call_shrink.specs.Shrink.{stillRefused, canGo, roundFrom, round, rounds, shrunk, refusedRow, fewSteps, longTests, shrinkTests, shrinkAnswer}

@@ -1,13 +1,10 @@
 -- A row that does not come to the number: a step after which it has the position before that step cannot go either.
 -- Assumes nothing.
-use Rattle.laws.proofs.Prelude.{ℕ, zero, suc, _+_, _-_, _*_, _≤_, _≡_, refl, sym, ap, _∙_, Bool, true, false, not, _&&_, List, [], _∷_, _++_, _⊎_}
-use Rattle.laws.proofs.Prelude.{eqb, ltb, length, take, drop, length-append, ltb-true, lt-ltb, not-true, arith}
-use lib.Seq.{drop-drop}
-use Rattle.laws.specs.Booleans.{split, either, clash, and-parts}
+use Rattle.laws.proofs.Prelude.{ℕ, zero, suc, _+_, _-_, _*_, _≤_, _≡_, refl, sym, ap, _∙_, Bool, true, false, not, _&&_, List, [], _∷_, _++_, _⊎_, eqb, ltb, length, take}
+use Rattle.laws.proofs.Prelude.{drop, length-append, ltb-true, lt-ltb, not-true, arith, drop-drop, split, either, clash, and-parts}
+use Rattle.position.proofs.Rules.{FourBytes, journalSteps, runFrom, stepAt}
 use Rattle.position.specs.declared.Position.{Position}
 use Rattle.position.specs.declared.Ran.{Ran}
-use Rattle.position.specs.Play.{FourBytes, journalSteps, runFrom}
-use Rattle.position.specs.Forms.Journal.{stepAt}
 use Rattle.call_run.proofs.Groups.{groupsFrom}
 use Rattle.call_shrink.specs.declared.round.Lost.{Lost}
 use Rattle.call_shrink.specs.Shrink.{stillRefused}

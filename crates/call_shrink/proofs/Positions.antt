@@ -1,11 +1,8 @@
 -- A round is the same where each step is tried from the position before it.
 -- Assumes nothing.
-use Rattle.laws.proofs.Prelude.{ℕ, _+_, _≡_, refl, sym, ap, _∙_, Bool, true, false, List, [], _∷_, _++_, append-assoc, append-nil, length}
-use Rattle.laws.proofs.Prelude.{arith}
-use Rattle.laws.specs.Booleans.{split, either}
+use Rattle.laws.proofs.Prelude.{ℕ, _+_, _≡_, refl, sym, ap, _∙_, Bool, true, false, List, [], _∷_, _++_, append-assoc, append-nil, length, arith, split, either}
+use Rattle.position.proofs.Rules.{start, FourBytes, step, runFrom}
 use Rattle.position.specs.declared.Position.{Position}
-use Rattle.position.specs.Position.{start}
-use Rattle.position.specs.Play.{FourBytes, step, runFrom}
 use Rattle.position.proofs.RowSteps.{run-ends}
 use Rattle.call_shrink.specs.Shrink.{stillRefused, canGo, roundFrom, round}
 use Rattle.call_shrink.specs.Forms.Round.{goesAt, keptStep, positionPast, roundAt}

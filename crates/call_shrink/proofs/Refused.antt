@@ -1,11 +1,8 @@
 -- The row that ends with the refused step.
 -- Assumes nothing.
-use Rattle.laws.proofs.Prelude.{ℕ, zero, suc, _+_, _*_, _<_, _≡_, refl, sym, ap, _∙_, true, List, [], _∷_, eqb, length, take, arith}
-use lib.ListN.{length-take}
-use Rattle.laws.specs.Booleans.{split}
-use Rattle.sheet.specs.Refusal.{accepted}
+use Rattle.laws.proofs.Prelude.{ℕ, zero, suc, _+_, _*_, _<_, _≡_, refl, sym, ap, _∙_, true, List, [], _∷_, eqb, length, take, arith, length-take, split}
+use Rattle.position.proofs.Rules.{accepted, FourBytes, journalSteps, step, runFrom}
 use Rattle.position.specs.declared.Position.{Position}
-use Rattle.position.specs.Play.{FourBytes, journalSteps, step, runFrom}
 use Rattle.position.proofs.RowSteps.{run-next, run-stops, run-ends}
 use Rattle.call_shrink.specs.Shrink.{stillRefused}
 use Rattle.call_shrink.proofs.Rows.{parts-still}

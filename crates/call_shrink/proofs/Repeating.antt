@@ -1,10 +1,7 @@
 -- Rounds on a part that is kept in bytes: each is written aside and copied back.
 -- Assumes nothing.
-use Rattle.laws.proofs.Prelude.{ℕ, _*_, _≤_, _<_, _≡_, sym, ap, _∙_, true, List, length, take, arith}
-use lib.ListN.{length-take}
-use Rattle.laws.specs.Over.{over, take-over, length-over}
-use Rattle.position.specs.Position.{start}
-use Rattle.position.specs.Play.{FourBytes, journalSteps, journalBytes}
+use Rattle.laws.proofs.Prelude.{ℕ, _*_, _≤_, _<_, _≡_, sym, ap, _∙_, true, List, length, take, arith, length-take, over, take-over, length-over}
+use Rattle.position.proofs.Rules.{start, FourBytes, journalSteps, journalBytes}
 use Rattle.step_laws.proofs.Journals.{journal-steps, journal-length}
 use Rattle.call_shrink.specs.Shrink.{stillRefused, round, shrunk}
 use Rattle.call_shrink.specs.Forms.Round.{Starts}

@@ -1,10 +1,8 @@
 -- Rounds: what one keeps, that they end, and that nothing is left which can go.
 -- Assumes nothing.
-use Rattle.laws.proofs.Prelude.{ℕ, zero, suc, _+_, _≤_, _<_, _≡_, refl, sym, _∙_, Bool, true, false, List, [], _∷_, _++_, append-assoc}
-use Rattle.laws.proofs.Prelude.{append-nil, eqb, ltb, length, take, drop, length-append, eqb-true, eqb-false, eq-eqb, ne-eqb, lt-ltb, arith}
-use Rattle.laws.specs.Booleans.{split, and-parts}
-use Rattle.position.specs.Position.{start}
-use Rattle.position.specs.Play.{FourBytes}
+use Rattle.laws.proofs.Prelude.{ℕ, zero, suc, _+_, _≤_, _<_, _≡_, refl, sym, _∙_, Bool, true, false, List, [], _∷_, _++_, append-assoc, append-nil, eqb, ltb, length}
+use Rattle.laws.proofs.Prelude.{take, drop, length-append, eqb-true, eqb-false, eq-eqb, ne-eqb, lt-ltb, arith, split, and-parts}
+use Rattle.position.proofs.Rules.{start, FourBytes}
 use Rattle.call_shrink.specs.Shrink.{stillRefused, canGo, roundFrom, round, rounds, shrunk}
 
 module _ (s u : List ℕ) (number : ℕ) where

@@ -1,11 +1,9 @@
 -- Rows of steps: their number and bytes, and a row behind an accepted one.
 -- Assumes nothing.
-use Rattle.laws.proofs.Prelude.{ℕ, _+_, _/_, _%_, _≡_, refl, ap, _∙_, true, List, [], _∷_, _++_, _⊎_, inl, inr, eqb, length, length-append}
-use Rattle.laws.proofs.Prelude.{eqb-true, eqb-false, eq-eqb, ne-eqb, arith}
-use Rattle.laws.specs.Booleans.{split, and-parts}
-use Rattle.sheet.specs.Refusal.{accepted}
+use Rattle.laws.proofs.Prelude.{ℕ, _+_, _/_, _%_, _≡_, refl, ap, _∙_, true, List, [], _∷_, _++_, _⊎_, inl, inr, eqb, length, length-append, eqb-true, eqb-false, eq-eqb}
+use Rattle.laws.proofs.Prelude.{ne-eqb, arith, split, and-parts}
+use Rattle.position.proofs.Rules.{accepted, FourBytes, journalSteps, journalBytes, step, runFrom}
 use Rattle.position.specs.declared.Position.{Position}
-use Rattle.position.specs.Play.{FourBytes, journalSteps, journalBytes, step, runFrom}
 use Rattle.call_run.proofs.Runs.{row-append, row-counts}
 use Rattle.position.proofs.RowSteps.{run-next, run-stops, run-ends}
 use Rattle.call_shrink.specs.Shrink.{stillRefused}

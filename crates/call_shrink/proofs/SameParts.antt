@@ -1,10 +1,8 @@
 -- Records with the same parts are the same.
 -- Assumes nothing.
-use Rattle.laws.proofs.Prelude.{ℕ, _+_, _≤_, _<_, _≡_, refl, sym, _∙_, List, ltb, length, getD, ltb-true, ltb-false, arith}
+use Rattle.laws.proofs.Prelude.{ℕ, _+_, _≤_, _<_, _≡_, refl, sym, _∙_, List, ltb, length, getD, ltb-true, ltb-false, arith, split}
+use Rattle.position.proofs.Rules.{Slot, Position}
 use lib.Seq.{ext-getD}
-use Rattle.laws.specs.Booleans.{split}
-use Rattle.slots.specs.declared.Slot.{Slot}
-use Rattle.position.specs.declared.Position.{Position}
 
 slot-parts : (x y : Slot) → x .pool ≡ y .pool → x .block ≡ y .block → x .confirmed ≡ y .confirmed → x .«alice_made» ≡ y .«alice_made» → x .«bob_made» ≡ y .«bob_made» → x .«carol_made» ≡ y .«carol_made» → x .alice ≡ y .alice → x .bob ≡ y .bob → x .carol ≡ y .carol → x .contract ≡ y .contract → x .height ≡ y .height
     → _≡_ {A = Slot} (record { pool = x .pool; block = x .block; confirmed = x .confirmed; «alice_made» = x .«alice_made»; «bob_made» = x .«bob_made»; «carol_made» = x .«carol_made»; alice = x .alice; bob = x .bob; carol = x .carol; contract = x .contract; height = x .height })

@@ -1,10 +1,8 @@
 -- The tests before any step, one after another.
 -- Assumes nothing.
-use Rattle.laws.proofs.Prelude.{ℕ, _*_, _≤_, _<_, _≡_, refl, sym, _∙_, true, List, [], _∷_, leb, length, le-leb, lt-leb}
-use Rattle.laws.specs.Failing.{firstFailing, numbered, passed-append, failed-append}
-use Rattle.sheet.specs.Check.{arrayTests, sheetTests, sheetRefusal}
-use Rattle.sheet.specs.Setup.{setupTests}
-use Rattle.position.specs.Play.{callTests}
+use Rattle.laws.proofs.Prelude.{ℕ, _*_, _≤_, _<_, _≡_, refl, sym, _∙_, true, List, [], _∷_, leb, length, le-leb, lt-leb, firstFailing, numbered, passed-append}
+use Rattle.laws.proofs.Prelude.{failed-append}
+use Rattle.position.proofs.Rules.{arrayTests, sheetTests, sheetRefusal, setupTests, callTests}
 use Rattle.call_run.proofs.Calls.{by-sheet}
 use Rattle.call_shrink.specs.Refusal.{journalLong}
 use Rattle.call_shrink.specs.Shrink.{longTests}

@@ -1,14 +1,10 @@
 -- A try as the code makes it, and the bytes of a step that is kept.
 -- Assumes nothing.
-use Rattle.laws.proofs.Prelude.{ℕ, _+_, _/_, _<_, _≡_, sym, Bool, false, not, and-false, List, eqb, ltb, length, eq-eqb, ne-eqb, lt-ltb}
-use Rattle.laws.proofs.Prelude.{le-ltb, arith}
-use Rattle.laws.specs.Booleans.{split}
-use Rattle.sheet.specs.Field.{byte}
-use Rattle.output.specs.Forms.Emitted.{emitted}
+use Rattle.laws.proofs.Prelude.{ℕ, _+_, _/_, _<_, _≡_, sym, Bool, false, not, and-false, List, eqb, ltb, length, eq-eqb, ne-eqb, lt-ltb, le-ltb, arith, split}
+use Rattle.position.proofs.Rules.{byte, journalSteps, journalBytes, runFrom, stepAt}
 use Rattle.position.specs.declared.Position.{Position}
 use Rattle.position.specs.declared.Ran.{Ran}
-use Rattle.position.specs.Play.{journalSteps, journalBytes, runFrom}
-use Rattle.position.specs.Forms.Journal.{stepAt}
+use Rattle.output.specs.Forms.Emitted.{emitted}
 use Rattle.call_shrink.specs.Shrink.{stillRefused}
 use Rattle.call_shrink.specs.Forms.Round.{goesAt, keptStep}
 use Rattle.call_shrink.proofs.Rows.{steps-count}

@@ -1,13 +1,9 @@
 -- A step that could not go, and the same step right after it: that one cannot go either, so it need not be tried.
 -- Assumes nothing.
-use Rattle.laws.proofs.Prelude.{ℕ, _+_, _-_, _*_, _≤_, _≡_, refl, sym, _∙_, Bool, true, false, not, _&&_, and-false, List, [], _∷_, eqb}
-use Rattle.laws.proofs.Prelude.{ltb, length, eqb-true, eq-eqb, lt-ltb, arith}
-use Rattle.laws.specs.Booleans.{split, either, clash, and-parts}
-use Rattle.sheet.specs.Refusal.{accepted}
+use Rattle.laws.proofs.Prelude.{ℕ, _+_, _-_, _*_, _≤_, _≡_, refl, sym, _∙_, Bool, true, false, not, _&&_, and-false, List, [], _∷_, eqb, ltb, length, eqb-true, eq-eqb}
+use Rattle.laws.proofs.Prelude.{lt-ltb, arith, split, either, clash, and-parts}
+use Rattle.position.proofs.Rules.{accepted, start, FourBytes, journalSteps, step, runFrom, stepAt}
 use Rattle.position.specs.declared.Position.{Position}
-use Rattle.position.specs.Position.{start}
-use Rattle.position.specs.Play.{FourBytes, journalSteps, step, runFrom}
-use Rattle.position.specs.Forms.Journal.{stepAt}
 use Rattle.position.proofs.RowSteps.{run-next, run-ends}
 use Rattle.call_run.proofs.Groups.{groupsFrom, groups-all, groups-next}
 use Rattle.call_shrink.specs.Shrink.{stillRefused}

@@ -1,12 +1,8 @@
 -- The bytes that a round keeps, group by group.
 -- Assumes nothing.
-use Rattle.laws.proofs.Prelude.{ℕ, _+_, _-_, _*_, _/_, _≤_, _<_, _≡_, refl, Bool, true, List, [], _++_, length, take, drop, arith}
-use Rattle.laws.specs.Over.{over}
-use Rattle.laws.specs.Wrote.{Wrote, to-end}
+use Rattle.laws.proofs.Prelude.{ℕ, _+_, _-_, _*_, _/_, _≤_, _<_, _≡_, refl, Bool, true, List, [], _++_, length, take, drop, arith, over, Wrote, to-end}
+use Rattle.position.proofs.Rules.{start, journalSteps, journalBytes, stepAt}
 use Rattle.position.specs.declared.Position.{Position}
-use Rattle.position.specs.Position.{start}
-use Rattle.position.specs.Play.{journalSteps, journalBytes}
-use Rattle.position.specs.Forms.Journal.{stepAt}
 use Rattle.output.proofs.Writing.{Writing, writing-room, writing-end}
 use Rattle.step_laws.proofs.Journals.{journal-length}
 use Rattle.call_run.proofs.Groups.{bytes-append, no-bytes, groupsFrom, groups-all, groups-next, groups-none}

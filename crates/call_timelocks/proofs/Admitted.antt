@@ -1,12 +1,8 @@
 -- Bitcoin's rule for the three pairs of numbers that a transaction of version 2 gets.
 -- Assumes nothing.
-use Rattle.laws.proofs.Prelude.{ℕ, _+_, _%_, _^_, _≤_, _<_, _≡_, refl, Bool, true, false, _&&_, _||_, eqb, ltb, leb, lit≤, lt-ltb, le-ltb}
-use Rattle.laws.proofs.Prelude.{arith}
+use Rattle.laws.proofs.Prelude.{ℕ, _+_, _%_, _^_, _≤_, _<_, _≡_, refl, Bool, true, false, _&&_, _||_, eqb, ltb, leb, lit≤, lt-ltb, le-ltb, arith, or-true, pick, bit}
+use Rattle.laws.proofs.Prelude.{bit-above}
 use native.Mathlib.Nat.{mod-eq-of-lt}
-use mathlib.Core.Bool.{or-true}
-use Rattle.laws.specs.Booleans.{pick}
-use Rattle.laws.specs.Mask.{bit}
-use Rattle.laws.specs.Bits.{bit-above}
 use Rattle.call_timelocks.specs.Bitcoin.{Block, threshold, clock, isFinal, relative, value, reached, admitted}
 use Rattle.call_timelocks.specs.Claim.{boxed}
 

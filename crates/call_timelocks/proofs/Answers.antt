@@ -1,11 +1,7 @@
 -- The answers of the call, case by case, and what it gives that no test of the two numbers fails.
 -- Assumes nothing.
-use Rattle.laws.proofs.Prelude.{ℕ, _*_, _≤_, _<_, _≡_, refl, sym, _∙_, Bool, true, false, List, [], _∷_, _++_, eqb, leb, lit<, length}
-use Rattle.laws.proofs.Prelude.{eqb-true, eqb-false, leb-true, leb-false, ne-eqb, le-leb, lt-leb}
-use Rattle.laws.specs.Below.{allBelow}
-use Rattle.laws.specs.Booleans.{split}
-use Rattle.laws.specs.Failing.{firstFailing, numbered, passed, passed-append, failed-append, answer-below}
-use Rattle.laws.specs.Over.{over}
+use Rattle.laws.proofs.Prelude.{ℕ, _*_, _≤_, _<_, _≡_, refl, sym, _∙_, Bool, true, false, List, [], _∷_, _++_, eqb, leb, lit<, length, eqb-true, eqb-false, leb-true}
+use Rattle.laws.proofs.Prelude.{leb-false, ne-eqb, le-leb, lt-leb, allBelow, split, firstFailing, numbered, passed, passed-append, failed-append, answer-below, over}
 use Rattle.sheet.specs.Refusal.{accepted, bufferShort}
 use Rattle.sheet.specs.Field.{count}
 use Rattle.sheet.specs.Check.{arrayTests, sheetTests, sheetRefusal}

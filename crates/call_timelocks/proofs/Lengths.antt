@@ -1,8 +1,6 @@
 -- The lengths of the two numbers' bytes, and of all of them.
 -- Assumes nothing.
-use Rattle.laws.proofs.Prelude.{ℕ, _*_, _≤_, _≡_, List, length}
-use Rattle.laws.specs.Gather.{gather, length-gather}
-use Rattle.laws.specs.Little.{length-pair}
+use Rattle.laws.proofs.Prelude.{ℕ, _*_, _≤_, _≡_, List, length, gather, length-gather, length-pair}
 use Rattle.sheet.specs.Field.{count}
 use Rattle.call_timelocks.specs.Fields.{nLockTime, nSequence, fieldBytes, timelockBytes}
 

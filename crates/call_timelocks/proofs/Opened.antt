@@ -1,9 +1,6 @@
 -- One name that opens every definition of this crate and the sheet's, for proofs by computation: `unfolding opened`.
 -- Assumes nothing.
-use Rattle.laws.specs.Gather.{gather}
-use Rattle.laws.specs.Little.{bytesOf, numberAt}
-use Rattle.laws.specs.Mask.{bit}
-use Rattle.laws.specs.Over.{over}
+use Rattle.laws.proofs.Prelude.{gather, bytesOf, numberAt, bit, over}
 use Rattle.sheet.proofs.Opened as sheet
 use Rattle.call_timelocks.specs.Bitcoin.{clock, isFinal, relative, value, reached, admitted}
 use Rattle.call_timelocks.specs.Fields.{nLockTime, nSequence, fieldBytes, timelockBytes}

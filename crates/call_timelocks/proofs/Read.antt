@@ -1,8 +1,7 @@
 -- The two numbers as they stand in the buffer.
 -- Assumes nothing.
-use Rattle.laws.proofs.Prelude.{ℕ, _+_, _*_, _≤_, _<_, _≡_, List, length}
-use Rattle.laws.specs.Little.{numberAt, first-read, second-read}
-use Rattle.laws.specs.Over.{over}
+use Rattle.laws.proofs.Prelude.{ℕ, _+_, _*_, _≤_, _<_, _≡_, List, length, numberAt, over}
+use Rattle.laws.specs.Little.{first-read, second-read}
 use Rattle.sheet.specs.Field.{count}
 use Rattle.call_timelocks.specs.Fields.{nLockTime, nSequence, fieldBytes, timelockBytes}
 

@@ -1,9 +1,7 @@
 -- For each type of lock, Bitcoin's rule and the sheet's lock height say the same.
 -- Assumes nothing.
-use Rattle.laws.proofs.Prelude.{ℕ, _+_, _-_, _≤_, _<_, _≡_, sym, _∙_, true, false, _||_, List, eqb, ltb, leb, leb-true, leb-false, ne-eqb}
-use Rattle.laws.proofs.Prelude.{lt-ltb, le-ltb, le-leb, lt-leb, arith}
-use mathlib.Core.Bool.{or-true}
-use Rattle.laws.specs.Booleans.{split, clash}
+use Rattle.laws.proofs.Prelude.{ℕ, _+_, _-_, _≤_, _<_, _≡_, sym, _∙_, true, false, _||_, List, eqb, ltb, leb, leb-true, leb-false, ne-eqb, lt-ltb, le-ltb, le-leb, lt-leb}
+use Rattle.laws.proofs.Prelude.{arith, or-true, split, clash}
 use Rattle.sheet.specs.Field.{lockType, parent, opening}
 use Rattle.sheet.specs.LockHeight.{lockBlocks, sinceParent, lockHeight, never}
 use Rattle.sheet.specs.Checked.{LockPair, none, absolute, since}

@@ -1,8 +1,6 @@
 -- Locks in Bitcoin's own fields.
 -- Assumes nothing.
-use Rattle.laws.proofs.Prelude.{_-_, _≡_, refl, true, false, [], _∷_, leb}
-use Rattle.laws.specs.Booleans.{either}
-use Rattle.laws.specs.Below.{all-at}
+use Rattle.laws.proofs.Prelude.{_-_, _≡_, refl, true, false, [], _∷_, leb, either, all-at}
 use Rattle.sheet.specs.Field.{count}
 use Rattle.sheet.specs.Setup.{perDay}
 use Rattle.sheet.specs.LockHeight.{lockHeight}

@@ -1,12 +1,8 @@
 -- Where a limit is broken, the claim is false of a transaction that breaks it.
 -- Assumes nothing.
-use Rattle.laws.proofs.Prelude.{ℕ, _+_, _-_, _%_, _≤_, _<_, _≡_, refl, sym, _∙_, true, false, List, _⊎_, inl, inr, eqb, leb, lit<, eqb-true}
-use Rattle.laws.proofs.Prelude.{eqb-false, ltb-false, leb-false, le-leb, lt-leb, arith}
-use native.Mathlib.Nat.{mul-le-mul}
-use mathlib.Core.Bool.{true≢false}
-use Rattle.laws.specs.Below.{allBelow, all-fails}
-use Rattle.laws.specs.Booleans.{split, either}
-use Rattle.laws.specs.Failing.{firstFailing}
+use Rattle.laws.proofs.Prelude.{ℕ, _+_, _-_, _%_, _≤_, _<_, _≡_, refl, sym, _∙_, true, false, List, _⊎_, inl, inr, eqb, leb, lit<, eqb-true, eqb-false, ltb-false}
+use Rattle.laws.proofs.Prelude.{leb-false, le-leb, lt-leb, arith, mul-le-mul, true≢false, allBelow, split, either, firstFailing}
+use Rattle.laws.specs.Below.{all-fails}
 use Rattle.sheet.specs.Field.{count, lockType, days}
 use Rattle.sheet.specs.LockHeight.{lockBlocks, lockHeight}
 use Rattle.sheet.specs.Check.{sheetRefusal}

@@ -1,15 +1,9 @@
 -- Who acted in a step: no party X, but for sends that it may make; and where what stands after the step comes from.
 -- Assumes nothing.
-use Rattle.laws.proofs.Prelude.{ℕ, _<_, _≡_, Bool, true, false, List, _⊎_, eqb}
-use Rattle.laws.specs.Mask.{bit}
-use Rattle.sheet.specs.Field.{parent, opening}
-use Rattle.sheet.specs.Setup.{stealth}
-use Rattle.slots.specs.declared.Step.{Step}
-use Rattle.slots.specs.declared.Step.the-variants.{Share, Give, SendToPool, HandToMiner, Include, Mine, Bump}
-use Rattle.slots.specs.Destination.{destinations, isParty}
-use Rattle.slots.specs.Signatures.{shareMask, exposedMask}
+use Rattle.laws.proofs.Prelude.{ℕ, _<_, _≡_, Bool, true, false, List, _⊎_, eqb, bit}
+use Rattle.position.proofs.Rules.{parent, opening, stealth, Step, Share, Give, SendToPool, HandToMiner, Include, Mine, Bump, destinations, isParty, shareMask}
+use Rattle.position.proofs.Rules.{exposedMask, inPool, poolTo, inBlock, blockTo, blockOf, isConfirmed, confirmedTo, shared, keys, holds, deadlineIn}
 use Rattle.position.specs.declared.Position.{Position}
-use Rattle.position.specs.Position.{inPool, poolTo, inBlock, blockTo, blockOf, isConfirmed, confirmedTo, shared, keys, holds, deadlineIn}
 use Rattle.step_laws.proofs.Sending.{Sent}
 
 -- the party is not X, or it sends one of those that X may

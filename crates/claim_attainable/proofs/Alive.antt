@@ -1,17 +1,10 @@
 -- What stands is not dead, and what is gone stays gone.
 -- Assumes nothing.
-use Rattle.laws.proofs.Prelude.{ℕ, _<_, _≡_, Bool, true, false, not, _&&_, _||_, List, _⊎_, eqb-false, ltb-true, arith}
-use Rattle.laws.specs.Booleans.{either, clash, and-parts, or-parts, fails-by}
-use Rattle.sheet.specs.Field.{count, parent, opening}
-use Rattle.sheet.specs.Setup.{perDay}
-use Rattle.sheet.specs.Checked.{Checked}
-use Rattle.slots.specs.Conflict.{conflict}
-use Rattle.slots.specs.Ancestry.{meetsOther}
-use Rattle.slots.specs.Invalidated.{invalidated}
+use Rattle.laws.proofs.Prelude.{ℕ, _<_, _≡_, Bool, true, false, not, _&&_, _||_, List, _⊎_, eqb-false, ltb-true, arith, either, clash, and-parts, or-parts, fails-by}
+use Rattle.position.proofs.Rules.{count, parent, opening, perDay, Checked, conflict, meetsOther, invalidated, inPool, inBlock, blockOf, isConfirmed}
+use Rattle.position.specs.declared.Position.{Position}
 use Rattle.slots.proofs.Ancestors.{Above, here, up, above-le, other-find}
 use Rattle.slots.proofs.Parents.{parent-has}
-use Rattle.position.specs.declared.Position.{Position}
-use Rattle.position.specs.Position.{inPool, inBlock, blockOf, isConfirmed}
 use Rattle.claim_ledger.proofs.Sound.{Waits, Sound}
 use Rattle.claim_ledger.proofs.BumpedBlock.{settled-up, waits-up}
 use Rattle.claim_outage.proofs.Play.{LaterIn}

@@ -1,25 +1,16 @@
 -- What every list of steps without X keeps: the others' keys, entries and shared signatures come from a closed set of the first position.
 -- Assumes nothing.
-use Rattle.laws.proofs.Prelude.{ℕ, zero, suc, _≤_, _<_, _≡_, refl, sym, _∙_, Bool, true, false, _&&_, List, _⊎_, inl, inr, eqb, ltb, leb}
-use Rattle.laws.proofs.Prelude.{length, eqb-true, ltb-true, ltb-false, leb-true, eq-eqb, lt-ltb, arith}
-use native.Mathlib.Nat.{not-suc-le-zero}
-use lib.Bits.{bitAnd}
-use Rattle.laws.specs.Booleans.{split, either, clash, and-parts, fails-by, or-right}
-use Rattle.laws.specs.Mask.{bit, without}
-use Rattle.laws.specs.Bits.{bit-and, no-bit}
-use Rattle.sheet.specs.Field.{parties, place, partyAt, count, parent, opening, signatures, secrets, required}
-use Rattle.sheet.specs.Setup.{perDay, stealth}
-use Rattle.sheet.specs.Checked.{Checked}
+use Rattle.laws.proofs.Prelude.{ℕ, zero, suc, _≤_, _<_, _≡_, refl, sym, _∙_, Bool, true, false, _&&_, List, _⊎_, inl, inr, eqb, ltb, leb, length, eqb-true, ltb-true}
+use Rattle.laws.proofs.Prelude.{ltb-false, leb-true, eq-eqb, lt-ltb, arith, not-suc-le-zero, bitAnd, split, either, clash, and-parts, fails-by, or-right, bit, without}
+use Rattle.laws.proofs.Prelude.{bit-and, no-bit}
+use Rattle.position.proofs.Rules.{parties, place, partyAt, count, parent, opening, signatures, secrets, required, perDay, stealth, Checked, alice, bob, contract}
+use Rattle.position.proofs.Rules.{destinations, isParty, isPayee, isContract, emptySlot, sharedFor, signed, shareMask, exposedMask, inPool, poolTo, inBlock}
+use Rattle.position.specs.declared.Position.{Position}
+use Rattle.position.proofs.Rules.{blockTo, blockOf, isConfirmed, confirmedTo, shared, holds, deadlineIn, sendsTo, sharesTo}
 use Rattle.sheet.proofs.Parties.{place-below, at-place, party-small, party-not-miner}
-use Rattle.slots.specs.Destination.{alice, bob, contract, destinations, isParty, isPayee, isContract}
-use Rattle.slots.specs.Slot.{emptySlot, sharedFor}
-use Rattle.slots.specs.Signatures.{signed, shareMask, exposedMask}
 use Rattle.slots.proofs.Conflicts.{conflict-self}
 use Rattle.slots.proofs.Parents.{parent-below, parent-lower}
-use Rattle.position.specs.declared.Position.{Position}
-use Rattle.position.specs.Position.{inPool, poolTo, inBlock, blockTo, blockOf, isConfirmed, confirmedTo, shared, holds, deadlineIn}
 use Rattle.position.specs.Position as at
-use Rattle.steps.specs.Decode.{sendsTo, sharesTo}
 use Rattle.step_laws.proofs.AfterBlocks.{out-pool, out-block}
 use Rattle.claim_ledger.proofs.Sound.{Waits, Sound}
 use Rattle.claim_ledger.proofs.EachKind.{right-to, wide}

@@ -1,16 +1,9 @@
 -- The words of specs/ by example: on the SASwap sheet at 1 block per day, and on a ring of three.
 -- Assumes nothing.
-use Rattle.laws.proofs.Prelude.{ℕ, _+_, _^_, _≡_, refl, Bool, true, false, false≢true, List, [], _∷_, _++_, eqb, arith}
-use Rattle.laws.specs.Booleans.{either}
-use Rattle.laws.specs.Below.{allBelow, anyBelow}
-use Rattle.laws.specs.Sets.{joined, setBelow}
-use Rattle.sheet.specs.Check.{sheetRefusal}
-use Rattle.sheet.specs.Saswap.{saswap}
-use Rattle.slots.specs.Destination.{alice, bob, contract, carol}
-use Rattle.steps.specs.Names.{success, refund1, revoke, refund2, timeout, spendB, spendSuccess, spendRefund1Alice, spendRevoke, spendRefund2, spendTimeout}
+use Rattle.laws.proofs.Prelude.{ℕ, _+_, _^_, _≡_, refl, Bool, true, false, false≢true, List, [], _∷_, _++_, eqb, arith, either, allBelow, anyBelow, joined, setBelow}
+use Rattle.position.proofs.Rules.{sheetRefusal, saswap, alice, bob, contract, carol, success, refund1, revoke, refund2, timeout, spendB, spendSuccess, spendRefund1Alice}
+use Rattle.position.proofs.Rules.{spendRevoke, spendRefund2, spendTimeout, isConfirmed, FourBytes, journalSteps, play}
 use Rattle.position.specs.declared.Position.{Position}
-use Rattle.position.specs.Position.{isConfirmed}
-use Rattle.position.specs.Play.{FourBytes, journalSteps, play}
 use Rattle.position.proofs.Opened.{opened}
 use Rattle.claim_ledger.specs.Claim.{positionOf}
 use Rattle.attainable.specs.Attainable.{gone, secretsOf, otherKeys, othersKeys, shownBy, knownFrom, neverSent, waitsFor, signable, comes, grown, rounds, attainable, attainableElsewhere, Closed}

@@ -1,26 +1,14 @@
 -- Every accepted step in which X is idle: where the entries, shared signatures and keys after it come from.
 -- Assumes nothing.
-use Rattle.laws.proofs.Prelude.{ℕ, _+_, _≤_, _<_, _≡_, refl, Bool, true, false, not, _&&_, _||_, false≢true, List, _⊎_, inl, inr, eqb, ltb}
-use Rattle.laws.proofs.Prelude.{length, eqb-true, ltb-true, not-true, arith}
-use Rattle.laws.specs.Booleans.{pick, split, either, and-parts, or-parts}
-use Rattle.laws.specs.Failing.{passed}
-use Rattle.sheet.specs.Field.{count, parent, opening, signatures}
-use Rattle.sheet.specs.Setup.{stealth}
-use Rattle.slots.specs.declared.Destination.{Destination}
-use Rattle.slots.specs.declared.Step.{Step}
-use Rattle.slots.specs.declared.Step.the-variants.{Share, Give, SendToPool, HandToMiner, Include, Mine, Bump}
-use Rattle.slots.specs.Destination.{miner, contract, destinationNumber, isParty}
-use Rattle.slots.specs.Ancestry.{hasParent, meetsConflict}
-use Rattle.slots.specs.Slot.{emptySlot, entryFor}
+use Rattle.laws.proofs.Prelude.{ℕ, _+_, _≤_, _<_, _≡_, refl, Bool, true, false, not, _&&_, _||_, false≢true, List, _⊎_, inl, inr, eqb, ltb, length, eqb-true, ltb-true}
+use Rattle.laws.proofs.Prelude.{not-true, arith, pick, split, either, and-parts, or-parts, passed}
+use Rattle.position.proofs.Rules.{count, parent, opening, signatures, stealth, Destination, Step, Share, Give, SendToPool, HandToMiner, Include, Mine, Bump, miner}
+use Rattle.position.proofs.Rules.{contract, destinationNumber, isParty, hasParent, meetsConflict, emptySlot, entryFor, slot, inPool, poolTo, inBlock, blockTo}
 use Rattle.position.specs.declared.Position.{Position}
-use Rattle.position.specs.Position.{slot, inPool, poolTo, inBlock, blockTo, blockOf, isConfirmed, confirmedTo, sent, placed, keys, holds}
-use Rattle.steps.specs.Decode.{isOther, sharesTo, firstShareFields, fieldsRight}
-use Rattle.position.specs.Owed.{enters}
-use Rattle.position.specs.Tests.{giveMet, giveTests, sendTests, poolTests, minerTests, includeTests}
-use Rattle.position.specs.Conduct.{conductAllows}
-use Rattle.position.specs.StepRefusal.{tests, stepRefusal}
-use Rattle.position.specs.Effect.{afterShare, afterGive, afterSend, afterHandIn, afterInclude}
-use Rattle.position.specs.Effect.{leavesPool, afterMine, afterBump, effect}
+use Rattle.position.proofs.Rules.{blockOf, isConfirmed, confirmedTo, sent, placed, keys, holds, isOther, sharesTo, firstShareFields, fieldsRight, enters, giveMet}
+use Rattle.position.proofs.Rules.{giveTests, sendTests, poolTests, minerTests, includeTests, conductAllows, stepRefusal, afterShare, afterGive, afterSend, afterHandIn}
+use Rattle.position.proofs.Rules.{afterInclude, leavesPool, afterMine, afterBump, effect}
+use Rattle.position.specs.StepRefusal.{tests}
 use Rattle.step_laws.proofs.Untouched.{SamePool, SameBlock, SameConfirmed}
 use Rattle.step_laws.proofs.AfterShares.{share-pool, share-block, share-confirmed, give-pool, give-block, give-confirmed}
 use Rattle.step_laws.proofs.AfterSends.{send-pool, send-to, send-block, send-confirmed, hand-block, hand-to, hand-pool, hand-confirmed, include-block, include-to, include-pool, include-confirmed}

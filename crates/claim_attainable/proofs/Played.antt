@@ -1,21 +1,13 @@
 -- A list of steps in which X takes none, or none but sends of some transactions, leads to bounded positions.
 -- Assumes nothing.
-use Rattle.laws.proofs.Prelude.{ℕ, _≡_, Bool, true, false, not, _||_, false≢true, List, [], _∷_, inl, inr, eqb, eqb-true, not-true}
-use Rattle.laws.specs.Booleans.{split, either, and-parts, or-parts, fails-by}
-use Rattle.laws.specs.Gather.{every}
-use Rattle.sheet.specs.Check.{sheetRefusal}
-use Rattle.sheet.specs.Setup.{setupRefusal}
-use Rattle.sheet.specs.Checked.{Checked}
-use Rattle.sheet.proofs.Theorems.{sheet-checked}
-use Rattle.slots.specs.declared.Step.{Step}
-use Rattle.slots.specs.declared.Step.the-variants.{Share, Give, SendToPool, HandToMiner, Include, Mine, Bump}
-use Rattle.slots.specs.Destination.{isParty}
+use Rattle.laws.proofs.Prelude.{ℕ, _≡_, Bool, true, false, not, _||_, false≢true, List, [], _∷_, inl, inr, eqb, eqb-true, not-true, split, either, and-parts, or-parts}
+use Rattle.laws.proofs.Prelude.{fails-by, every}
+use Rattle.position.proofs.Rules.{sheetRefusal, setupRefusal, Checked, Step, Share, Give, SendToPool, HandToMiner, Include, Mine, Bump, isParty, FourBytes}
 use Rattle.position.specs.declared.Position.{Position}
-use Rattle.position.specs.Play.{FourBytes, decodeBytes, step, play}
+use Rattle.position.proofs.Rules.{decodeBytes, step, play, Read, stepBytes}
+use Rattle.sheet.proofs.Theorems.{sheet-checked}
 use Rattle.position.proofs.StepCases.{StepCase, taken, turned-down, step-case}
 use Rattle.position.proofs.Decoding.{decodes}
-use Rattle.steps.specs.declared.Decoded.the-variants.{Read}
-use Rattle.steps.specs.Decode.{stepBytes}
 use Rattle.step_laws.proofs.Rises.{fourOf}
 use Rattle.claim_ledger.proofs.EachKind.{wide}
 use Rattle.claim_ledger.proofs.SoundSteps.{sound-step}

@@ -1,26 +1,14 @@
 -- Shared signatures and keys after each kind of step: where each comes from.
 -- Assumes nothing.
-use Rattle.laws.proofs.Prelude.{ℕ, _+_, _^_, _<_, _≡_, refl, sym, _∙_, true, List, [], _∷_, _⊎_, inl, inr, eqb, eqb-true}
-use lib.Bits.{bitOr}
-use Rattle.laws.specs.Booleans.{split, either}
-use Rattle.laws.specs.Bits.{or-bit, no-bit, bit-and}
-use Rattle.laws.specs.Sets.{joined, bit-joined}
-use Rattle.laws.specs.Cases.{stored, rewrote}
-use Rattle.laws.specs.Mask.{bit, unionBelow}
-use Rattle.sheet.specs.Field.{count, secrets}
-use Rattle.slots.specs.declared.Slot.{Slot}
-use Rattle.slots.specs.Destination.{contract, destinations}
-use Rattle.slots.specs.Slot.{emptySlot, standing, entryTo, entryFor, sharedFor, withPool, withBlock, withShared, withMark, sharedAny}
-use Rattle.slots.specs.Signatures.{shareMask, exposedMask, sharedSecrets}
-use Rattle.slots.proofs.SharedBits.{shared-from, shared-pool, shared-block, shared-confirmed, shared-mark}
+use Rattle.laws.proofs.Prelude.{ℕ, _+_, _^_, _<_, _≡_, refl, sym, _∙_, true, List, [], _∷_, _⊎_, inl, inr, eqb, eqb-true, bitOr, split, either, or-bit, no-bit, bit-and}
+use Rattle.laws.proofs.Prelude.{joined, bit-joined, bit, unionBelow}
+use Rattle.position.proofs.Rules.{count, secrets, Slot, contract, destinations, emptySlot, standing, entryTo, entryFor, sharedFor, withPool, withBlock, withShared}
+use Rattle.position.proofs.Rules.{withMark, sharedAny, shareMask, exposedMask, sharedSecrets, slot, inBlock, blockTo, shared, keys, holds, noTransaction}
 use Rattle.position.specs.declared.Position.{Position}
-use Rattle.position.specs.Position.{slot, inBlock, blockTo, shared, keys, holds}
-use Rattle.steps.specs.Decode.{noTransaction}
-use Rattle.steps.specs.Mined.{confirmEntry}
-use Rattle.position.specs.FirstShares.{firstShares}
-use Rattle.position.specs.Owed.{enters}
-use Rattle.position.specs.Effect.{withSlots, changeSlot, changeSlots, withKey, shareOne, shareEach, afterShare, afterGive, afterSend, afterHandIn, afterInclude}
-use Rattle.position.specs.Effect.{leavesPool, mineSlot, withMined, afterMine, leavesBlock, bumpSlot, afterBump}
+use Rattle.position.proofs.Rules.{confirmEntry, firstShares, enters, withSlots, changeSlot, changeSlots, withKey, shareOne, shareEach, afterShare, afterGive, afterSend}
+use Rattle.position.proofs.Rules.{afterHandIn, afterInclude, leavesPool, mineSlot, withMined, afterMine, leavesBlock, bumpSlot, afterBump}
+use Rattle.laws.specs.Cases.{stored, rewrote}
+use Rattle.slots.proofs.SharedBits.{shared-from, shared-pool, shared-block, shared-confirmed, shared-mark}
 use Rattle.attainable.proofs.Masks.{or-last, union-has}
 
 -- shared signatures where one slot, or each, is changed

@@ -1,24 +1,14 @@
 -- What can come without X after such a list could come before it.
 -- Assumes nothing.
-use Rattle.laws.proofs.Prelude.{ℕ, _<_, _≡_, sym, _∙_, Bool, true, false, not, _&&_, _||_, List, _⊎_, inl, inr, eqb, leb, eqb-true}
-use Rattle.laws.proofs.Prelude.{leb-true, lt-ltb, le-leb, arith}
-use lib.Bits.{bitAnd, bitOr}
-use Rattle.laws.specs.Booleans.{split, either, clash, and-parts, or-parts, fails-by}
-use Rattle.laws.specs.Mask.{bit, unionBelow}
-use Rattle.laws.specs.Bits.{bit-and, or-bit, union-bit, no-bit, subset-bit}
-use Rattle.sheet.specs.Field.{parties, partyAt, count, parent, opening, signatures, secrets, required}
-use Rattle.sheet.specs.Setup.{stealth}
-use Rattle.sheet.specs.Checked.{Checked}
+use Rattle.laws.proofs.Prelude.{ℕ, _<_, _≡_, sym, _∙_, Bool, true, false, not, _&&_, _||_, List, _⊎_, inl, inr, eqb, leb, eqb-true, leb-true, lt-ltb, le-leb, arith}
+use Rattle.laws.proofs.Prelude.{bitAnd, bitOr, split, either, clash, and-parts, or-parts, fails-by, bit, unionBelow, bit-and, or-bit, union-bit, no-bit, subset-bit}
+use Rattle.position.proofs.Rules.{parties, partyAt, count, parent, opening, signatures, secrets, required, stealth, Checked, destinations, isParty, meetsOther}
+use Rattle.position.proofs.Rules.{invalidated, sharedAny, sharedSecrets, senderMask, signed, slot, inPool, poolTo, inBlock, blockTo, blockOf, isConfirmed}
+use Rattle.position.specs.declared.Position.{Position}
+use Rattle.position.proofs.Rules.{shared, keys, holds, deadlineIn}
 use Rattle.sheet.proofs.Parties.{party-at}
-use Rattle.slots.specs.Destination.{destinations, isParty}
-use Rattle.slots.specs.Ancestry.{meetsOther}
-use Rattle.slots.specs.Invalidated.{invalidated}
-use Rattle.slots.specs.Slot.{sharedAny}
-use Rattle.slots.specs.Signatures.{sharedSecrets, senderMask, signed}
 use Rattle.slots.proofs.Ancestors.{other-find, other-met}
 use Rattle.slots.proofs.Parents.{parent-below}
-use Rattle.position.specs.declared.Position.{Position}
-use Rattle.position.specs.Position.{slot, inPool, poolTo, inBlock, blockTo, blockOf, isConfirmed, shared, keys, holds, deadlineIn}
 use Rattle.claim_careful.proofs.Has.{somewhere}
 use Rattle.claim_outage.proofs.Between.{between}
 use Rattle.claim_outage.proofs.Play.{LaterIn}

@@ -1,18 +1,10 @@
 -- Nobody confirms what nobody else can sign: the claims of specs/Claim.antt.
 -- Assumes nothing.
-use Rattle.laws.proofs.Prelude.{ℕ, _<_, _≡_, refl, _∙_, Bool, true, false, not, _&&_, List, [], _∷_, _⊎_, inl, inr, eqb, ne-eqb}
-use Rattle.laws.specs.Booleans.{either, and-parts}
-use Rattle.laws.specs.Below.{anyBelow, any-found}
-use Rattle.laws.specs.Gather.{every}
-use Rattle.laws.specs.Sets.{set-bit}
-use Rattle.sheet.specs.Field.{count}
-use Rattle.sheet.specs.Check.{sheetRefusal}
-use Rattle.sheet.specs.Setup.{setupRefusal}
-use Rattle.sheet.proofs.Theorems.{sheet-checked}
-use Rattle.slots.specs.Destination.{destinations, isParty}
+use Rattle.laws.proofs.Prelude.{ℕ, _<_, _≡_, refl, _∙_, Bool, true, false, not, _&&_, List, [], _∷_, _⊎_, inl, inr, eqb, ne-eqb, either, and-parts, anyBelow, any-found}
+use Rattle.laws.proofs.Prelude.{every, set-bit}
+use Rattle.position.proofs.Rules.{count, sheetRefusal, setupRefusal, destinations, isParty, start, isConfirmed, confirmedTo, FourBytes, play}
 use Rattle.position.specs.declared.Position.{Position}
-use Rattle.position.specs.Position.{start, isConfirmed, confirmedTo}
-use Rattle.position.specs.Play.{FourBytes, play}
+use Rattle.sheet.proofs.Theorems.{sheet-checked}
 use Rattle.claim_ledger.proofs.Sound.{Sound}
 use Rattle.claim_ledger.proofs.SoundSteps.{sound-start, sound-play}
 use Rattle.attainable.specs.Attainable.{comes, attainable, attainableElsewhere, Closed}

@@ -1,19 +1,8 @@
 -- The tests of a block list, read: what passes them, and what an accepted list is known to have.
 -- Assumes nothing.
-use Rattle.laws.proofs.Prelude.{ℕ, _%_, _≤_, _<_, _≡_, refl, sym, _∙_, true, List, eqb, ltb, leb, length, ltb-true, leb-true, lt-ltb}
-use Rattle.laws.proofs.Prelude.{le-leb, arith}
-use Rattle.laws.specs.Booleans.{and-parts}
-use Rattle.laws.specs.All.{All, all-weaken}
-use Rattle.laws.specs.Gather.{every}
-use Rattle.laws.specs.Failing.{firstFailing, passed}
-use Rattle.sheet.specs.Refusal.{accepted}
-use Rattle.sheet.specs.Field.{count}
-use Rattle.sheet.specs.Check.{sheetRefusal}
-use Rattle.sheet.specs.Setup.{perDay, setupRefusal}
-use Rattle.ledger.specs.Entry.{Entry, inOrder}
-use Rattle.ledger.specs.Ledger.{ledger}
-use Rattle.steps.specs.Decode.{sharesTo}
-use Rattle.position.specs.Tests.{blockLimit}
+use Rattle.laws.proofs.Prelude.{ℕ, _%_, _≤_, _<_, _≡_, refl, sym, _∙_, true, List, eqb, ltb, leb, length, ltb-true, leb-true, lt-ltb, le-leb, arith, and-parts, All}
+use Rattle.laws.proofs.Prelude.{all-weaken, every, firstFailing, passed}
+use Rattle.position.proofs.Rules.{accepted, count, sheetRefusal, perDay, setupRefusal, Entry, inOrder, ledger, sharesTo, blockLimit}
 use Rattle.call_blocks.specs.BlockList.{listEntries, listBytes, entryNamed, fieldsNamed, blockWithin, entriesRise, listTests, blocksRefusal}
 use Rattle.call_blocks.proofs.Tested.{own-tests}
 use Rattle.claim_blocks.proofs.Bytes.{read-back, whole-entries, all-every, every-all}

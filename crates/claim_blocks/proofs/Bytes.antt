@@ -1,11 +1,8 @@
 -- A block list written and read back.
 -- Assumes nothing.
-use Rattle.laws.proofs.Prelude.{_%_, _<_, _≡_, refl, Bool, true, List, [], _∷_, length, arith}
-use Rattle.laws.specs.Booleans.{and-parts}
-use Rattle.laws.specs.All.{All, empty, also}
-use Rattle.laws.specs.Gather.{every}
-use Rattle.laws.specs.Little.{bytesOf, number-back}
-use Rattle.ledger.specs.Entry.{Entry}
+use Rattle.laws.proofs.Prelude.{_%_, _<_, _≡_, refl, Bool, true, List, [], _∷_, length, arith, and-parts, All, empty, also, every, bytesOf}
+use Rattle.position.proofs.Rules.{Entry}
+use Rattle.laws.specs.Little.{number-back}
 use Rattle.call_blocks.specs.BlockList.{listEntries, entryBytes, listBytes}
 use Rattle.call_blocks.proofs.Lengths.{length-list}
 

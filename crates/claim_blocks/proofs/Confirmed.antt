@@ -1,22 +1,10 @@
 -- What the accepted kind 6 steps confirm: right destinations, and blocks within 1 to 10,000.
 -- Assumes nothing.
-use Rattle.laws.proofs.Prelude.{ℕ, zero, suc, _+_, _≤_, _<_, _≡_, ap, _∙_, true, List, [], _∷_, arith}
-use Rattle.laws.specs.Booleans.{pick, split}
-use Rattle.laws.specs.Gather.{gather}
-use Rattle.laws.specs.All.{All, empty, also, all-append}
-use Rattle.sheet.specs.Field.{count}
-use Rattle.sheet.specs.Check.{sheetRefusal}
-use Rattle.sheet.specs.Setup.{setupRefusal}
-use Rattle.sheet.proofs.Theorems.{sheet-checked}
-use Rattle.slots.specs.declared.Step.{Step}
-use Rattle.ledger.specs.Entry.{Entry}
-use Rattle.steps.specs.Decode.{sharesTo}
+use Rattle.laws.proofs.Prelude.{ℕ, zero, suc, _+_, _≤_, _<_, _≡_, ap, _∙_, true, List, [], _∷_, arith, pick, split, gather, All, empty, also, all-append}
+use Rattle.position.proofs.Rules.{count, sheetRefusal, setupRefusal, Step, Entry, sharesTo, Read, inBlock, blockTo, effect, blockLimit, FourBytes, blockEntries}
 use Rattle.position.specs.declared.Position.{Position}
-use Rattle.steps.specs.declared.Decoded.the-variants.{Read}
-use Rattle.position.specs.Position.{inBlock, blockTo}
-use Rattle.position.specs.Effect.{effect}
-use Rattle.position.specs.Tests.{blockLimit}
-use Rattle.position.specs.Play.{FourBytes, blockEntries, confirms, confirmedEntries}
+use Rattle.position.proofs.Rules.{confirms, confirmedEntries}
+use Rattle.sheet.proofs.Theorems.{sheet-checked}
 use Rattle.step_laws.proofs.AfterBlocks.{mine-mined}
 use Rattle.position.proofs.StepCases.{StepCase, taken, turned-down, step-case}
 use Rattle.claim_ledger.proofs.Sound.{Sound}

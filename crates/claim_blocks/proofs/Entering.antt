@@ -1,18 +1,9 @@
 -- A list each of whose entries fits those before it is taken by the ledger, and one that it takes is such a list.
 -- Assumes nothing.
-use Rattle.laws.proofs.Prelude.{ℕ, zero, suc, _<_, _≡_, refl, sym, ap, _∙_, true, false, List, [], _∷_, _⊎_, inl, inr, eqb, eqb-true}
-use Rattle.laws.proofs.Prelude.{eq-eqb, arith}
-use mathlib.Core.Option.{Option, none, some}
-use lib.ListN.{getElem?}
-use Rattle.laws.specs.Booleans.{split, either, clash, fails-by}
-use Rattle.laws.specs.All.{none-some, some-same, All, also}
-use Rattle.sheet.specs.Field.{count, parent, opening}
-use Rattle.sheet.specs.Checked.{Checked}
-use Rattle.slots.specs.Conflict.{conflict}
+use Rattle.laws.proofs.Prelude.{ℕ, zero, suc, _<_, _≡_, refl, sym, ap, _∙_, true, false, List, [], _∷_, _⊎_, inl, inr, eqb, eqb-true, eq-eqb, arith, Option, none, some}
+use Rattle.laws.proofs.Prelude.{getElem?, split, either, clash, fails-by, none-some, some-same, All, also}
+use Rattle.position.proofs.Rules.{count, parent, opening, Checked, conflict, Entry, coinOf, Kept, noneKept, fits, keep, enter, ledger}
 use Rattle.slots.proofs.Conflicts.{conflict-self, siblings-conflict}
-use Rattle.ledger.specs.Entry.{Entry}
-use Rattle.ledger.specs.Coin.{coinOf}
-use Rattle.ledger.specs.Ledger.{Kept, noneKept, fits, keep, enter, ledger}
 use Rattle.ledger.proofs.Taking.{Fit, opening-fits, spend-fits, enter-next, keep-own, keep-other}
 use Rattle.ledger.proofs.Taking
 use Rattle.readings.proofs.Coins.{coin-opening, coin-spend}

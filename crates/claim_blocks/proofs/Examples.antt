@@ -1,9 +1,7 @@
 -- What block lists get, computed: one table over a small sheet at 2 blocks per day; and the slip's own words of two of the lists.
 -- Assumes nothing.
-use Rattle.laws.proofs.Prelude.{ℕ, _≡_, refl, Bool, true, List, [], _∷_, _++_, eqb, arith}
-use Rattle.laws.specs.Gather.{every}
-use Rattle.sheet.specs.Check.{sheetRefusal}
-use Rattle.sheet.specs.Setup.{setupRefusal}
+use Rattle.laws.proofs.Prelude.{ℕ, _≡_, refl, Bool, true, List, [], _∷_, _++_, eqb, arith, every}
+use Rattle.position.proofs.Rules.{sheetRefusal, setupRefusal}
 use Rattle.position.proofs.Opened.{opened}
 use Rattle.call_blocks.specs.BlockList.{listEntries, entryNamed, fieldsNamed, blockWithin, entriesRise, listTests, blocksTests, blocksRefusal}
 use Rattle.claim_blocks.specs.Words.{AllRight}

@@ -1,10 +1,7 @@
 -- The front of a list that gets 0 gets 0.
 -- Assumes nothing.
-use Rattle.laws.proofs.Prelude.{ℕ, _%_, _≡_, refl, Bool, true, List, [], _∷_, _++_, eqb, length, eq-eqb, arith}
-use Rattle.laws.specs.Booleans.{and-parts}
-use Rattle.laws.specs.Gather.{every}
-use Rattle.ledger.specs.Entry.{Entry, before, inOrder}
-use Rattle.ledger.specs.Ledger.{Kept, keep, enter}
+use Rattle.laws.proofs.Prelude.{ℕ, _%_, _≡_, refl, Bool, true, List, [], _∷_, _++_, eqb, length, eq-eqb, arith, and-parts, every}
+use Rattle.position.proofs.Rules.{Entry, before, inOrder, Kept, keep, enter}
 use Rattle.ledger.proofs.Taking.{enter-next, enter-parts}
 use Rattle.call_blocks.specs.BlockList.{listEntries, entryNamed, fieldsNamed, blockWithin, entriesRise}
 

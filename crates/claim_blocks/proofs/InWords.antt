@@ -1,15 +1,8 @@
 -- The slip's own words, of a list whose entries rise, come to what the ledger asks.
 -- Assumes nothing.
-use Rattle.laws.proofs.Prelude.{ℕ, _≤_, _<_, _≡_, true, false, List, inl, inr, ltb, ltb-true, ltb-false, arith}
-use mathlib.Core.Option.{some}
-use lib.ListN.{getElem?}
-use Rattle.laws.specs.Booleans.{split}
-use Rattle.laws.specs.All.{All, all-place}
-use Rattle.sheet.specs.Field.{count, parent, lockType, opening}
-use Rattle.sheet.specs.Checked.{Checked}
+use Rattle.laws.proofs.Prelude.{ℕ, _≤_, _<_, _≡_, true, false, List, inl, inr, ltb, ltb-true, ltb-false, arith, some, getElem?, split, All, all-place}
+use Rattle.position.proofs.Rules.{count, parent, lockType, opening, Checked, Entry, before, inOrder, lockFrom}
 use Rattle.slots.proofs.Parents.{parent-lower}
-use Rattle.ledger.specs.Entry.{Entry, before, inOrder}
-use Rattle.ledger.specs.Ledger.{lockFrom}
 use Rattle.ledger.proofs.Rising.{blocks-rise}
 use Rattle.call_blocks.proofs.Keeping.{lock-opening, lock-spend}
 use Rattle.claim_blocks.specs.Words

@@ -1,14 +1,10 @@
 -- Members and places of a list, and the places of one whose elements rise.
 -- Assumes nothing.
-use Rattle.laws.proofs.Prelude.{ℕ, zero, suc, _<_, _≡_, refl, sym, _∙_, Bool, true, _&&_, List, [], _∷_, eqb, ltb, eqb-true, ltb-true}
-use Rattle.laws.proofs.Prelude.{ltb-false, lt-ltb, arith}
-use mathlib.Core.List.{List·Memᴰ, List·Memᴰ·head, List·Memᴰ·tail, List·Memᴰ·not-nil, List·Memᴰ·cases-cons}
-use mathlib.Core.Option.{some}
-use lib.ListN.{getElem?}
-use Rattle.laws.specs.Booleans.{split, either, and-parts, or-parts}
-use Rattle.laws.specs.All.{All, empty, also, none-some, some-same}
+use Rattle.laws.proofs.Prelude.{ℕ, zero, suc, _<_, _≡_, refl, sym, _∙_, Bool, true, _&&_, List, [], _∷_, eqb, ltb, eqb-true, ltb-true, ltb-false, lt-ltb, arith}
+use Rattle.laws.proofs.Prelude.{List·Memᴰ, List·Memᴰ·head, List·Memᴰ·not-nil, some, getElem?, split, either, and-parts, or-parts, All, empty, also, none-some, some-same}
+use Rattle.position.proofs.Rules.{Entry, before, inOrder}
+use mathlib.Core.List.{List·Memᴰ·tail, List·Memᴰ·cases-cons}
 use Rattle.laws.specs.Members.{Rising}
-use Rattle.ledger.specs.Entry.{Entry, before, inOrder}
 use Rattle.ledger.proofs.Rising.{before-le, before-number}
 
 module _ {A : Type 0} where

@@ -1,12 +1,7 @@
 -- What the ledger asks of an entry, over those before it.
 -- Assumes nothing.
-use Rattle.laws.proofs.Prelude.{ℕ, _<_, _≡_, true, false, List}
-use mathlib.Core.Option.{some}
-use lib.ListN.{getElem?}
-use Rattle.sheet.specs.Field.{parent, opening}
-use Rattle.slots.specs.Conflict.{conflict}
-use Rattle.ledger.specs.Entry.{Entry}
-use Rattle.ledger.specs.Ledger.{lockFrom}
+use Rattle.laws.proofs.Prelude.{ℕ, _<_, _≡_, true, false, List, some, getElem?}
+use Rattle.position.proofs.Rules.{parent, opening, conflict, Entry, lockFrom}
 use Rattle.claim_blocks.specs.Words.{Before}
 
 -- an opening, or a spend whose parent's entry stands before it; its lock is below its block

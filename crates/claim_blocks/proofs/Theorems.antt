@@ -1,14 +1,8 @@
 -- Slip 8, for a reader: what the answer to a block list comes to.
 -- Assumes nothing.
-use Rattle.laws.proofs.Prelude.{ℕ, _%_, _≡_, true, List, _++_, eqb, length, eq-eqb, ne-eqb}
-use Rattle.laws.specs.Booleans.{split, clash}
-use Rattle.laws.specs.All.{all-weaken}
-use Rattle.sheet.specs.Refusal.{accepted}
-use Rattle.sheet.specs.Check.{sheetRefusal}
-use Rattle.sheet.specs.Setup.{perDay, setupRefusal}
+use Rattle.laws.proofs.Prelude.{ℕ, _%_, _≡_, true, List, _++_, eqb, length, eq-eqb, ne-eqb, split, clash, all-weaken}
+use Rattle.position.proofs.Rules.{accepted, sheetRefusal, perDay, setupRefusal, noneKept, ledger, start}
 use Rattle.sheet.proofs.Theorems.{sheet-checked}
-use Rattle.ledger.specs.Ledger.{noneKept, ledger}
-use Rattle.position.specs.Position.{start}
 use Rattle.claim_ledger.specs.Claim.{entriesOf}
 use Rattle.claim_ledger.proofs.SoundSteps.{sound-start}
 use Rattle.claim_ledger.proofs.Theorems.{agreement}

@@ -1,16 +1,9 @@
 -- Every row of four-byte groups keeps the invariant.
 -- Assumes nothing.
 use Rattle.laws.proofs.Prelude.{ℕ, _≤_, _<_, _≡_, true, List, [], _∷_}
-use Rattle.sheet.specs.Checked.{Checked, SetupChecked}
-use Rattle.sheet.specs.Setup.{perDay, conduct, setupRefusal}
-use Rattle.sheet.proofs.Theorems.{saswap-passes, sheet-checked, setup-checked}
-use Rattle.slots.specs.declared.Step.{Step}
+use Rattle.position.proofs.Rules.{Checked, SetupChecked, perDay, conduct, setupRefusal, Step, start, fieldsRight, stepRefusal, effect, FourBytes, step, play}
 use Rattle.position.specs.declared.Position.{Position}
-use Rattle.position.specs.Position.{start}
-use Rattle.steps.specs.Decode.{fieldsRight}
-use Rattle.position.specs.StepRefusal.{stepRefusal}
-use Rattle.position.specs.Effect.{effect}
-use Rattle.position.specs.Play.{FourBytes, step, play}
+use Rattle.sheet.proofs.Theorems.{saswap-passes, sheet-checked, setup-checked}
 use Rattle.position.proofs.StepCases.{StepCase, taken, turned-down, step-case}
 use Rattle.step_laws.proofs.Provenance.{Moved}
 use Rattle.step_laws.proofs.Moved.{moved}

@@ -1,13 +1,8 @@
 -- In one position: the two secrets are never both out.
 -- Assumes nothing.
-use Rattle.laws.proofs.Prelude.{ℕ, _≤_, _<_, _≡_, true, List, inl, inr, arith}
-use Rattle.laws.specs.Booleans.{either}
-use Rattle.sheet.specs.Field.{count}
-use Rattle.sheet.specs.Setup.{perDay}
-use Rattle.slots.specs.Conflict.{conflict}
+use Rattle.laws.proofs.Prelude.{ℕ, _≤_, _<_, _≡_, true, List, inl, inr, arith, either}
+use Rattle.position.proofs.Rules.{count, perDay, conflict, blockOf, secretAlice, secretBob, success, refund1, revoke, refund2, spendA}
 use Rattle.position.specs.declared.Position.{Position}
-use Rattle.position.specs.Position.{blockOf}
-use Rattle.steps.specs.Names.{secretAlice, secretBob, success, refund1, revoke, refund2, spendA}
 use Rattle.claim_ledger.proofs.Sound.{Sound}
 use Rattle.claim_careful.proofs.Table.{fifteen, revoke-rivals}
 use Rattle.claim_known.specs.Heights.{refund1Height, revokeHeight, heights-rise, refund1-lock, revoke-lock, refund2-waits}

@@ -1,23 +1,10 @@
 -- How a signature comes to be shared under careful conduct on the SASwap sheet.
 -- Assumes nothing.
-use Rattle.laws.proofs.Prelude.{ℕ, _≤_, _<_, _≡_, sym, _∙_, true, false, not, _&&_, false≢true, List, eqb, leb, eqb-true, leb-true}
-use Rattle.laws.proofs.Prelude.{not-true, arith}
-use lib.Bits.{bitAnd}
-use Rattle.laws.specs.Booleans.{split, and-parts}
-use Rattle.laws.specs.Gather.{every}
-use Rattle.laws.specs.Mask.{bit, without}
-use Rattle.laws.specs.Bits.{bit-and}
-use Rattle.sheet.specs.Field.{required}
-use Rattle.sheet.specs.Saswap.{saswap, saswapAt}
-use Rattle.sheet.specs.Setup.{perDay, conduct}
-use Rattle.slots.specs.Destination.{alice}
-use Rattle.slots.specs.Signatures.{shareMask, exposedMask}
+use Rattle.laws.proofs.Prelude.{ℕ, _≤_, _<_, _≡_, sym, _∙_, true, false, not, _&&_, false≢true, List, eqb, leb, eqb-true, leb-true, not-true, arith, bitAnd, split}
+use Rattle.laws.proofs.Prelude.{and-parts, every, bit, without, bit-and}
+use Rattle.position.proofs.Rules.{required, saswap, saswapAt, perDay, conduct, alice, shareMask, exposedMask, inPool, inBlock, blockTo, blockOf, sent, keys}
 use Rattle.position.specs.declared.Position.{Position}
-use Rattle.position.specs.Position.{inPool, inBlock, blockTo, blockOf, sent, keys, deadlineIn}
-use Rattle.steps.specs.Names.{secretAlice, secretBob, success, refund1, timeout}
-use Rattle.steps.specs.Decode.{noTransaction}
-use Rattle.position.specs.FirstShares.{firstShares}
-use Rattle.position.specs.Conduct.{phase, late, aliceShares, mayShare}
+use Rattle.position.proofs.Rules.{deadlineIn, secretAlice, secretBob, success, refund1, timeout, noTransaction, firstShares, phase, late, aliceShares, mayShare}
 use Rattle.step_laws.proofs.Sending.{Sent}
 use Rattle.step_laws.proofs.Provenance.{Shown, byFirstShares, byShare, bySend, byBlock}
 use Rattle.claim_careful.proofs.Setting.{sheet, allowed}

@@ -1,16 +1,8 @@
 -- Three blocks per day, computed: a careful swap in which each party is paid once and one secret is known, a loose journal after
 -- which both secrets are known and Alice is paid from both coins, an open one in which Bob is; and by what a secret is known.
 -- Assumes nothing.
-use Rattle.laws.proofs.Prelude.{ℕ, _≡_, refl, Bool, true, false, _&&_, _||_, List, [], _∷_, _++_, eqb}
-use mathlib.Core.Bool.{Bool·beq}
-use Rattle.laws.specs.Booleans.{clash}
-use Rattle.laws.specs.Gather.{every}
-use Rattle.sheet.specs.Refusal.{accepted, stepConduct}
-use Rattle.sheet.specs.Saswap.{saswap}
-use Rattle.slots.specs.Destination.{alice, bob, contract}
-use Rattle.steps.specs.Names.{secretAlice, secretBob, lockA, lockB}
-use Rattle.position.specs.Play.{run}
-use Rattle.position.specs.Holder.{holderIn}
+use Rattle.laws.proofs.Prelude.{ℕ, _≡_, refl, Bool, true, false, _&&_, _||_, List, [], _∷_, _++_, eqb, Bool·beq, clash, every}
+use Rattle.position.proofs.Rules.{accepted, stepConduct, saswap, alice, bob, contract, secretAlice, secretBob, lockA, lockB, run, holderIn}
 use Rattle.position.proofs.Opened.{opened}
 use Rattle.claim_careful.specs.Claim.{inShared, heldByOther, known, PaidOnce}
 

@@ -1,20 +1,11 @@
 -- What lasts through an accepted step: time, confirmations, and a pool entry whose parent is confirmed. The bump rule is used here alone.
 -- Assumes nothing.
-use Rattle.laws.proofs.Prelude.{ℕ, _+_, _≤_, _<_, _≡_, true, false, List, inr, arith}
-use Rattle.laws.specs.Booleans.{split, either}
-use Rattle.sheet.specs.Field.{count, parent}
-use Rattle.sheet.specs.Checked.{Checked}
-use Rattle.slots.specs.declared.Step.{Step}
-use Rattle.slots.specs.Conflict.{conflict}
-use Rattle.slots.specs.Ancestry.{meetsOther}
+use Rattle.laws.proofs.Prelude.{ℕ, _+_, _≤_, _<_, _≡_, true, false, List, inr, arith, split, either}
+use Rattle.position.proofs.Rules.{count, parent, Checked, Step, conflict, meetsOther, inPool, inBlock, blockOf, deadlineIn, fieldsRight, anyOwed, stepRefusal}
+use Rattle.position.specs.declared.Position.{Position}
+use Rattle.position.proofs.Rules.{leavesPool, afterMine, effect}
 use Rattle.slots.proofs.Conflicts.{conflict-self}
 use Rattle.slots.proofs.Ancestors.{other-find}
-use Rattle.position.specs.declared.Position.{Position}
-use Rattle.position.specs.Position.{inPool, inBlock, blockOf, deadlineIn}
-use Rattle.steps.specs.Decode.{fieldsRight}
-use Rattle.position.specs.Owed.{anyOwed}
-use Rattle.position.specs.StepRefusal.{stepRefusal}
-use Rattle.position.specs.Effect.{leavesPool, afterMine, effect}
 use Rattle.step_laws.proofs.AfterBlocks.{mine-blocks, mine-pool, mine-mined}
 use Rattle.step_laws.proofs.Quiet.{Quiet, lasting}
 use Rattle.claim_ledger.proofs.Sound.{Sound}

@@ -1,18 +1,10 @@
 -- How a key comes to be held under careful conduct on the SASwap sheet.
 -- Assumes nothing.
-use Rattle.laws.proofs.Prelude.{ℕ, _^_, _<_, _≡_, refl, sym, _∙_, true, false, not, _&&_, _||_, List, eqb, leb, eqb-true, eqb-false}
-use Rattle.laws.proofs.Prelude.{not-true}
-use Rattle.laws.specs.Booleans.{either, and-parts, or-parts}
-use Rattle.laws.specs.Below.{allBelow, all-at}
-use Rattle.laws.specs.Bits.{zero-or-one}
-use Rattle.laws.specs.Mask.{bit}
-use Rattle.sheet.specs.Setup.{conduct}
-use Rattle.slots.specs.Destination.{alice, bob, contract, isParty}
+use Rattle.laws.proofs.Prelude.{ℕ, _^_, _<_, _≡_, refl, sym, _∙_, true, false, not, _&&_, _||_, List, eqb, leb, eqb-true, eqb-false, not-true, either, and-parts}
+use Rattle.laws.proofs.Prelude.{or-parts, allBelow, all-at, zero-or-one, bit}
+use Rattle.position.proofs.Rules.{conduct, alice, bob, contract, isParty, holds, senderHas, sigAlice, secretAlice, secretBob, success, isOther, phase, late}
 use Rattle.position.specs.declared.Position.{Position}
-use Rattle.position.specs.Position.{holds, senderHas}
-use Rattle.steps.specs.Names.{sigAlice, secretAlice, secretBob, success}
-use Rattle.steps.specs.Decode.{isOther}
-use Rattle.position.specs.Conduct.{phase, late, aliceGives, bobGives, mayGive}
+use Rattle.position.proofs.Rules.{aliceGives, bobGives, mayGive}
 use Rattle.step_laws.proofs.Provenance.{Given, given}
 use Rattle.claim_careful.proofs.Setting.{sheet, allowed}
 

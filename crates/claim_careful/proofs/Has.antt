@@ -1,17 +1,9 @@
 -- Where a signature that a sender has comes from: held, shared for the same transaction and destination, or a secret shared anywhere.
 -- Assumes nothing.
-use Rattle.laws.proofs.Prelude.{ℕ, _<_, _≡_, sym, _∙_, true, List}
-use lib.Bits.{bitAnd, bitOr}
-use Rattle.laws.specs.Booleans.{either, and-parts}
-use Rattle.laws.specs.Mask.{bit, unionBelow}
-use Rattle.laws.specs.Bits.{bit-and, or-bit, union-bit}
-use Rattle.sheet.specs.Field.{count, secrets}
-use Rattle.slots.specs.Destination.{destinations}
-use Rattle.slots.specs.Slot.{sharedAny}
-use Rattle.slots.specs.Signatures.{sharedSecrets, senderMask}
-use Rattle.slots.proofs.SharedBits.{shared-any}
+use Rattle.laws.proofs.Prelude.{ℕ, _<_, _≡_, sym, _∙_, true, List, bitAnd, bitOr, either, and-parts, bit, unionBelow, bit-and, or-bit, union-bit}
+use Rattle.position.proofs.Rules.{count, secrets, destinations, sharedAny, sharedSecrets, senderMask, slot, shared, keys, holds, senderHas}
 use Rattle.position.specs.declared.Position.{Position}
-use Rattle.position.specs.Position.{slot, shared, keys, holds, senderHas}
+use Rattle.slots.proofs.SharedBits.{shared-any}
 
 -- signature i is shared somewhere
 abbrev pub SharedSomewhere : Position → ℕ → Type 0

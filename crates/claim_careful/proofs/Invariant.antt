@@ -1,12 +1,9 @@
 -- What holds in every position that careful conduct on the SASwap sheet leads to, beside what holds in every sound one.
 -- Assumes nothing.
-use Rattle.laws.proofs.Prelude.{ℕ, _+_, _*_, _<_, _≡_, true, List, _⊎_}
-use Rattle.laws.specs.Mask.{bit}
-use Rattle.sheet.specs.Setup.{perDay}
-use Rattle.slots.specs.Destination.{alice, bob, contract, destinations}
+use Rattle.laws.proofs.Prelude.{ℕ, _+_, _*_, _<_, _≡_, true, List, _⊎_, bit}
+use Rattle.position.proofs.Rules.{perDay, alice, bob, contract, destinations, inPool, blockOf, shared, holds, sigAlice, sigBob, secretAlice, secretBob, lockA}
 use Rattle.position.specs.declared.Position.{Position}
-use Rattle.position.specs.Position.{inPool, blockOf, shared, holds}
-use Rattle.steps.specs.Names.{sigAlice, sigBob, secretAlice, secretBob, lockA, success, refund1, revoke, refund2, spendA, spendB}
+use Rattle.position.proofs.Rules.{success, refund1, revoke, refund2, spendA, spendB}
 use Rattle.step_laws.proofs.Provenance.{Stands}
 use Rattle.claim_careful.proofs.Table.{BothSign}
 use Rattle.claim_known.specs.Heights.{refund1Height, revokeHeight}

@@ -1,18 +1,10 @@
 -- What careful conduct on the SASwap sheet says of an accepted send.
 -- Assumes nothing.
-use Rattle.laws.proofs.Prelude.{ℕ, _≤_, _<_, _≡_, true, not, _&&_, _||_, false≢true, List, _⊎_, inl, inr, eqb, ltb, leb, eqb-true, ltb-true}
-use Rattle.laws.proofs.Prelude.{leb-true, arith}
-use Rattle.laws.specs.Booleans.{split, either, clash, and-parts, or-parts}
-use Rattle.laws.specs.Mask.{bit}
-use Rattle.laws.specs.Bits.{no-bit}
-use Rattle.sheet.specs.Setup.{conduct}
-use Rattle.slots.specs.Destination.{alice, bob, contract}
+use Rattle.laws.proofs.Prelude.{ℕ, _≤_, _<_, _≡_, true, not, _&&_, _||_, false≢true, List, _⊎_, inl, inr, eqb, ltb, leb, eqb-true, ltb-true, leb-true, arith, split}
+use Rattle.laws.proofs.Prelude.{either, clash, and-parts, or-parts, bit, no-bit}
+use Rattle.position.proofs.Rules.{conduct, alice, bob, contract, blockOf, isConfirmed, shared, holds, secretBob, lockA, lockB, success, refund1, refund2}
 use Rattle.position.specs.declared.Position.{Position}
-use Rattle.position.specs.Position.{blockOf, isConfirmed, shared, holds}
-use Rattle.steps.specs.Names.{secretBob, lockA, lockB, success, refund1, refund2}
-use Rattle.position.specs.FirstShares.{firstSharesMade}
-use Rattle.steps.specs.Conduct.{maySend}
-use Rattle.position.specs.Conduct.{isCareful, phase, successUnshared, secretSafe, safeToSend, sendAllowed}
+use Rattle.position.proofs.Rules.{firstSharesMade, maySend, isCareful, phase, successUnshared, secretSafe, safeToSend, sendAllowed}
 use Rattle.position.proofs.Opened.{opened}
 use Rattle.step_laws.proofs.Sending.{Sent}
 use Rattle.claim_careful.proofs.Setting.{sheet, allowed}

@@ -1,12 +1,9 @@
 -- An accepted step keeps what the invariant says of transactions that pay a party.
 -- Assumes nothing.
-use Rattle.laws.proofs.Prelude.{ℕ, _<_, _≡_, sym, true, false, List, _⊎_, inl, inr, arith}
-use Rattle.laws.specs.Booleans.{either, clash}
-use Rattle.sheet.specs.Setup.{perDay, conduct}
-use Rattle.slots.specs.Destination.{alice, bob, destinations, isContract}
+use Rattle.laws.proofs.Prelude.{ℕ, _<_, _≡_, sym, true, false, List, _⊎_, inl, inr, arith, either, clash}
+use Rattle.position.proofs.Rules.{perDay, conduct, alice, bob, destinations, isContract, holds, sigAlice, sigBob, secretAlice, secretBob, success, refund1}
 use Rattle.position.specs.declared.Position.{Position}
-use Rattle.position.specs.Position.{holds}
-use Rattle.steps.specs.Names.{sigAlice, sigBob, secretAlice, secretBob, success, refund1, refund2, timeout, spendB}
+use Rattle.position.proofs.Rules.{refund2, timeout, spendB}
 use Rattle.step_laws.proofs.Sending.{Sent}
 use Rattle.step_laws.proofs.Provenance.{Stands, Moved}
 use Rattle.claim_careful.proofs.Table.{BothSign, both-sign, needs, spendB-pays, sigAlice-plain, sigBob-plain}

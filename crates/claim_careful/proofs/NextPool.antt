@@ -1,15 +1,9 @@
 -- An accepted step keeps what the invariant says of transactions that have exposed a secret: confirmed, or in the pool before the deadline.
 -- Assumes nothing.
-use Rattle.laws.proofs.Prelude.{ℕ, _+_, _*_, _≤_, _<_, _≡_, refl, sym, _∙_, true, List, _⊎_, inl, inr, arith}
-use Rattle.laws.specs.Booleans.{either}
-use Rattle.laws.specs.Bits.{zero-or-one}
-use Rattle.sheet.specs.Field.{count, parent}
-use Rattle.sheet.specs.Setup.{perDay, conduct}
-use Rattle.slots.specs.Destination.{alice, contract}
-use Rattle.slots.specs.Conflict.{conflict}
+use Rattle.laws.proofs.Prelude.{ℕ, _+_, _*_, _≤_, _<_, _≡_, refl, sym, _∙_, true, List, _⊎_, inl, inr, arith, either, zero-or-one}
+use Rattle.position.proofs.Rules.{count, parent, perDay, conduct, alice, contract, conflict, inPool, inBlock, blockOf, holds, deadlineIn, secretAlice}
 use Rattle.position.specs.declared.Position.{Position}
-use Rattle.position.specs.Position.{inPool, inBlock, blockOf, holds, deadlineIn}
-use Rattle.steps.specs.Names.{secretAlice, secretBob, lockA, success, refund1, revoke, refund2, timeout, spendA, spendRevoke}
+use Rattle.position.proofs.Rules.{secretBob, lockA, success, refund1, revoke, refund2, timeout, spendA, spendRevoke}
 use Rattle.step_laws.proofs.Provenance.{Moved}
 use Rattle.claim_ledger.proofs.Sound.{Sound}
 use Rattle.claim_careful.proofs.Table.{BothSign, both-sign, parents, rivals-success, rivals-refund1, rivals-refund2}

@@ -1,13 +1,9 @@
 -- An accepted step keeps what the invariant says of keys, of lock_A, of the refunds, and of where secrets are shared.
 -- Assumes nothing.
-use Rattle.laws.proofs.Prelude.{ℕ, _≤_, _<_, _≡_, refl, true, List, _⊎_, inl, inr, arith}
-use Rattle.laws.specs.Booleans.{either}
-use Rattle.laws.specs.Mask.{bit}
-use Rattle.sheet.specs.Setup.{perDay, conduct}
-use Rattle.slots.specs.Destination.{alice, bob, contract, destinations}
+use Rattle.laws.proofs.Prelude.{ℕ, _≤_, _<_, _≡_, refl, true, List, _⊎_, inl, inr, arith, either, bit}
+use Rattle.position.proofs.Rules.{perDay, conduct, alice, bob, contract, destinations, blockOf, shared, holds, sigAlice, sigBob, secretAlice, secretBob, lockA}
 use Rattle.position.specs.declared.Position.{Position}
-use Rattle.position.specs.Position.{blockOf, shared, holds}
-use Rattle.steps.specs.Names.{sigAlice, sigBob, secretAlice, secretBob, lockA, lockB, success, refund1, revoke, refund2}
+use Rattle.position.proofs.Rules.{lockB, success, refund1, revoke, refund2}
 use Rattle.step_laws.proofs.Sending.{Sent}
 use Rattle.step_laws.proofs.Provenance.{Moved}
 use Rattle.claim_ledger.proofs.Sound.{Sound}

@@ -1,19 +1,13 @@
 -- No party is paid from both coins.
 -- Assumes nothing.
-use Rattle.laws.proofs.Prelude.{ℕ, zero, suc, _<_, _≡_, refl, _∙_, Bool, true, not, _&&_, List, inl, eqb, eqb-true, ltb-true, arith}
-use Rattle.laws.specs.Booleans.{split, either, and-parts, fails-by}
-use Rattle.laws.specs.Bits.{zero-or-one}
-use Rattle.sheet.specs.Field.{count, opening}
-use Rattle.sheet.proofs.Parties.{party-small}
-use Rattle.sheet.specs.Setup.{perDay}
-use Rattle.slots.specs.Destination.{alice, bob, isParty, isContract}
-use Rattle.ledger.specs.Coin.{coinOf, nobody}
+use Rattle.laws.proofs.Prelude.{ℕ, zero, suc, _<_, _≡_, refl, _∙_, Bool, true, not, _&&_, List, inl, eqb, eqb-true, ltb-true, arith, split, either, and-parts, fails-by}
+use Rattle.laws.proofs.Prelude.{zero-or-one}
+use Rattle.position.proofs.Rules.{count, opening, perDay, alice, bob, isParty, isContract, coinOf, nobody, blockOf, isConfirmed, confirmedTo, lockA, lockB}
 use Rattle.position.specs.declared.Position.{Position}
-use Rattle.position.specs.Position.{blockOf, isConfirmed, confirmedTo}
-use Rattle.steps.specs.Names.{lockA, lockB, success, refund1, revoke, refund2, timeout, spendB, spendSuccess, spendRefund1Alice, spendRefund2, spendTimeout}
-use Rattle.position.specs.Report.{payee}
-use Rattle.readings.specs.Holder.{confirmedChild, endsCoin, payeeBelow, holder, isPayout, isPayoutTo}
-use Rattle.position.specs.Holder.{holderIn}
+use Rattle.position.proofs.Rules.{success, refund1, revoke, refund2, timeout, spendB, spendSuccess, spendRefund1Alice, spendRefund2, spendTimeout, payee, isPayout}
+use Rattle.position.proofs.Rules.{isPayoutTo, holderIn}
+use Rattle.sheet.proofs.Parties.{party-small}
+use Rattle.readings.specs.Holder.{confirmedChild, endsCoin, payeeBelow, holder}
 use Rattle.step_laws.proofs.Provenance.{Stands}
 use Rattle.claim_ledger.proofs.Sound.{Sound}
 use Rattle.claim_careful.specs.Claim.{PaidOnce}

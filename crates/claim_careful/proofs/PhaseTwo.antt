@@ -1,13 +1,9 @@
 -- Phase 2, as document 02's Slip 6 has it, in every position: "In phase 2 Alice may now send any transaction under the same conduct tests as in phase 3; she neither
 -- shares success nor gives keys there."
 -- Assumes nothing.
-use Rattle.laws.proofs.Prelude.{ℕ, _≡_, refl, false, not, _||_, List, eqb}
-use Rattle.laws.specs.Booleans.{split}
-use Rattle.slots.specs.Destination.{alice}
-use Rattle.steps.specs.Decode.{noTransaction}
-use Rattle.steps.specs.Conduct.{maySend}
+use Rattle.laws.proofs.Prelude.{ℕ, _≡_, refl, false, not, _||_, List, eqb, split}
+use Rattle.position.proofs.Rules.{alice, noTransaction, maySend, isOpen, isCareful, phase, aliceShares, mayShare, aliceGives, mayGive, safeToSend, sendAllowed}
 use Rattle.position.specs.declared.Position.{Position}
-use Rattle.position.specs.Conduct.{isOpen, isCareful, phase, aliceShares, mayShare, aliceGives, mayGive, safeToSend, sendAllowed}
 
 -- who may send what is as in phase 3
 pub sends-as-in-3 : (party t : ℕ) → maySend 2 party t ≡ maySend 3 party t

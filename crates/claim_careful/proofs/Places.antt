@@ -1,16 +1,10 @@
 -- An entry in pool or block or confirmed, in a sound position: its transaction is one of the sheet's, its destination right, its lock reached.
 -- Assumes nothing.
-use Rattle.laws.proofs.Prelude.{ℕ, _≤_, _<_, _≡_, refl, true, false, List, ltb, eqb-true, ltb-true, ltb-false, lt-ltb, arith}
-use Rattle.laws.specs.Booleans.{split, clash, and-parts}
-use Rattle.sheet.specs.Field.{count}
-use Rattle.sheet.specs.LockHeight.{lockHeight}
-use Rattle.sheet.specs.Setup.{perDay}
-use Rattle.slots.specs.Destination.{contract, isContract, isParty, isPayee}
-use Rattle.slots.specs.Slot.{emptySlot, entryTo}
-use Rattle.slots.proofs.Entered.{Entered, pooled, filled, settled}
+use Rattle.laws.proofs.Prelude.{ℕ, _≤_, _<_, _≡_, refl, true, false, List, ltb, eqb-true, ltb-true, ltb-false, lt-ltb, arith, split, clash, and-parts}
+use Rattle.position.proofs.Rules.{count, lockHeight, perDay, contract, isContract, isParty, isPayee, emptySlot, entryTo, slot, inPool, poolTo, inBlock, blockTo}
 use Rattle.position.specs.declared.Position.{Position}
-use Rattle.position.specs.Position.{slot, inPool, poolTo, inBlock, blockTo, blockOf, isConfirmed, confirmedTo}
-use Rattle.steps.specs.Decode.{sharesTo}
+use Rattle.position.proofs.Rules.{blockOf, isConfirmed, confirmedTo, sharesTo}
+use Rattle.slots.proofs.Entered.{Entered, pooled, filled, settled}
 use Rattle.step_laws.proofs.AfterBlocks.{none-stands}
 use Rattle.step_laws.proofs.Provenance.{Stands}
 use Rattle.claim_ledger.proofs.Sound.{Sound}

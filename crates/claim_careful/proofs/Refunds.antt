@@ -1,13 +1,8 @@
 -- Bob never locks: three blocks per day, careful conduct, computed. Alice gets coin A back by refund_1, or by revoke and refund_2, and Bob takes no step after the
 -- first shares.
 -- Assumes nothing.
-use Rattle.laws.proofs.Prelude.{ℕ, _≡_, refl, Bool, true, false, not, List, [], _∷_, _++_, eqb, length}
-use Rattle.laws.specs.Gather.{every}
-use Rattle.sheet.specs.Refusal.{accepted, stepConduct}
-use Rattle.sheet.specs.Saswap.{saswap}
-use Rattle.slots.specs.Destination.{alice, bob, contract}
-use Rattle.ledger.specs.Coin.{nobody}
-use Rattle.position.specs.Play.{FourBytes, journalSteps, run}
+use Rattle.laws.proofs.Prelude.{ℕ, _≡_, refl, Bool, true, false, not, List, [], _∷_, _++_, eqb, length, every}
+use Rattle.position.proofs.Rules.{accepted, stepConduct, saswap, alice, bob, contract, nobody, FourBytes, journalSteps, run}
 use Rattle.position.proofs.Opened.{opened}
 use Rattle.claim_careful.specs.Claim.{inShared, heldByOther, known}
 use Rattle.claim_careful.proofs.Examples.{Comes}

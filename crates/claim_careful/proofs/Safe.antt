@@ -1,12 +1,8 @@
 -- The claim, from the invariant of the position, and from the agreement of ledger and report with it.
 -- Assumes nothing.
 use Rattle.laws.proofs.Prelude.{ℕ, _≡_, sym, List}
-use Rattle.sheet.specs.Setup.{perDay}
+use Rattle.position.proofs.Rules.{perDay, ledgerHolder, isPayoutTo, reportedHolder, holderIn}
 use Rattle.sheet.proofs.Theorems.{saswap-passes, setup-checked}
-use Rattle.ledger.specs.Ledger.{ledgerHolder}
-use Rattle.readings.specs.Holder.{isPayoutTo}
-use Rattle.readings.specs.Reported.{reportedHolder}
-use Rattle.position.specs.Holder.{holderIn}
 use Rattle.claim_ledger.specs.Claim.{booksOf, positionOf, reportedBytes}
 use Rattle.claim_ledger.proofs.Theorems.{agreement}
 use Rattle.claim_careful.specs.Claim.{PaidOnce, Careful}

@@ -1,19 +1,10 @@
 -- The two secrets are never both known beyond their owners.
 -- Assumes nothing.
-use Rattle.laws.proofs.Prelude.{ℕ, _<_, _≡_, refl, true, false, not, _&&_, List, _⊎_, inl, inr, not-true}
-use Rattle.laws.specs.Booleans.{either, clash, and-parts, or-parts, fails-by}
-use Rattle.laws.specs.Below.{any-some}
-use Rattle.laws.specs.Bits.{zero-or-one}
-use Rattle.laws.specs.Mask.{bit}
-use Rattle.sheet.specs.Field.{parties, partyAt, count, startKeys}
-use Rattle.sheet.proofs.Parties.{party-at}
-use Rattle.sheet.specs.Saswap.{saswap}
-use Rattle.sheet.specs.Setup.{perDay}
-use Rattle.slots.specs.Destination.{alice, bob}
-use Rattle.slots.specs.Slot.{sharedAny}
+use Rattle.laws.proofs.Prelude.{ℕ, _<_, _≡_, refl, true, false, not, _&&_, List, _⊎_, inl, inr, not-true, either, clash, and-parts, or-parts, fails-by, any-some}
+use Rattle.laws.proofs.Prelude.{zero-or-one, bit}
+use Rattle.position.proofs.Rules.{parties, partyAt, count, startKeys, saswap, perDay, alice, bob, sharedAny, slot, holds, secretAlice, secretBob}
 use Rattle.position.specs.declared.Position.{Position}
-use Rattle.position.specs.Position.{slot, holds}
-use Rattle.steps.specs.Names.{secretAlice, secretBob}
+use Rattle.sheet.proofs.Parties.{party-at}
 use Rattle.position.proofs.Opened.{opened}
 use Rattle.claim_ledger.proofs.Sound.{Sound}
 use Rattle.claim_careful.specs.Claim.{inShared, heldByOther, known}

@@ -1,13 +1,10 @@
 -- The SASwap sheet of a setup, under careful conduct.
 -- Assumes nothing.
-use Rattle.laws.proofs.Prelude.{ℕ, _<_, _≡_, Bool, true, _||_, List, ltb, eqb-false, ltb-true, ltb-false, arith}
-use Rattle.laws.specs.Booleans.{split}
-use Rattle.sheet.specs.Field.{place, isParty}
-use Rattle.sheet.specs.Saswap.{saswap}
+use Rattle.laws.proofs.Prelude.{ℕ, _<_, _≡_, Bool, true, _||_, List, ltb, eqb-false, ltb-true, ltb-false, arith, split}
+use Rattle.position.proofs.Rules.{place, saswap, perDay, conduct, isOpen}
+use Rattle.sheet.specs.Field.{isParty}
 use Rattle.sheet.proofs.Parties.{party-not-miner, place-below}
 use Rattle.sheet.proofs.Theorems.{parties-saswap}
-use Rattle.sheet.specs.Setup.{perDay, conduct}
-use Rattle.position.specs.Conduct.{isOpen}
 
 -- the SASwap sheet of a setup
 abbrev pub sheet : List ℕ → List ℕ

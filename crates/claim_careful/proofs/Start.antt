@@ -1,15 +1,7 @@
 -- The invariant holds at the start.
 -- Assumes nothing.
-use Rattle.laws.proofs.Prelude.{ℕ, _≡_, refl, true, false, List, eqb}
-use Rattle.laws.specs.Booleans.{split, either, clash}
-use Rattle.laws.specs.Mask.{bit}
-use Rattle.laws.specs.Bits.{no-bit}
-use Rattle.sheet.specs.Saswap.{saswap}
-use Rattle.sheet.specs.Setup.{perDay}
-use Rattle.slots.specs.Destination.{alice, bob}
-use Rattle.slots.specs.Slot.{emptySlot, sharedFor}
-use Rattle.position.specs.Position.{start, shared, holds}
-use Rattle.steps.specs.Names.{sigAlice, sigBob, secretAlice, secretBob}
+use Rattle.laws.proofs.Prelude.{ℕ, _≡_, refl, true, false, List, eqb, split, either, clash, bit, no-bit}
+use Rattle.position.proofs.Rules.{saswap, perDay, alice, bob, emptySlot, sharedFor, start, shared, holds, sigAlice, sigBob, secretAlice, secretBob}
 use Rattle.position.proofs.Opened.{opened}
 use Rattle.step_laws.proofs.Provenance.{Stands}
 use Rattle.position.proofs.Starts.{start-slot}

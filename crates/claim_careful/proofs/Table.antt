@@ -1,17 +1,11 @@
 -- The table of the SASwap sheet, for every number of blocks per day at once: each rule is one test of all fifteen transactions.
 -- Assumes nothing.
-use Rattle.laws.proofs.Prelude.{ℕ, _<_, _≡_, refl, Bool, true, false, not, _&&_, _||_, _⊎_, inl, inr, eqb, eqb-true, eq-eqb, arith}
-use Rattle.laws.specs.Booleans.{either, and-parts, or-parts}
-use Rattle.laws.specs.Below.{allBelow, all-at}
-use Rattle.laws.specs.Mask.{bit}
-use Rattle.sheet.specs.Field.{count, parent, opening, signatures, secrets, required}
-use Rattle.sheet.specs.Saswap.{saswap}
+use Rattle.laws.proofs.Prelude.{ℕ, _<_, _≡_, refl, Bool, true, false, not, _&&_, _||_, _⊎_, inl, inr, eqb, eqb-true, eq-eqb, arith, either, and-parts, or-parts, allBelow}
+use Rattle.laws.proofs.Prelude.{all-at, bit}
+use Rattle.position.proofs.Rules.{count, parent, opening, signatures, secrets, required, saswap, conflict, alice, bob, isContract, isPayee, exposedMask, coinOf, sigAlice}
+use Rattle.position.proofs.Rules.{sigBob, secretAlice, secretBob, lockA, lockB, success, refund1, revoke, refund2, timeout, spendA, spendB, spendSuccess, spendRefund1Bob}
+use Rattle.position.proofs.Rules.{spendRefund1Alice, spendRevoke, spendRefund2, spendTimeout}
 use Rattle.sheet.proofs.Theorems.{saswap-sizes}
-use Rattle.slots.specs.Conflict.{conflict}
-use Rattle.slots.specs.Destination.{alice, bob, isContract, isPayee}
-use Rattle.slots.specs.Signatures.{exposedMask}
-use Rattle.ledger.specs.Coin.{coinOf}
-use Rattle.steps.specs.Names.{sigAlice, sigBob, secretAlice, secretBob, lockA, lockB, success, refund1, revoke, refund2, timeout, spendA, spendB, spendSuccess, spendRefund1Bob, spendRefund1Alice, spendRevoke, spendRefund2, spendTimeout}
 use Rattle.position.proofs.Opened.{opened}
 
 pub fifteen : (d : ℕ) → count (saswap d) ≡ 15

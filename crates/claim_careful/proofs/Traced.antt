@@ -1,17 +1,9 @@
 -- One accepted step under careful conduct: when success gets shared, when Alice gets secretBob, and what a send of success or a refund implies.
 -- Assumes nothing.
-use Rattle.laws.proofs.Prelude.{ℕ, _≤_, _<_, _≡_, refl, true, false, List, _⊎_, inl, inr, eqb, eqb-true, leb-false, arith}
-use Rattle.laws.specs.Booleans.{either, clash, and-parts}
-use Rattle.laws.specs.Bits.{zero-or-one}
-use Rattle.laws.specs.Mask.{bit}
-use Rattle.sheet.specs.Field.{required}
-use Rattle.sheet.specs.Setup.{perDay, conduct}
-use Rattle.slots.specs.Destination.{alice, bob, contract, isContract, isPayee}
+use Rattle.laws.proofs.Prelude.{ℕ, _≤_, _<_, _≡_, refl, true, false, List, _⊎_, inl, inr, eqb, eqb-true, leb-false, arith, either, clash, and-parts, zero-or-one, bit}
+use Rattle.position.proofs.Rules.{required, perDay, conduct, alice, bob, contract, isContract, isPayee, blockOf, holds, lockHeightIn, deadlineIn, sigAlice}
 use Rattle.position.specs.declared.Position.{Position}
-use Rattle.position.specs.Position.{blockOf, holds, lockHeightIn, deadlineIn}
-use Rattle.steps.specs.Names.{sigAlice, secretAlice, secretBob, success, refund1, revoke, refund2}
-use Rattle.steps.specs.Decode.{sendsTo}
-use Rattle.position.specs.Conduct.{late}
+use Rattle.position.proofs.Rules.{secretAlice, secretBob, success, refund1, revoke, refund2, sendsTo, late}
 use Rattle.step_laws.proofs.Sending.{Sent}
 use Rattle.step_laws.proofs.Provenance.{Moved}
 use Rattle.claim_ledger.proofs.Sound.{Sound}

@@ -1,12 +1,8 @@
 -- Why an ending is impossible.
 -- Assumes nothing.
-use Rattle.laws.proofs.Prelude.{ℕ, _<_, _≡_, false, not, _&&_, List, eqb, leb, eqb-true, eqb-false, leb-false, not-false}
-use Rattle.laws.specs.Booleans.{split, and-parts, or-neither}
-use Rattle.laws.specs.Below.{allBelow, all-fails}
-use Rattle.laws.specs.Mask.{bit}
-use Rattle.sheet.specs.Field.{count}
-use Rattle.ledger.specs.Coin.{coinOf}
-use Rattle.position.specs.Tests.{blockLimit}
+use Rattle.laws.proofs.Prelude.{ℕ, _<_, _≡_, false, not, _&&_, List, eqb, leb, eqb-true, eqb-false, leb-false, not-false, split, and-parts, or-neither, allBelow, bit}
+use Rattle.position.proofs.Rules.{count, coinOf, blockLimit}
+use Rattle.laws.specs.Below.{all-fails}
 use Rattle.endings.specs.Earliest.{earliest}
 use Rattle.endings.specs.Plan.{planned}
 use Rattle.endings.specs.Ending.{coinsApart, inTime, isPossible}

@@ -1,16 +1,9 @@
 -- The empty mask: nothing is planned, nothing is refused.
 -- Assumes nothing.
-use Rattle.laws.proofs.Prelude.{ℕ, zero, suc, _+_, _^_, _<_, _≡_, refl, true, false, _&&_, List, [], lt-ltb}
+use Rattle.laws.proofs.Prelude.{ℕ, zero, suc, _+_, _^_, _<_, _≡_, refl, true, false, _&&_, List, [], lt-ltb, clash, any-all-false, all-from, no-bit, gather, gather-empty}
+use Rattle.laws.proofs.Prelude.{bit, sumBelow, bitsBelow}
+use Rattle.position.proofs.Rules.{count, isSelfOrAncestor, blockLimit}
 use lib.Pow.{pow-pos}
-use Rattle.laws.specs.Booleans.{clash}
-use Rattle.laws.specs.Below.{any-all-false, all-from}
-use Rattle.laws.specs.Bits.{no-bit}
-use Rattle.laws.specs.Gather.{gather, gather-empty}
-use Rattle.laws.specs.Mask.{bit}
-use Rattle.laws.specs.Sum.{sumBelow, bitsBelow}
-use Rattle.sheet.specs.Field.{count}
-use Rattle.slots.specs.Ancestry.{isSelfOrAncestor}
-use Rattle.position.specs.Tests.{blockLimit}
 use Rattle.endings.specs.Plan.{planned, planAt, plan}
 use Rattle.endings.specs.Ending.{payingNamed, endingRight, isPossible}
 use Rattle.claim_earliest.proofs.Ending.{says-possible}

@@ -1,15 +1,11 @@
 -- Over an empty chain, no block and none mined, the soonest block is the earliest one.
 -- Assumes nothing.
-use Rattle.laws.proofs.Prelude.{ℕ, zero, suc, _+_, _<_, _≡_, sym, _∙_, true, false, List, ltb, eqb-true, ltb-true, ltb-false, lt-ltb}
-use Rattle.laws.proofs.Prelude.{le-ltb, arith}
+use Rattle.laws.proofs.Prelude.{ℕ, zero, suc, _+_, _<_, _≡_, sym, _∙_, true, false, List, ltb, eqb-true, ltb-true, ltb-false, lt-ltb, le-ltb, arith, max-eq-left}
+use Rattle.laws.proofs.Prelude.{max-eq-right, split, climb-step}
+use Rattle.position.proofs.Rules.{count, parent, opening, Checked, lockFrom}
 use Prim.Native.Nat.{max}
-use native.Mathlib.Nat.{max-eq-left, max-eq-right, le-max-left}
-use Rattle.laws.specs.Booleans.{split}
-use Rattle.laws.specs.Climb.{climb-step}
-use Rattle.sheet.specs.Field.{count, parent, opening}
-use Rattle.sheet.specs.Checked.{Checked}
+use native.Mathlib.Nat.{le-max-left}
 use Rattle.slots.proofs.Parents.{parent-lower, parent-below}
-use Rattle.ledger.specs.Ledger.{lockFrom}
 use Rattle.call_blocks.proofs.Keeping.{lock-opening, lock-spend}
 use Rattle.soonest.specs.Soonest.{greater, lockAt, soonestOver, soonestBlock}
 use Rattle.endings.specs.Earliest.{earliestFrom, earliest}

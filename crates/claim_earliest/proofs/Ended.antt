@@ -1,17 +1,8 @@
 -- A list that the ledger takes has one paying entry of a coin at most; so one that confirms a mask's shows that mask possible.
 -- Assumes nothing.
-use Rattle.laws.proofs.Prelude.{ℕ, zero, suc, _≤_, _<_, _≡_, refl, sym, ap, _∙_, true, false, List, [], _∷_, eqb, ltb, eqb-true, ltb-true}
-use Rattle.laws.proofs.Prelude.{ltb-false, eq-eqb, arith}
-use mathlib.Core.Option.{Option, some}
-use lib.ListN.{getElem?}
-use Rattle.laws.specs.Booleans.{split, clash, fails-by}
-use Rattle.laws.specs.All.{All, also, none-some, some-same, all-place}
-use Rattle.laws.specs.Mask.{bit}
-use Rattle.sheet.specs.Field.{count, payees}
-use Rattle.sheet.specs.Checked.{Checked}
-use Rattle.ledger.specs.Entry.{Entry, inOrder}
-use Rattle.ledger.specs.Coin.{coinOf}
-use Rattle.ledger.specs.Ledger.{Kept, noneKept, fits, keep, enter, ledger}
+use Rattle.laws.proofs.Prelude.{ℕ, zero, suc, _≤_, _<_, _≡_, refl, sym, ap, _∙_, true, false, List, [], _∷_, eqb, ltb, eqb-true, ltb-true, ltb-false, eq-eqb, arith}
+use Rattle.laws.proofs.Prelude.{Option, some, getElem?, split, clash, fails-by, All, also, none-some, some-same, all-place, bit}
+use Rattle.position.proofs.Rules.{count, payees, Checked, Entry, inOrder, coinOf, Kept, noneKept, fits, keep, enter, ledger}
 use Rattle.ledger.proofs.Taking.{Fit, opens, spends, fits-says, enter-parts, keep-own, keep-other}
 use Rattle.claim_earliest.proofs.Possible.{Possible, Confirms}
 use Rattle.claim_earliest.proofs.Lowest.{none-earlier}

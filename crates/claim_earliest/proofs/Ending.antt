@@ -1,16 +1,8 @@
 -- The tests 33 and 34, read.
 -- Assumes nothing.
-use Rattle.laws.proofs.Prelude.{ℕ, _*_, _^_, _≤_, _<_, _≡_, refl, Bool, true, false, not, _&&_, _||_, List, eqb, ltb, leb, length, eqb-true}
-use Rattle.laws.proofs.Prelude.{eqb-false, ltb-true, ltb-false, leb-true, eq-eqb, le-leb, not-true, arith}
-use Rattle.laws.specs.Booleans.{split, and-parts, implied}
-use Rattle.laws.specs.Below.{allBelow, all-at, all-from}
-use Rattle.laws.specs.Mask.{bit}
-use Rattle.laws.specs.Sum.{bitsBelow}
-use Rattle.sheet.specs.Field.{count, payees}
-use Rattle.slots.specs.Destination.{isContract}
-use Rattle.ledger.specs.Coin.{coinOf}
-use Rattle.steps.specs.Decode.{sharesTo}
-use Rattle.position.specs.Tests.{blockLimit}
+use Rattle.laws.proofs.Prelude.{ℕ, _*_, _^_, _≤_, _<_, _≡_, refl, Bool, true, false, not, _&&_, _||_, List, eqb, ltb, leb, length, eqb-true, eqb-false, ltb-true}
+use Rattle.laws.proofs.Prelude.{ltb-false, leb-true, eq-eqb, le-leb, not-true, arith, split, and-parts, implied, allBelow, all-at, all-from, bit, bitsBelow}
+use Rattle.position.proofs.Rules.{count, payees, isContract, coinOf, sharesTo, blockLimit}
 use Rattle.endings.specs.Earliest.{earliest}
 use Rattle.endings.specs.Plan.{planned}
 use Rattle.claim_earliest.proofs.Possible.{Possible}

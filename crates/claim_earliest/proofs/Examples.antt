@@ -1,16 +1,11 @@
 -- Earliest lists and their refusals, computed: one table over a small sheet at 2 blocks per day; and the words of the claims on both
 -- sides.
 -- Assumes nothing.
-use Rattle.laws.proofs.Prelude.{ℕ, _≡_, refl, sym, ap, _∙_, Bool, true, _&&_, false≢true, List, [], _∷_, _++_, eqb, lit<, getD, arith}
-use Rattle.laws.specs.All.{some-same}
-use Rattle.laws.specs.Gather.{every}
+use Rattle.laws.proofs.Prelude.{ℕ, _≡_, refl, sym, ap, _∙_, Bool, true, _&&_, false≢true, List, [], _∷_, _++_, eqb, lit<, getD, arith, some-same, every, sumBelow}
+use Rattle.laws.proofs.Prelude.{bitsBelow}
+use Rattle.position.proofs.Rules.{sheetRefusal, perDay, setupRefusal, conflict, Entry}
 use Rattle.laws.specs.Same.{same}
-use Rattle.laws.specs.Sum.{sumBelow, bitsBelow}
-use Rattle.sheet.specs.Check.{sheetRefusal}
-use Rattle.sheet.specs.Setup.{perDay, setupRefusal}
 use Rattle.sheet.proofs.Theorems.{sheet-checked}
-use Rattle.slots.specs.Conflict.{conflict}
-use Rattle.ledger.specs.Entry.{Entry}
 use Rattle.position.proofs.Opened.{opened}
 use Rattle.claim_ledger.proofs.Once.{one-place}
 use Rattle.claim_ledger.proofs.Tested.{entryAt}

@@ -1,23 +1,11 @@
 -- Accepted block lists: none confirms a transaction before its earliest block, one that confirms a mask's shows it possible, and a possible plan is one.
 -- Assumes nothing.
-use Rattle.laws.proofs.Prelude.{ℕ, _≤_, _<_, _≡_, refl, sym, true, List, _⊎_, inl, inr, ltb, ltb-true, ltb-false, eq-eqb, arith}
-use mathlib.Core.Option.{some}
-use lib.ListN.{getElem?}
-use Rattle.laws.specs.Booleans.{split, either, clash}
-use Rattle.laws.specs.All.{All, all-weaken}
-use Rattle.laws.specs.Mask.{bit}
-use Rattle.sheet.specs.Refusal.{accepted}
-use Rattle.sheet.specs.Field.{count, parent, payees}
-use Rattle.sheet.specs.Check.{sheetRefusal}
-use Rattle.sheet.specs.Setup.{perDay, setupRefusal}
-use Rattle.sheet.specs.Checked.{Checked}
+use Rattle.laws.proofs.Prelude.{ℕ, _≤_, _<_, _≡_, refl, sym, true, List, _⊎_, inl, inr, ltb, ltb-true, ltb-false, eq-eqb, arith, some, getElem?, split, either, clash}
+use Rattle.laws.proofs.Prelude.{All, all-weaken, bit}
+use Rattle.position.proofs.Rules.{accepted, count, parent, payees, sheetRefusal, perDay, setupRefusal, Checked, contract, isContract, Entry, inOrder, ledger, sharesTo}
+use Rattle.position.proofs.Rules.{blockLimit}
 use Rattle.sheet.proofs.Theorems.{sheet-checked}
-use Rattle.slots.specs.Destination.{contract, isContract}
 use Rattle.slots.proofs.Ancestors.{Above, here, up}
-use Rattle.ledger.specs.Entry.{Entry, inOrder}
-use Rattle.ledger.specs.Ledger.{ledger}
-use Rattle.steps.specs.Decode.{sharesTo}
-use Rattle.position.specs.Tests.{blockLimit}
 use Rattle.call_blocks.specs.BlockList.{listEntries, listBytes, blocksRefusal}
 use Rattle.claim_blocks.proofs.Confirmed.{Fine}
 use Rattle.claim_blocks.proofs.Entering.{right-taken}

@@ -1,18 +1,11 @@
 -- No entry of a list that the ledger takes, in order, is of an earlier block than its transaction's earliest.
 -- Assumes nothing.
-use Rattle.laws.proofs.Prelude.{ℕ, zero, suc, _+_, _≤_, _<_, _≡_, _∙_, true, false, List, eqb, eqb-true, lt-ltb, le-ltb, arith}
+use Rattle.laws.proofs.Prelude.{ℕ, zero, suc, _+_, _≤_, _<_, _≡_, _∙_, true, false, List, eqb, eqb-true, lt-ltb, le-ltb, arith, some, getElem?, split, clash, All}
+use Rattle.laws.proofs.Prelude.{all-place, climb-step}
+use Rattle.position.proofs.Rules.{count, parent, lockType, opening, Checked, LockPair, Entry, inOrder, lockFrom, ledger}
 use native.Mathlib.Nat.{max-le, le-max-left, le-max-right}
-use mathlib.Core.Option.{some}
-use lib.ListN.{getElem?}
-use Rattle.laws.specs.Booleans.{split, clash}
-use Rattle.laws.specs.All.{All, all-place}
-use Rattle.laws.specs.Climb.{climb-step}
-use Rattle.sheet.specs.Field.{count, parent, lockType, opening}
 use Rattle.sheet.specs.Checked
-use Rattle.sheet.specs.Checked.{Checked, LockPair}
 use Rattle.slots.proofs.Parents.{parent-lower}
-use Rattle.ledger.specs.Entry.{Entry, inOrder}
-use Rattle.ledger.specs.Ledger.{lockFrom, ledger}
 use Rattle.ledger.proofs.Rising.{blocks-rise}
 use Rattle.claim_blocks.specs.Words.{Before}
 use Rattle.claim_blocks.proofs.Standing.{Founded, opens, spends}

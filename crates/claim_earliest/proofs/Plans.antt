@@ -1,23 +1,13 @@
 -- The plan of a mask that is possible: its entries rise, and each may stand where it does.
 -- Assumes nothing.
-use Rattle.laws.proofs.Prelude.{ℕ, _+_, _≤_, _<_, _≡_, refl, sym, ap, _∙_, true, false, _&&_, List, eqb, eqb-true, eq-eqb, arith}
-use mathlib.Core.List.{List·Memᴰ, List·Memᴰ·head, List·Memᴰ·not-nil, List·Memᴰ·eq-of-singleton}
-use mathlib.Core.Option.{some}
-use lib.ListN.{getElem?}
-use Rattle.laws.specs.Booleans.{split, either, and-parts, fails-by}
-use Rattle.laws.specs.Below.{any-found, any-some}
-use Rattle.laws.specs.Gather.{gather}
-use Rattle.laws.specs.Mask.{bit}
+use Rattle.laws.proofs.Prelude.{ℕ, _+_, _≤_, _<_, _≡_, refl, sym, ap, _∙_, true, false, _&&_, List, eqb, eqb-true, eq-eqb, arith, List·Memᴰ, List·Memᴰ·head}
+use Rattle.laws.proofs.Prelude.{List·Memᴰ·not-nil, some, getElem?, split, either, and-parts, fails-by, any-found, any-some, gather, bit}
+use Rattle.position.proofs.Rules.{count, parent, opening, Checked, conflict, isSelfOrAncestor, Entry, before, coinOf}
+use mathlib.Core.List.{List·Memᴰ·eq-of-singleton}
 use Rattle.laws.specs.Members.{Rising, gather-member, member-gather, rising-gather}
-use Rattle.sheet.specs.Field.{count, parent, opening}
-use Rattle.sheet.specs.Checked.{Checked}
-use Rattle.slots.specs.Conflict.{conflict}
-use Rattle.slots.specs.Ancestry.{isSelfOrAncestor}
 use Rattle.slots.proofs.Parents.{parent-lower, parent-below, parent-has}
 use Rattle.slots.proofs.Conflicts.{conflict-parts, same-opening}
 use Rattle.slots.proofs.Ancestors.{Above, here, up, above-all, ancestor-above, above-ancestor, line-conflict}
-use Rattle.ledger.specs.Entry.{Entry, before}
-use Rattle.ledger.specs.Coin.{coinOf}
 use Rattle.readings.proofs.Coins.{coin-spend, coin-line}
 use Rattle.claim_blocks.specs.Words.{Before}
 use Rattle.claim_blocks.proofs.Standing.{Founded, opens, spends, AllFitting}

@@ -1,12 +1,7 @@
 -- An ending that is possible, and one that a list confirms to whatever destinations.
 -- Assumes nothing.
-use Rattle.laws.proofs.Prelude.{ℕ, _≤_, _<_, _≡_, true, List}
-use mathlib.Core.Option.{some}
-use lib.ListN.{getElem?}
-use Rattle.laws.specs.Mask.{bit}
-use Rattle.sheet.specs.Field.{count}
-use Rattle.ledger.specs.Entry.{Entry}
-use Rattle.ledger.specs.Coin.{coinOf}
+use Rattle.laws.proofs.Prelude.{ℕ, _≤_, _<_, _≡_, true, List, some, getElem?, bit}
+use Rattle.position.proofs.Rules.{count, Entry, coinOf}
 use Rattle.endings.specs.Earliest.{earliest}
 use Rattle.endings.specs.Plan.{planned}
 

@@ -1,13 +1,8 @@
 -- The words of the claims by tests, for computed examples.
 -- Assumes nothing.
-use Rattle.laws.proofs.Prelude.{ℕ, _<_, _≡_, Bool, true, not, _&&_, _||_, List, eqb, length, eqb-true, leb-true, eq-eqb, arith}
-use Rattle.laws.specs.Booleans.{and-parts}
-use Rattle.laws.specs.Below.{allBelow, anyBelow, all-at, any-found, any-some}
-use Rattle.laws.specs.Mask.{bit}
-use Rattle.sheet.specs.Field.{count}
-use Rattle.ledger.specs.Entry.{Entry}
-use Rattle.ledger.specs.Coin.{coinOf}
-use Rattle.position.specs.Tests.{blockLimit}
+use Rattle.laws.proofs.Prelude.{ℕ, _<_, _≡_, Bool, true, not, _&&_, _||_, List, eqb, length, eqb-true, leb-true, eq-eqb, arith, and-parts, allBelow, anyBelow, all-at}
+use Rattle.laws.proofs.Prelude.{any-found, any-some, bit}
+use Rattle.position.proofs.Rules.{count, Entry, coinOf, blockLimit}
 use Rattle.claim_ledger.proofs.Tested.{entryAt, place-low, place-at}
 use Rattle.endings.specs.Earliest.{earliest}
 use Rattle.endings.specs.Ending.{coinsApart, inTime, isPossible}

@@ -1,27 +1,16 @@
 -- Slip 11, for a reader: what the earliest block is, case by case, and what the answer comes to.
 -- Assumes nothing.
-use Rattle.laws.proofs.Prelude.{ℕ, _+_, _*_, _≤_, _<_, _≡_, refl, sym, _∙_, true, false, List, [], _++_, eqb, ltb, length, take, drop}
-use Rattle.laws.proofs.Prelude.{eqb-true, eqb-false, ltb-true, ltb-false, lt-ltb, le-ltb, arith}
+use Rattle.laws.proofs.Prelude.{ℕ, _+_, _*_, _≤_, _<_, _≡_, refl, sym, _∙_, true, false, List, [], _++_, eqb, ltb, length, take, drop, eqb-true, eqb-false, ltb-true}
+use Rattle.laws.proofs.Prelude.{ltb-false, lt-ltb, le-ltb, arith, max-eq-left, max-eq-right, zero-add, drop-at, split, fails-by, clash, firstFailing, passed}
+use Rattle.laws.proofs.Prelude.{passed-append, over, take-over, length-over, stores-over}
+use Rattle.position.proofs.Rules.{accepted, bufferShort, count, parent, lockType, opening, lockBlocks, arrayTests, sheetTests, sheetRefusal, perDay, setupTests}
+use Rattle.position.proofs.Rules.{setupRefusal, Checked, Entry, lockFrom, blockLimit, fitted}
 use Prim.Native.Nat.{max}
-use native.Mathlib.Nat.{max-eq-left, max-eq-right, zero-add}
-use lib.Seq.{sets-eq, drop-at}
-use Rattle.laws.specs.Booleans.{split, fails-by, clash}
-use Rattle.laws.specs.Failing.{firstFailing, passed, passed-append}
-use Rattle.laws.specs.Over.{over, take-over, length-over, stores-over}
-use Rattle.sheet.specs.Refusal.{accepted, bufferShort}
-use Rattle.sheet.specs.Field.{count, parent, lockType, opening}
-use Rattle.sheet.specs.LockHeight.{lockBlocks}
-use Rattle.sheet.specs.Check.{arrayTests, sheetTests, sheetRefusal}
-use Rattle.sheet.specs.Setup.{perDay, setupTests, setupRefusal}
-use Rattle.sheet.specs.Checked.{Checked}
+use lib.Seq.{sets-eq}
 use Rattle.sheet.proofs.Theorems.{sheet-checked}
 use Rattle.slots.proofs.Parents.{parent-below}
 use Rattle.slots.proofs.Ancestors.{here}
-use Rattle.ledger.specs.Entry.{Entry}
-use Rattle.ledger.specs.Ledger.{lockFrom}
-use Rattle.position.specs.Tests.{blockLimit}
 use Rattle.position.specs.Answers as answers
-use Rattle.position.specs.Answers.{fitted}
 use Rattle.position.proofs.Passing as fit
 use Rattle.call_blocks.specs.BlockList.{listEntries, listBytes}
 use Rattle.claim_blocks.proofs.Bytes.{read-back}

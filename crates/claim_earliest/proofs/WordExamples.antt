@@ -1,17 +1,9 @@
 -- What the words of the claims come to, computed on the sheet of Examples.antt: that a list confirms an ending to these destinations and to no
 -- others; what is said of the list written to pay Bob from the first coin; why an ending is impossible.
 -- Assumes nothing.
-use Rattle.laws.proofs.Prelude.{ℕ, zero, suc, _<_, _≡_, refl, ap, Bool, true, false, not, _&&_, _||_, false≢true, List, [], _∷_, eqb, ltb}
-use Rattle.laws.proofs.Prelude.{eqb-true, eq-eqb, ne-eqb, lt-ltb, arith}
-use mathlib.Core.Option.{some}
-use lib.ListN.{getElem?}
-use Rattle.laws.specs.All.{none-some, some-same}
-use Rattle.laws.specs.Below.{allBelow, all-at}
-use Rattle.laws.specs.Mask.{bit}
-use Rattle.sheet.specs.Field.{count}
-use Rattle.ledger.specs.Entry.{Entry}
-use Rattle.ledger.specs.Coin.{coinOf}
-use Rattle.position.specs.Tests.{blockLimit}
+use Rattle.laws.proofs.Prelude.{ℕ, zero, suc, _<_, _≡_, refl, ap, Bool, true, false, not, _&&_, _||_, false≢true, List, [], _∷_, eqb, ltb, eqb-true, eq-eqb, ne-eqb}
+use Rattle.laws.proofs.Prelude.{lt-ltb, arith, some, getElem?, none-some, some-same, allBelow, all-at, bit}
+use Rattle.position.proofs.Rules.{count, Entry, coinOf, blockLimit}
 use Rattle.position.proofs.Opened.{opened}
 use Rattle.endings.specs.Earliest.{earliestFrom, earliest}
 use Rattle.endings.specs.Plan.{planned}

@@ -1,11 +1,8 @@
 -- Slip 9's counts beside a position and beside that whose block is emptied: a step of kind 1, 2 or 3, and a row of them.
 -- Assumes nothing.
-use Rattle.laws.proofs.Prelude.{ℕ, _≡_, refl, sym, _∙_, fun-ext, true, List, [], _∷_, eqb}
-use Rattle.laws.specs.Booleans.{split, and-parts}
-use Rattle.laws.specs.Gather.{every}
-use Rattle.sheet.specs.Refusal.{accepted}
+use Rattle.laws.proofs.Prelude.{ℕ, _≡_, refl, sym, _∙_, fun-ext, true, List, [], _∷_, eqb, split, and-parts, every}
+use Rattle.position.proofs.Rules.{accepted, FourBytes, step}
 use Rattle.position.specs.declared.Position.{Position}
-use Rattle.position.specs.Play.{FourBytes, step}
 use Rattle.dated.specs.declared.Dated.{Dated}
 use Rattle.dated.specs.Opens.{atHand, opens}
 use Rattle.dated.specs.Dated.{firstOpen, noted, datedStep}

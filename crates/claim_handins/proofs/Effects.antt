@@ -1,19 +1,10 @@
 -- What a step of kind 1, 2 or 3 does leaves the block alone: it does the same to the position whose block is emptied.
 -- Assumes nothing.
-use Rattle.laws.proofs.Prelude.{ℕ, zero, suc, _≡_, refl, ap, _∙_, true, List, [], _∷_, eqb, set}
-use mathlib.Core.List.{map}
-use Rattle.laws.specs.Booleans.{split, clash}
-use Rattle.slots.specs.declared.Slot.{Slot}
-use Rattle.slots.specs.declared.Step.{Step}
-use Rattle.slots.specs.declared.Step.the-variants.{Share, Give, SendToPool, HandToMiner, Include, Mine, Bump}
-use Rattle.slots.specs.Destination.{contract, destinationNumber}
-use Rattle.slots.specs.Slot.{entryFor, withPool, withBlock, withShared, withMark}
-use Rattle.slots.specs.Signatures.{shareMask, exposedMask}
-use Rattle.steps.specs.Decode.{noTransaction, stepBytes}
+use Rattle.laws.proofs.Prelude.{ℕ, zero, suc, _≡_, refl, ap, _∙_, true, List, [], _∷_, eqb, set, map, split, clash}
+use Rattle.position.proofs.Rules.{Slot, Step, Share, Give, SendToPool, HandToMiner, Include, Mine, Bump, contract, destinationNumber, entryFor, withPool, withBlock}
+use Rattle.position.proofs.Rules.{withShared, withMark, shareMask, exposedMask, noTransaction, stepBytes, slot, keys, firstShares, withSlots, changeSlot}
 use Rattle.position.specs.declared.Position.{Position}
-use Rattle.position.specs.Position.{slot, keys}
-use Rattle.position.specs.FirstShares.{firstShares}
-use Rattle.position.specs.Effect.{withSlots, changeSlot, withKey, shareOne, shareEach, afterShare, afterGive, afterSend, effect}
+use Rattle.position.proofs.Rules.{withKey, shareOne, shareEach, afterShare, afterGive, afterSend, effect}
 use Rattle.claim_handins.specs.Early.{earlyKind}
 use Rattle.claim_handins.specs.Claim.{emptied}
 use Rattle.claim_handins.proofs.Emptied.{slot-emptied, keys-same}

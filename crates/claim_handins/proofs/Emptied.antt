@@ -1,13 +1,10 @@
 -- What the rules read of a position whose block is emptied: everything but the block is as it was.
 -- Assumes nothing.
 use Rattle.laws.proofs.Prelude.{ℕ, _≡_, refl, sym, ap, _∙_, fun-ext, List}
-use lib.ListN.{List·getD-map}
-use Rattle.slots.specs.declared.Slot.{Slot}
-use Rattle.slots.specs.Slot.{emptySlot, standing, withBlock, sharedFor, sharedAny, markedFor, marksOf}
+use Rattle.position.proofs.Rules.{Slot, emptySlot, standing, withBlock, sharedFor, sharedAny, markedFor, marksOf, slot, inPool, blockOf, isConfirmed, sent}
 use Rattle.position.specs.declared.Position.{Position}
-use Rattle.position.specs.Position.{slot, inPool, blockOf, isConfirmed, sent, shared, keys, marked, senderHas, deadlineIn, lockHeightIn}
-use Rattle.position.specs.Effect.{withSlots}
-use Rattle.position.specs.FirstShares.{firstSharesMade}
+use Rattle.position.proofs.Rules.{shared, keys, marked, senderHas, deadlineIn, lockHeightIn, withSlots, firstSharesMade}
+use lib.ListN.{List·getD-map}
 use Rattle.claim_handins.specs.Claim.{emptied, BlockApart}
 
 module _ (p : Position) where

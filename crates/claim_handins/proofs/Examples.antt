@@ -1,10 +1,7 @@
 -- Computed examples on a small sheet: the refusals and the list's bytes before and after a hand-in.
 -- Assumes nothing.
 use Rattle.laws.proofs.Prelude.{ℕ, _≡_, refl, List, [], _∷_, _++_, replicate}
-use Rattle.sheet.specs.Refusal.{accepted, stepParent}
-use Rattle.slots.specs.Destination.{alice, bob}
-use Rattle.position.specs.Play.{FourBytes, step, run}
-use Rattle.position.specs.Answers.{listAnswer}
+use Rattle.position.proofs.Rules.{accepted, stepParent, alice, bob, FourBytes, step, run, listAnswer}
 use Rattle.position.proofs.Opened.{opened}
 use Rattle.claim_handins.specs.Early.{earlyKind, earlyBytes, writtenBytes}
 use Rattle.claim_handins.specs.Claim.{emptied, BlockApart}

@@ -1,17 +1,9 @@
 -- The exception comes to this: there are two journals to positions that differ in the block alone, after which Bob has other open steps of
 -- kind 3, and one of these steps other numbers. So the claim would be false of careful conduct with stealth. And where its words are false.
 -- Assumes nothing.
-use Rattle.laws.proofs.Prelude.{ℕ, _≡_, refl, sym, ap, _∙_, true, false, false≢true, List, [], _∷_, _++_, inl, inr, length, arith}
-use mathlib.Core.List.{flatMap}
-use Rattle.sheet.specs.Refusal.{accepted}
-use Rattle.sheet.specs.Saswap.{saswap}
-use Rattle.slots.specs.Destination.{bob}
-use Rattle.steps.specs.Names.{success}
-use Rattle.steps.specs.Decode.{stepBytes}
+use Rattle.laws.proofs.Prelude.{ℕ, _≡_, refl, sym, ap, _∙_, true, false, false≢true, List, [], _∷_, _++_, inl, inr, length, arith, flatMap}
+use Rattle.position.proofs.Rules.{accepted, saswap, bob, success, stepBytes, inPool, run, openOf}
 use Rattle.position.specs.declared.Position.{Position}
-use Rattle.position.specs.Position.{inPool}
-use Rattle.position.specs.Play.{run}
-use Rattle.position.specs.Open.{openOf}
 use Rattle.position.proofs.Opened.{opened}
 use Rattle.dated.specs.Dated.{firstOpen, noted, unseen, datedStart, datedStep, datedRunFrom, datedRun}
 use Rattle.dated.specs.Opens.{atHand, opens}

@@ -1,18 +1,10 @@
 -- A step of kind 1, 2 or 3, and a row of them, leaves every block entry as it was.
 -- Assumes nothing.
-use Rattle.laws.proofs.Prelude.{ℕ, _≡_, refl, ap, _∙_, true, List, [], _∷_, eqb}
-use Rattle.laws.specs.Booleans.{split, clash, and-parts}
-use Rattle.laws.specs.Gather.{every}
-use Rattle.slots.specs.declared.Step.{Step}
-use Rattle.slots.specs.declared.Step.the-variants.{Share, Give, SendToPool, HandToMiner, Include, Mine, Bump}
-use Rattle.slots.specs.Destination.{contract, destinationNumber}
-use Rattle.slots.specs.Slot.{withPool, withShared, withMark}
-use Rattle.steps.specs.Decode.{noTransaction, stepBytes}
+use Rattle.laws.proofs.Prelude.{ℕ, _≡_, refl, ap, _∙_, true, List, [], _∷_, eqb, split, clash, and-parts, every}
+use Rattle.position.proofs.Rules.{Step, Share, Give, SendToPool, HandToMiner, Include, Mine, Bump, contract, destinationNumber, withPool, withShared, withMark}
+use Rattle.position.proofs.Rules.{noTransaction, stepBytes, slot, firstShares, withKey, shareOne, shareEach, afterShare, afterGive, afterSend, effect}
 use Rattle.position.specs.declared.Position.{Position}
-use Rattle.position.specs.Position.{slot}
-use Rattle.position.specs.FirstShares.{firstShares}
-use Rattle.position.specs.Effect.{withKey, shareOne, shareEach, afterShare, afterGive, afterSend, effect}
-use Rattle.position.specs.Play.{FourBytes, decodeBytes, step}
+use Rattle.position.proofs.Rules.{FourBytes, decodeBytes, step}
 use Rattle.position.proofs.Changed.{one-kept}
 use Rattle.position.proofs.StepCases.{StepCase, taken, turned-down, step-case}
 use Rattle.dated.specs.declared.Dated.{Dated}

@@ -1,15 +1,9 @@
 -- What the list call writes, where it answers 0: the bytes of the open steps.
 -- Assumes nothing.
-use Rattle.laws.proofs.Prelude.{ℕ, _*_, _≡_, List, eqb, leb, length, leb-true, eq-eqb, arith}
-use Rattle.laws.specs.Booleans.{split, clash}
-use Rattle.laws.specs.Gather.{length-flat}
-use Rattle.laws.specs.Over.{take-over}
-use Rattle.sheet.specs.Refusal.{accepted}
-use Rattle.steps.specs.Decode.{stepBytes}
+use Rattle.laws.proofs.Prelude.{ℕ, _*_, _≡_, List, eqb, leb, length, leb-true, eq-eqb, arith, split, clash, take-over}
+use Rattle.position.proofs.Rules.{accepted, stepBytes, run, openSteps, listBytes, fitted, passOn, listAnswer}
 use Rattle.position.specs.declared.Ran.{Ran}
-use Rattle.position.specs.Play.{run}
-use Rattle.position.specs.Open.{openSteps, listBytes}
-use Rattle.position.specs.Answers.{fitted, passOn, listAnswer}
+use Rattle.laws.specs.Gather.{length-flat}
 use Rattle.position.proofs.Decoding.{length-step}
 use Rattle.claim_handins.specs.Early.{writtenBytes}
 

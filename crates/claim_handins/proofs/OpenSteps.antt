@@ -1,20 +1,10 @@
 -- The open steps of kinds 1, 2 and 3 of a position are those of that whose block is emptied: by party and kind, and in the list's bytes.
 -- Assumes nothing.
-use Rattle.laws.proofs.Prelude.{ℕ, zero, suc, _+_, _≡_, refl, sym, ap, _∙_, fun-ext, Bool, true, false, List, [], _∷_, _++_, eqb}
-use mathlib.Core.List.{flatMap}
-use Rattle.laws.specs.Booleans.{pick, split}
-use Rattle.laws.specs.Gather.{gather, flat-append}
-use Rattle.sheet.specs.Refusal.{accepted}
-use Rattle.slots.specs.declared.Step.{Step}
-use Rattle.slots.specs.declared.Step.the-variants.{Share, Give, SendToPool, HandToMiner, Include, Mine, Bump}
-use Rattle.slots.specs.Destination.{destinations}
-use Rattle.steps.specs.declared.Decoded.{Decoded}
-use Rattle.steps.specs.declared.Decoded.the-variants.{Read, Refused}
-use Rattle.steps.specs.Decode.{noTransaction, decode, stepBytes}
+use Rattle.laws.proofs.Prelude.{ℕ, zero, suc, _+_, _≡_, refl, sym, ap, _∙_, fun-ext, Bool, true, false, List, [], _∷_, _++_, eqb, flatMap, pick, split, gather}
+use Rattle.position.proofs.Rules.{accepted, Step, Share, Give, SendToPool, HandToMiner, Include, Mine, Bump, destinations, Decoded, Read, Refused, noTransaction, decode}
+use Rattle.position.proofs.Rules.{stepBytes, slotCount, stepRefusal, actorAt, actors, kinds, ifAccepted, openAt, openOf, actorSteps, openSteps, listBytes}
 use Rattle.position.specs.declared.Position.{Position}
-use Rattle.position.specs.Position.{slotCount}
-use Rattle.position.specs.StepRefusal.{stepRefusal}
-use Rattle.position.specs.Open.{actorAt, actors, kinds, ifAccepted, openAt, openOf, actorSteps, openSteps, listBytes}
+use Rattle.laws.specs.Gather.{flat-append}
 use Rattle.claim_handins.specs.Early.{earlyKind, earlyBytes}
 use Rattle.claim_handins.specs.Claim.{emptied, Unwatched}
 use Rattle.claim_handins.proofs.Refusals.{earlyStep, refusal-emptied}

@@ -1,20 +1,12 @@
 -- The refusals of kinds 1, 2 and 3 are those on the position whose block is emptied.
 -- Assumes nothing.
-use Rattle.laws.proofs.Prelude.{ℕ, _≡_, refl, ap, fun-ext, Bool, true, false, not, _&&_, List, eqb, getD, ne-eqb, arith}
-use Rattle.laws.specs.Booleans.{either, clash}
-use Rattle.laws.specs.Below.{anyBelow}
-use Rattle.laws.specs.Failing.{firstFailing}
-use Rattle.sheet.specs.Field.{count}
-use Rattle.sheet.specs.Setup.{conduct, stealth}
-use Rattle.slots.specs.declared.Step.{Step}
-use Rattle.slots.specs.declared.Step.the-variants.{Share, Give, SendToPool, HandToMiner, Include, Mine, Bump}
-use Rattle.slots.specs.Destination.{isPayee, isContract}
-use Rattle.steps.specs.Decode.{stepBytes}
+use Rattle.laws.proofs.Prelude.{ℕ, _≡_, refl, ap, fun-ext, Bool, true, false, not, _&&_, List, eqb, getD, ne-eqb, arith, either, clash, anyBelow, firstFailing}
+use Rattle.position.proofs.Rules.{count, conduct, stealth, Step, Share, Give, SendToPool, HandToMiner, Include, Mine, Bump, isPayee, isContract, stepBytes}
 use Rattle.position.specs.declared.Position.{Position}
-use Rattle.position.specs.Position.{holds}
-use Rattle.position.specs.Tests.{shareMet, shareTests, giveMet, giveTests, sendTests, poolTests, minerTests}
-use Rattle.position.specs.Conduct.{isCareful, phase, late, aliceShares, mayShare, aliceGives, bobGives, mayGive, successUnshared, secretSafe, safeToSend, sendAllowed, payingPasses, canPay, payingFirst, conductAllows}
-use Rattle.position.specs.StepRefusal.{tests, stepRefusal}
+use Rattle.position.proofs.Rules.{holds, shareMet, shareTests, giveMet, giveTests, sendTests, poolTests, minerTests, isCareful, phase, late, aliceShares, mayShare}
+use Rattle.position.proofs.Rules.{aliceGives, bobGives, mayGive, successUnshared, secretSafe, safeToSend, sendAllowed, payingPasses, canPay, payingFirst, conductAllows}
+use Rattle.position.proofs.Rules.{stepRefusal}
+use Rattle.position.specs.StepRefusal.{tests}
 use Rattle.claim_handins.specs.Early.{earlyKind}
 use Rattle.claim_handins.specs.Claim.{emptied, Unwatched}
 use Rattle.claim_handins.proofs.Emptied.{mined-same, keys-same, confirmed-same, sent-same, shared-same, has-same, marked-same, made-same, lock-same, deadline-same}

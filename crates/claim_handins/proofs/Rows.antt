@@ -1,18 +1,10 @@
 -- A step of kind 1, 2 or 3, and a row of them, on a position and on that whose block is emptied.
 -- Assumes nothing.
-use Rattle.laws.proofs.Prelude.{ℕ, _≡_, refl, sym, ap, _∙_, true, List, [], _∷_, eqb, eqb-true, eqb-false}
-use Rattle.laws.specs.Booleans.{split, and-parts}
-use Rattle.laws.specs.Gather.{every}
-use Rattle.sheet.specs.Refusal.{accepted}
-use Rattle.slots.specs.declared.Step.{Step}
-use Rattle.steps.specs.declared.Decoded.{Decoded}
-use Rattle.steps.specs.declared.Decoded.the-variants.{Read, Refused}
-use Rattle.steps.specs.Decode.{decode}
+use Rattle.laws.proofs.Prelude.{ℕ, _≡_, refl, sym, ap, _∙_, true, List, [], _∷_, eqb, eqb-true, eqb-false, split, and-parts, every}
+use Rattle.position.proofs.Rules.{accepted, Step, Decoded, Read, Refused, decode, stepRefusal, effect, FourBytes, decodeBytes, takeStep, takeDecoded}
 use Rattle.position.specs.declared.Position.{Position}
 use Rattle.position.specs.declared.Stepped.{Stepped}
-use Rattle.position.specs.StepRefusal.{stepRefusal}
-use Rattle.position.specs.Effect.{effect}
-use Rattle.position.specs.Play.{FourBytes, decodeBytes, takeStep, takeDecoded, step, acceptedOf}
+use Rattle.position.proofs.Rules.{step, acceptedOf}
 use Rattle.position.proofs.Decoding.{decodes}
 use Rattle.position.proofs.StepCases.{accepts, refuses}
 use Rattle.claim_handins.specs.Early.{earlyKind, early}

@@ -1,9 +1,7 @@
 -- What a hand-in gives away.
 -- Assumes nothing.
 use Rattle.laws.proofs.Prelude.{_≡_, refl, sym, ap, _∙_, arith}
-use Rattle.sheet.specs.Saswap.{saswap}
-use Rattle.position.specs.Play.{run, acceptedOf}
-use Rattle.position.specs.Open.{openOf, listBytes}
+use Rattle.position.proofs.Rules.{saswap, run, acceptedOf, openOf, listBytes}
 use Rattle.dated.specs.declared.Dated.{Dated}
 use Rattle.dated.specs.Dated.{datedStep}
 use Rattle.dated.proofs.OpenedRules.{opened-dated}

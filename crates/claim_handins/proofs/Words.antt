@@ -1,15 +1,8 @@
 -- Computed examples: what the words of the claim say, on both sides.
 -- Assumes nothing.
-use Rattle.laws.proofs.Prelude.{ℕ, _≡_, refl, ap, true, false, List, [], _∷_, _++_, eqb, eqb-false}
-use mathlib.Core.List.{map}
-use Rattle.laws.specs.Gather.{every}
-use Rattle.sheet.specs.Saswap.{saswap}
-use Rattle.sheet.specs.LockHeight.{never}
-use Rattle.slots.specs.Destination.{bob, contract}
-use Rattle.steps.specs.Names.{success}
+use Rattle.laws.proofs.Prelude.{ℕ, _≡_, refl, ap, true, false, List, [], _∷_, _++_, eqb, eqb-false, map, every}
+use Rattle.position.proofs.Rules.{saswap, never, bob, contract, success, slot, blockOf, shared, keys, journalSteps, run}
 use Rattle.position.specs.declared.Position.{Position}
-use Rattle.position.specs.Position.{slot, blockOf, shared, keys}
-use Rattle.position.specs.Play.{journalSteps, run}
 use Rattle.position.proofs.Opened.{opened}
 use Rattle.dated.specs.declared.Dated.{Dated}
 use Rattle.dated.specs.Dated.{countOf, datedRun}

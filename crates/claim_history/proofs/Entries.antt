@@ -1,11 +1,8 @@
 -- The entries that the accepted steps of a list confirm are those of the list.
 -- Assumes nothing.
-use Rattle.laws.proofs.Prelude.{ℕ, _≡_, refl, sym, ap, _∙_, true, false, List, [], _∷_, _++_, eqb}
-use Rattle.laws.specs.Booleans.{split}
-use Rattle.sheet.specs.Refusal.{accepted}
+use Rattle.laws.proofs.Prelude.{ℕ, _≡_, refl, sym, ap, _∙_, true, false, List, [], _∷_, _++_, eqb, split}
+use Rattle.position.proofs.Rules.{accepted, start, FourBytes, journalSteps, decodeBytes, step, acceptedOf, confirms, confirmedEntries}
 use Rattle.position.specs.declared.Position.{Position}
-use Rattle.position.specs.Position.{start}
-use Rattle.position.specs.Play.{FourBytes, journalSteps, decodeBytes, step, acceptedOf, confirms, confirmedEntries}
 use Rattle.position.proofs.StepCases.{refused-same}
 use Rattle.step_laws.proofs.Journals.{journal-steps}
 use Rattle.claim_ledger.specs.Claim.{entriesOf}

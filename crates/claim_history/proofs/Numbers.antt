@@ -1,13 +1,7 @@
 -- The number: the sheet's tests, then the setup's, then the room of the two buffers.
 -- Assumes nothing.
-use Rattle.laws.proofs.Prelude.{ℕ, _*_, _≤_, _<_, _≡_, refl, sym, _∙_, Bool, List, [], _∷_, _++_, length, le-leb, lt-leb}
-use Rattle.laws.specs.Failing.{firstFailing, passed-append, failed-append}
-use Rattle.sheet.specs.Refusal.{bufferShort}
-use Rattle.sheet.specs.Field.{count}
-use Rattle.sheet.specs.Check.{arrayTests, sheetTests, sheetRefusal}
-use Rattle.sheet.specs.Setup.{setupTests, setupRefusal}
-use Rattle.readings.specs.Reported.{rowWidth}
-use Rattle.position.specs.Play.{FourBytes}
+use Rattle.laws.proofs.Prelude.{ℕ, _*_, _≤_, _<_, _≡_, refl, sym, _∙_, Bool, List, [], _∷_, _++_, length, le-leb, lt-leb, firstFailing, passed-append, failed-append}
+use Rattle.position.proofs.Rules.{bufferShort, count, arrayTests, sheetTests, sheetRefusal, setupTests, setupRefusal, rowWidth, FourBytes}
 use Rattle.claim_history.specs.Promise.{acceptedBytes, roomRight, historyNumber}
 
 module _ (s u : List ℕ) (bs : List FourBytes) (a o : List ℕ) where

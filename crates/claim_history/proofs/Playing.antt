@@ -1,14 +1,10 @@
 -- A list of steps played group by group: what is left to do from each group on comes to the whole.
 -- Assumes nothing.
-use Rattle.laws.proofs.Prelude.{ℕ, _+_, _*_, _≤_, _<_, _≡_, refl, sym, ap, _∙_, List, [], _∷_, _++_, eqb, length, length-append, arith}
-use native.Mathlib.Nat.{zero-add, add-zero}
-use Rattle.laws.specs.Booleans.{pick, split}
+use Rattle.laws.proofs.Prelude.{ℕ, _+_, _*_, _≤_, _<_, _≡_, refl, sym, ap, _∙_, List, [], _∷_, _++_, eqb, length, length-append, arith, zero-add, add-zero, pick, split}
+use Rattle.position.proofs.Rules.{stepAt, start, FourBytes, journalSteps, step, play, acceptedOf}
 use Rattle.position.specs.declared.Position.{Position}
 use Rattle.position.specs.declared.Stepped.{Stepped}
-use Rattle.position.specs.Forms.Journal.{stepAt}
 use Rattle.call_run.proofs.Bounds.{steps-bytes}
-use Rattle.position.specs.Position.{start}
-use Rattle.position.specs.Play.{FourBytes, journalSteps, step, play, acceptedOf}
 use Rattle.claim_history.specs.declared.play.Played.{Played}
 use Rattle.claim_history.specs.Forms.Steps.{taken, playedOne}
 use Rattle.call_run.proofs.Groups.{groupsFrom, groups-all, groups-next, groups-none}

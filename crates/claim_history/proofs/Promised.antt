@@ -1,17 +1,9 @@
 -- The promise, for each return of the code.
 -- Assumes nothing.
-use Rattle.laws.proofs.Prelude.{ℕ, _*_, _≤_, _<_, _≡_, refl, sym, ap, _∙_, List, length, take, arith}
-use Rattle.laws.specs.Over.{over, take-over}
-use Rattle.sheet.specs.Refusal.{bufferShort}
-use Rattle.sheet.specs.Field.{count}
-use Rattle.sheet.specs.Check.{sheetRefusal}
-use Rattle.sheet.specs.Setup.{conduct, setupRefusal}
-use Rattle.sheet.proofs.Theorems.{setup-checked}
-use Rattle.readings.specs.Reported.{rowWidth}
+use Rattle.laws.proofs.Prelude.{ℕ, _*_, _≤_, _<_, _≡_, refl, sym, ap, _∙_, List, length, take, arith, over, take-over}
+use Rattle.position.proofs.Rules.{bufferShort, count, sheetRefusal, conduct, setupRefusal, rowWidth, holderIn, start, FourBytes, journalSteps, acceptedOf, run}
 use Rattle.position.specs.declared.Position.{Position}
-use Rattle.position.specs.Holder.{holderIn}
-use Rattle.position.specs.Position.{start}
-use Rattle.position.specs.Play.{FourBytes, journalSteps, acceptedOf, run}
+use Rattle.sheet.proofs.Theorems.{setup-checked}
 use Rattle.dated.specs.Report.{reportAnswer}
 use Rattle.dated.proofs.ReportAnswers.{rowsAfter, rows-length, report-as}
 use Rattle.position.proofs.Passing.{passed-whole}

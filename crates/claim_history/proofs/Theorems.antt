@@ -1,7 +1,6 @@
 -- What the promise comes to.
 -- Assumes nothing.
-use Rattle.laws.proofs.Prelude.{ℕ, _≡_, sym, _∙_, List, eqb, eqb-true, eqb-false}
-use Rattle.laws.specs.Booleans.{split}
+use Rattle.laws.proofs.Prelude.{ℕ, _≡_, sym, _∙_, List, eqb, eqb-true, eqb-false, split}
 use Rattle.claim_history.specs.declared.Outcome.{Outcome}
 use Rattle.claim_history.specs.Promise.{Demand3}
 

@@ -1,15 +1,11 @@
 -- The bytes of the accepted steps, group by group.
 -- Assumes nothing.
-use Rattle.laws.proofs.Prelude.{ℕ, _+_, _-_, _*_, _≤_, _<_, _≡_, ap, _∙_, List, [], _++_, eqb, length, take, drop}
-use Rattle.laws.specs.Booleans.{split}
-use Rattle.sheet.specs.Field.{byte}
-use Rattle.output.specs.Forms.Emitted.{emitted}
-use Rattle.output.proofs.Writing.{Writing, writing-room, writing-end}
+use Rattle.laws.proofs.Prelude.{ℕ, _+_, _-_, _*_, _≤_, _<_, _≡_, ap, _∙_, List, [], _++_, eqb, length, take, drop, split}
+use Rattle.position.proofs.Rules.{byte, start, journalSteps, journalBytes, step, acceptedOf, stepAt}
 use Rattle.position.specs.declared.Position.{Position}
 use Rattle.position.specs.declared.Stepped.{Stepped}
-use Rattle.position.specs.Position.{start}
-use Rattle.position.specs.Play.{journalSteps, journalBytes, step, acceptedOf}
-use Rattle.position.specs.Forms.Journal.{stepAt}
+use Rattle.output.specs.Forms.Emitted.{emitted}
+use Rattle.output.proofs.Writing.{Writing, writing-room, writing-end}
 use Rattle.claim_history.specs.Forms.Steps.{taken}
 use Rattle.call_run.proofs.Groups.{bytes-append, no-bytes, groupsFrom, groups-all, groups-none}
 use Rattle.claim_history.proofs.Playing.{accepted-none, accepted-turn}

@@ -1,16 +1,8 @@
 -- The claim, from the ledger's link to the position, the order of the entries and the report read back.
 -- Assumes nothing.
-use Rattle.laws.proofs.Prelude.{ℕ, _<_, _≡_, sym, ap, _∙_, true, List}
-use Rattle.laws.specs.All.{All, all-weaken}
-use Rattle.sheet.specs.Field.{count}
-use Rattle.sheet.specs.Check.{sheetRefusal}
-use Rattle.sheet.specs.Setup.{setupRefusal}
-use Rattle.ledger.specs.Ledger.{Kept, Books, noneKept, ledger, ledgerHolder}
-use Rattle.position.specs.Position.{start}
-use Rattle.position.specs.Play.{FourBytes}
-use Rattle.readings.specs.Holder.{isPayout, isPayoutTo}
-use Rattle.readings.specs.Reported.{reportedHolder}
-use Rattle.position.specs.Holder.{holderIn}
+use Rattle.laws.proofs.Prelude.{ℕ, _<_, _≡_, sym, ap, _∙_, true, List, All, all-weaken}
+use Rattle.position.proofs.Rules.{count, sheetRefusal, setupRefusal, Kept, Books, noneKept, ledger, ledgerHolder, start, FourBytes, isPayout, isPayoutTo, reportedHolder}
+use Rattle.position.proofs.Rules.{holderIn}
 use Rattle.claim_ledger.specs.Claim.{entriesOf, booksOf, positionOf, reportedBytes, Same, Agrees}
 use Rattle.claim_ledger.proofs.SoundSteps.{sound-start}
 use Rattle.claim_ledger.proofs.TakenList.{Taken, start-linked, list-taken}

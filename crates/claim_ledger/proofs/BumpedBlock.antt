@@ -1,10 +1,8 @@
 -- A bump: the block being filled with some of a line put in, and without what these put out.
 -- Assumes nothing.
-use Rattle.laws.proofs.Prelude.{ℕ, _<_, _≡_, Bool, true, false, not, _&&_, _||_, List, _⊎_, inl, inr, not-true, arith}
-use Rattle.laws.specs.Booleans.{split, either, clash, and-parts, or-parts, or-right, fails-by}
-use Rattle.sheet.specs.Field.{count, parent, opening}
-use Rattle.sheet.specs.Checked.{Checked}
-use Rattle.slots.specs.Ancestry.{isSelfOrAncestor, meetsConflict}
+use Rattle.laws.proofs.Prelude.{ℕ, _<_, _≡_, Bool, true, false, not, _&&_, _||_, List, _⊎_, inl, inr, not-true, arith, split, either, clash, and-parts, or-parts}
+use Rattle.laws.proofs.Prelude.{or-right, fails-by}
+use Rattle.position.proofs.Rules.{count, parent, opening, Checked, isSelfOrAncestor, meetsConflict}
 use Rattle.slots.proofs.Parents.{parent-lower, parent-below, parent-has}
 use Rattle.slots.proofs.Conflicts.{conflict-self, conflict-sym}
 use Rattle.slots.proofs.Ancestors.{Above, here, up, above-all, holds-above, ancestor-above, above-ancestor, meets-find, meets-none, meets-none-up, line-conflict}

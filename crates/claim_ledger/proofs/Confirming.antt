@@ -1,15 +1,9 @@
 -- What a taken step confirms: nothing, or, kind 6, the block being filled.
 -- Assumes nothing.
 use Rattle.laws.proofs.Prelude.{ℕ, _≡_, refl, false, List, [], _∷_, _++_, eqb}
-use Rattle.sheet.specs.Refusal.{accepted}
-use Rattle.sheet.specs.Checked.{Checked}
-use Rattle.slots.specs.declared.Step.{Step}
-use Rattle.slots.specs.declared.Step.the-variants.{Share, Give, SendToPool, HandToMiner, Include, Mine, Bump}
-use Rattle.slots.specs.Destination.{destinationNumber}
+use Rattle.position.proofs.Rules.{accepted, Checked, Step, Share, Give, SendToPool, HandToMiner, Include, Mine, Bump, destinationNumber, Read, afterMine}
 use Rattle.position.specs.declared.Position.{Position}
-use Rattle.steps.specs.declared.Decoded.the-variants.{Read}
-use Rattle.position.specs.Effect.{afterMine, effect}
-use Rattle.position.specs.Play.{FourBytes, decodeBytes, step, blockEntries, confirms, confirmedEntries}
+use Rattle.position.proofs.Rules.{effect, FourBytes, decodeBytes, step, blockEntries, confirms, confirmedEntries}
 use Rattle.step_laws.proofs.Untouched.{SameConfirmed}
 use Rattle.step_laws.proofs.AfterShares.{share-confirmed, give-confirmed}
 use Rattle.step_laws.proofs.AfterSends.{send-confirmed, hand-confirmed, include-confirmed}

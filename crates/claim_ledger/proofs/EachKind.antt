@@ -1,26 +1,12 @@
 -- Each kind of step, taken, leads from a sound position to a sound one.
 -- Assumes nothing.
-use Rattle.laws.proofs.Prelude.{ℕ, _≤_, _<_, _≡_, _∙_, Bool, true, false, not, _&&_, _||_, false≢true, List, eqb, ltb, length, eqb-true}
-use Rattle.laws.proofs.Prelude.{eqb-false, ltb-true, ne-eqb, not-true, arith}
-use Rattle.laws.specs.Booleans.{split, either, clash, and-parts, or-parts}
-use Rattle.laws.specs.Gather.{every}
-use Rattle.sheet.specs.Field.{count}
-use Rattle.sheet.specs.Saswap.{saswapAt, saswap}
-use Rattle.sheet.specs.Setup.{perDay, conduct}
-use Rattle.sheet.specs.LockHeight.{lockHeight}
-use Rattle.sheet.specs.Checked.{Checked, SetupChecked}
-use Rattle.slots.specs.Destination.{alice, contract, isParty, isPayee, isContract}
-use Rattle.slots.specs.Conflict.{noConflict}
-use Rattle.slots.specs.Slot.{emptySlot, withPool, withBlock, withShared, entryFor}
-use Rattle.slots.specs.Signatures.{exposedMask}
-use Rattle.slots.specs.Ancestry.{hasParent, meetsConflict}
+use Rattle.laws.proofs.Prelude.{ℕ, _≤_, _<_, _≡_, _∙_, Bool, true, false, not, _&&_, _||_, false≢true, List, eqb, ltb, length, eqb-true, eqb-false, ltb-true, ne-eqb}
+use Rattle.laws.proofs.Prelude.{not-true, arith, split, either, clash, and-parts, or-parts, every}
+use Rattle.position.proofs.Rules.{count, saswapAt, saswap, perDay, conduct, lockHeight, Checked, SetupChecked, alice, contract, isParty, isPayee, isContract, noConflict}
+use Rattle.position.proofs.Rules.{emptySlot, withPool, withBlock, withShared, entryFor, exposedMask, hasParent, meetsConflict, slotCount, slot, inPool, poolTo}
 use Rattle.position.specs.declared.Position.{Position}
-use Rattle.position.specs.Position.{slotCount, slot, inPool, poolTo, inBlock, blockTo, blockOf, isConfirmed, confirmedTo, sent, placed}
-use Rattle.steps.specs.Decode.{noTransaction, sendsTo, sharesTo, firstShareFields}
-use Rattle.position.specs.FirstShares.{firstShares}
-use Rattle.position.specs.Owed.{waiting, enters}
-use Rattle.position.specs.Tests.{blockLimit}
-use Rattle.position.specs.Effect.{afterShare, afterGive, afterSend, afterHandIn, afterInclude, leavesPool, afterMine, afterBump}
+use Rattle.position.proofs.Rules.{inBlock, blockTo, blockOf, isConfirmed, confirmedTo, sent, placed, noTransaction, sendsTo, sharesTo, firstShareFields, firstShares}
+use Rattle.position.proofs.Rules.{waiting, enters, blockLimit, afterShare, afterGive, afterSend, afterHandIn, afterInclude, leavesPool, afterMine, afterBump}
 use Rattle.position.proofs.Changed.{one-length, one-other}
 use Rattle.step_laws.proofs.Untouched.{SamePool, SameBlock, SameConfirmed}
 use Rattle.step_laws.proofs.AfterShares.{share-length, share-beyond, share-pool, share-block, share-confirmed, give-slots, give-slot, give-pool, give-block, give-confirmed}

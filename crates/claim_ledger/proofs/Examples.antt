@@ -1,27 +1,12 @@
 -- What the claim's words come to on the SASwap sheet, computed: where Bob is paid from coin A and Alice from coin B, where it is the
 -- other way round, and where nobody is paid.
 -- Assumes nothing.
-use Rattle.laws.proofs.Prelude.{ℕ, _<_, _≡_, refl, Bool, true, false, not, _&&_, false≢true, List, [], _∷_, _++_, eqb, lit<, length}
-use Rattle.laws.proofs.Prelude.{replicate, arith}
-use mathlib.Core.List.{flatMap}
-use Rattle.laws.specs.Booleans.{pick}
-use Rattle.laws.specs.Gather.{gather, every}
-use Rattle.laws.specs.Same.{same}
-use Rattle.sheet.specs.Refusal.{accepted}
-use Rattle.sheet.specs.Saswap.{saswap}
-use Rattle.slots.specs.Destination.{alice, bob, contract}
-use Rattle.ledger.specs.Entry.{Entry}
-use Rattle.ledger.specs.Coin.{nobody}
-use Rattle.ledger.specs.Ledger.{ledgerHolder}
-use Rattle.slots.specs.Slot.{withConfirmed}
-use Rattle.steps.specs.Names.{lockA, lockB, success, refund1, spendA, spendB}
+use Rattle.laws.proofs.Prelude.{ℕ, _<_, _≡_, refl, Bool, true, false, not, _&&_, false≢true, List, [], _∷_, _++_, eqb, lit<, length, replicate, arith, flatMap, pick}
+use Rattle.laws.proofs.Prelude.{gather, every}
+use Rattle.position.proofs.Rules.{accepted, saswap, alice, bob, contract, Entry, nobody, ledgerHolder, withConfirmed, lockA, lockB, success, refund1, spendA, spendB}
+use Rattle.position.proofs.Rules.{start, blockOf, changeSlot, journalSteps, isPayout, isPayoutTo, reportedHolder, holderIn}
 use Rattle.position.specs.declared.Position.{Position}
-use Rattle.position.specs.Position.{start, blockOf}
-use Rattle.position.specs.Effect.{changeSlot}
-use Rattle.position.specs.Play.{journalSteps}
-use Rattle.readings.specs.Holder.{isPayout, isPayoutTo}
-use Rattle.readings.specs.Reported.{reportedHolder}
-use Rattle.position.specs.Holder.{holderIn}
+use Rattle.laws.specs.Same.{same}
 use Rattle.dated.proofs.OpenedRules.{opened-dated}
 use Rattle.claim_ledger.specs.Claim.{entriesOf, booksOf, positionOf, reportOf, reportedBytes, Same}
 use Rattle.claim_ledger.specs.Once.{OpenedOnce, SpentOnce, SpentAfter, NoEarlyLock}

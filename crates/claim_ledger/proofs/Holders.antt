@@ -1,21 +1,12 @@
 -- Where the ledger is linked to what is confirmed, its holder of every coin is the one read from there.
 -- Assumes nothing.
-use Rattle.laws.proofs.Prelude.{ℕ, zero, suc, _<_, _≡_, refl, sym, ap, _∙_, Bool, true, false, not, _&&_, List, eqb, ltb, eqb-true}
-use Rattle.laws.proofs.Prelude.{ltb-true, eq-eqb, lt-ltb, not-true, arith}
-use native.Mathlib.Nat.{not-suc-le-zero, le-of-suc-le-suc, eq-or-lt-of-le}
-use mathlib.Core.Option.{none, some}
-use Rattle.laws.specs.Booleans.{pick, split, either, clash, and-parts, fails-by}
-use Rattle.laws.specs.Below.{any-some, any-found}
-use Rattle.laws.specs.All.{none-some, some-same}
-use Rattle.sheet.specs.Field.{count, parent}
-use Rattle.ledger.specs.Entry.{Entry}
-use Rattle.ledger.specs.Coin.{coinOf, nobody}
-use Rattle.ledger.specs.Ledger.{Kept, entryHolder, ledgerHolder}
+use Rattle.laws.proofs.Prelude.{ℕ, zero, suc, _<_, _≡_, refl, sym, ap, _∙_, Bool, true, false, not, _&&_, List, eqb, ltb, eqb-true, ltb-true, eq-eqb, lt-ltb, not-true}
+use Rattle.laws.proofs.Prelude.{arith, not-suc-le-zero, le-of-suc-le-suc, eq-or-lt-of-le, none, some, pick, split, either, clash, and-parts, fails-by, any-some}
+use Rattle.laws.proofs.Prelude.{any-found, none-some, some-same}
+use Rattle.position.proofs.Rules.{count, parent, Entry, coinOf, nobody, Kept, ledgerHolder, blockOf, isConfirmed, confirmedTo, payee, unconfirmed, holderIn}
 use Rattle.position.specs.declared.Position.{Position}
-use Rattle.position.specs.Position.{blockOf, isConfirmed, confirmedTo}
-use Rattle.position.specs.Report.{payee, unconfirmed}
+use Rattle.ledger.specs.Ledger.{entryHolder}
 use Rattle.readings.specs.Holder.{confirmedChild, endsCoin, payeeBelow, holder}
-use Rattle.position.specs.Holder.{holderIn}
 use Rattle.claim_ledger.proofs.Linked.{Child, Leaf, Linked}
 use Rattle.claim_ledger.proofs.OneEntry.{kept-cases}
 

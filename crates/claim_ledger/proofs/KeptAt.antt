@@ -1,17 +1,9 @@
 -- What the ledger has kept when it comes to a place of a list that it takes.
 -- Assumes nothing.
-use Rattle.laws.proofs.Prelude.{ℕ, zero, suc, _≤_, _<_, _≡_, refl, sym, _∙_, true, List, [], _∷_, _⊎_, inl, inr, eqb, eqb-true, eq-eqb}
-use Rattle.laws.proofs.Prelude.{arith}
-use mathlib.Core.Option.{Option, some}
-use lib.ListN.{getElem?}
-use Rattle.laws.specs.Booleans.{split, either}
-use Rattle.laws.specs.All.{none-some, some-same, All, also}
-use Rattle.sheet.specs.Field.{count, parent}
-use Rattle.sheet.specs.Checked.{Checked}
+use Rattle.laws.proofs.Prelude.{ℕ, zero, suc, _≤_, _<_, _≡_, refl, sym, _∙_, true, List, [], _∷_, _⊎_, inl, inr, eqb, eqb-true, eq-eqb, arith, Option, some, getElem?}
+use Rattle.laws.proofs.Prelude.{split, either, none-some, some-same, All, also}
+use Rattle.position.proofs.Rules.{count, parent, Checked, Entry, coinOf, Kept, fits, keep, enter}
 use Rattle.slots.proofs.Parents.{parent-lower}
-use Rattle.ledger.specs.Entry.{Entry}
-use Rattle.ledger.specs.Coin.{coinOf}
-use Rattle.ledger.specs.Ledger.{Kept, fits, keep, enter}
 use Rattle.ledger.proofs.Taking.{Fit, opens, spends, fits-says, enter-parts, keep-own, keep-other}
 
 module _ (s : List ℕ) (perDay : ℕ) (ok : Checked s) where

@@ -1,14 +1,8 @@
 -- The plain ledger linked to what is confirmed: the entry kept for a coin is that of its one confirmed transaction without a confirmed child.
 -- Assumes nothing.
-use Rattle.laws.proofs.Prelude.{ℕ, _<_, _≡_, false, List, _⊎_, inl, inr}
-use mathlib.Core.Option.{some}
-use Rattle.laws.specs.Booleans.{either}
-use Rattle.sheet.specs.Field.{count, parent, opening}
-use Rattle.sheet.specs.Checked.{Checked}
+use Rattle.laws.proofs.Prelude.{ℕ, _<_, _≡_, false, List, _⊎_, inl, inr, some, either}
+use Rattle.position.proofs.Rules.{count, parent, opening, Checked, Entry, coinOf, Kept}
 use Rattle.slots.proofs.Parents.{parent-below}
-use Rattle.ledger.specs.Entry.{Entry}
-use Rattle.ledger.specs.Coin.{coinOf}
-use Rattle.ledger.specs.Ledger.{Kept}
 
 -- a confirmed child of t, where `block` gives each transaction's block, 0 while it is unconfirmed
 abbrev pub Child : List ℕ → (ℕ → ℕ) → ℕ → Type 0

@@ -1,18 +1,13 @@
 -- A mined block: what was in it is settled, and the pool waits on.
 -- Assumes nothing.
-use Rattle.laws.proofs.Prelude.{ℕ, _+_, _≤_, _<_, _≡_, sym, _∙_, Bool, true, false, not, _&&_, _||_, List, _⊎_, inl, inr, eqb, eqb-true}
-use Rattle.laws.proofs.Prelude.{eqb-false, eq-eqb, ne-eqb, not-true, arith}
-use Rattle.laws.specs.Booleans.{pick, split, either, and-parts, or-neither}
-use Rattle.sheet.specs.Field.{count, parent, opening, lockType}
-use Rattle.sheet.specs.LockHeight.{lockBlocks, sinceParent, lockHeight}
-use Rattle.sheet.specs.Checked.{Checked, LockPair, none, absolute, since}
-use Rattle.slots.specs.Ancestry.{meetsOther}
+use Rattle.laws.proofs.Prelude.{ℕ, _+_, _≤_, _<_, _≡_, sym, _∙_, Bool, true, false, not, _&&_, _||_, List, _⊎_, inl, inr, eqb, eqb-true, eqb-false, eq-eqb, ne-eqb}
+use Rattle.laws.proofs.Prelude.{not-true, arith, pick, split, either, and-parts, or-neither}
+use Rattle.position.proofs.Rules.{count, parent, opening, lockType, lockBlocks, sinceParent, lockHeight, Checked, LockPair, absolute, since, meetsOther, conflict}
+use Rattle.position.proofs.Rules.{blockLimit, leavesPool}
+use Rattle.sheet.specs.Checked.{none}
 use Rattle.slots.proofs.Parents.{parent-lower, parent-below}
-use Rattle.slots.specs.Conflict.{conflict}
 use Rattle.slots.proofs.Conflicts.{conflict-self, conflict-sym}
 use Rattle.slots.proofs.Ancestors.{other-none, other-none-up}
-use Rattle.position.specs.Tests.{blockLimit}
-use Rattle.position.specs.Effect.{leavesPool}
 use Rattle.claim_ledger.proofs.Sound.{Settled, Waits}
 
 -- a lock height hangs on no block, or on the parent's alone

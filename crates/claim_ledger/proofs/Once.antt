@@ -1,18 +1,10 @@
 -- In a list that the ledger takes, no two entries are rivals, and a spend stands behind its parent's entry.
 -- Assumes nothing.
-use Rattle.laws.proofs.Prelude.{ℕ, _≤_, _<_, _≡_, sym, ap, _∙_, true, false, List, ltb, ltb-true, ltb-false, arith}
-use mathlib.Core.Option.{Option, some}
-use lib.ListN.{getElem?}
-use Rattle.laws.specs.Booleans.{split, either, clash}
-use Rattle.laws.specs.All.{none-some, some-same, All, all-place}
-use Rattle.sheet.specs.Field.{count, parent, opening}
-use Rattle.sheet.specs.Checked.{Checked}
-use Rattle.slots.specs.Conflict.{conflict}
+use Rattle.laws.proofs.Prelude.{ℕ, _≤_, _<_, _≡_, sym, ap, _∙_, true, false, List, ltb, ltb-true, ltb-false, arith, Option, some, getElem?, split, either, clash}
+use Rattle.laws.proofs.Prelude.{none-some, some-same, All, all-place}
+use Rattle.position.proofs.Rules.{count, parent, opening, Checked, conflict, Entry, coinOf, noneKept, ledger}
 use Rattle.slots.proofs.Parents.{parent-lower}
 use Rattle.slots.proofs.Conflicts.{conflict-parts, conflict-parent, conflict-sym, same-opening}
-use Rattle.ledger.specs.Entry.{Entry}
-use Rattle.ledger.specs.Coin.{coinOf}
-use Rattle.ledger.specs.Ledger.{noneKept, ledger}
 use Rattle.ledger.proofs.Taking.{Fit, opens, spends}
 use Rattle.readings.proofs.Coins.{coin-spend}
 use Rattle.claim_ledger.proofs.KeptAt.{At, at-place}

@@ -1,19 +1,11 @@
 -- The ledger takes the entry of one more confirmed transaction, and stays linked.
 -- Assumes nothing.
-use Rattle.laws.proofs.Prelude.{ℕ, zero, suc, _<_, _≡_, refl, sym, ap, _∙_, true, false, List, inl, inr, eqb, eqb-true, eqb-false, eq-eqb}
-use Rattle.laws.proofs.Prelude.{arith}
-use mathlib.Core.Option.{Option, none, some}
-use Rattle.laws.specs.Booleans.{pick, split, either, clash}
-use Rattle.laws.specs.All.{some-same}
-use Rattle.sheet.specs.Field.{count, parent, opening}
-use Rattle.sheet.specs.Checked.{Checked}
-use Rattle.slots.specs.Conflict.{conflict}
+use Rattle.laws.proofs.Prelude.{ℕ, zero, suc, _<_, _≡_, refl, sym, ap, _∙_, true, false, List, inl, inr, eqb, eqb-true, eqb-false, eq-eqb, arith, Option, none, some}
+use Rattle.laws.proofs.Prelude.{pick, split, either, clash, some-same}
+use Rattle.position.proofs.Rules.{count, parent, opening, Checked, conflict, Entry, coinOf, Kept, lockFrom, fits, keep}
 use Rattle.slots.proofs.Parents.{child-spends, parent-lower, parent-below, parent-has}
 use Rattle.slots.proofs.Conflicts.{conflict-self, siblings-conflict}
 use Rattle.slots.proofs.Ancestors.{Above, holds-above}
-use Rattle.ledger.specs.Entry.{Entry}
-use Rattle.ledger.specs.Coin.{coinOf}
-use Rattle.ledger.specs.Ledger.{Kept, lockFrom, fits, keep}
 use Rattle.ledger.proofs.Taking.{opening-fits, spend-fits, keep-own, keep-other}
 use Rattle.readings.proofs.Coins.{coin-opening, coin-spend, coin-above}
 use Rattle.claim_ledger.proofs.Linked.{Leaf, Linked}

@@ -1,20 +1,11 @@
 -- The confirmed entries of a list stand by block and then number, and name the sheet's transactions.
 -- Assumes nothing.
-use Rattle.laws.proofs.Prelude.{ℕ, zero, suc, _+_, _<_, _≡_, refl, ap, _∙_, true, List, [], _∷_, _++_, ltb, eq-eqb, lt-ltb, arith}
-use Rattle.laws.specs.Booleans.{pick, split, and-parts, or-right}
-use Rattle.laws.specs.Gather.{gather}
-use Rattle.laws.specs.All.{All, empty, also, all-append, all-weaken}
-use Rattle.sheet.specs.Field.{count}
-use Rattle.sheet.specs.Check.{sheetRefusal}
-use Rattle.sheet.specs.Setup.{setupRefusal}
-use Rattle.sheet.proofs.Theorems.{sheet-checked}
-use Rattle.slots.specs.declared.Step.{Step}
-use Rattle.ledger.specs.Entry.{Entry, before, inOrder}
+use Rattle.laws.proofs.Prelude.{ℕ, zero, suc, _+_, _<_, _≡_, refl, ap, _∙_, true, List, [], _∷_, _++_, ltb, eq-eqb, lt-ltb, arith, pick, split, and-parts, or-right}
+use Rattle.laws.proofs.Prelude.{gather, All, empty, also, all-append, all-weaken}
+use Rattle.position.proofs.Rules.{count, sheetRefusal, setupRefusal, Step, Entry, before, inOrder, Read, inBlock, blockTo, effect, FourBytes, blockEntries}
 use Rattle.position.specs.declared.Position.{Position}
-use Rattle.steps.specs.declared.Decoded.the-variants.{Read}
-use Rattle.position.specs.Position.{inBlock, blockTo}
-use Rattle.position.specs.Effect.{effect}
-use Rattle.position.specs.Play.{FourBytes, blockEntries, confirms, confirmedEntries}
+use Rattle.position.proofs.Rules.{confirms, confirmedEntries}
+use Rattle.sheet.proofs.Theorems.{sheet-checked}
 use Rattle.step_laws.proofs.AfterBlocks.{mine-mined}
 use Rattle.position.proofs.StepCases.{StepCase, taken, turned-down, step-case}
 use Rattle.claim_ledger.proofs.Sound.{Sound}

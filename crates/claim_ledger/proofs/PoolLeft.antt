@@ -1,28 +1,15 @@
 -- Who leaves the pool at a mined block is mined or dead afterwards, since nobody who waits in the pool is dead before it.
 -- Assumes nothing.
-use Rattle.laws.proofs.Prelude.{ℕ, _+_, _<_, _≡_, refl, sym, ap, _∙_, Bool, true, false, not, _||_, List, eqb, ltb, eqb-true, eqb-false}
-use Rattle.laws.proofs.Prelude.{ltb-true, ltb-false, lt-ltb, arith}
-use Rattle.laws.specs.Booleans.{split, either, clash, fails-by}
-use Rattle.sheet.specs.Refusal.{accepted}
-use Rattle.sheet.specs.Field.{count}
-use Rattle.sheet.specs.Checked.{Checked}
-use Rattle.sheet.proofs.Theorems.{sheet-checked}
-use Rattle.slots.specs.declared.Destination.the-variants.{Contract}
-use Rattle.slots.specs.declared.Step.{Step}
-use Rattle.slots.specs.declared.Step.the-variants.{Mine}
-use Rattle.slots.specs.Destination.{destinationNumber}
-use Rattle.slots.specs.Conflict.{conflict}
-use Rattle.slots.specs.Ancestry.{meetsOther}
-use Rattle.slots.specs.Invalidated.{invalidated}
-use Rattle.slots.proofs.Conflicts.{conflict-self}
-use Rattle.slots.proofs.Ancestors.{Above, above-le, other-find, other-met}
-use Rattle.steps.specs.Decode.{fieldsRight, ofKind, spelled, rangeChecked, decode}
+use Rattle.laws.proofs.Prelude.{ℕ, _+_, _<_, _≡_, refl, sym, ap, _∙_, Bool, true, false, not, _||_, List, eqb, ltb, eqb-true, eqb-false, ltb-true, ltb-false, lt-ltb}
+use Rattle.laws.proofs.Prelude.{arith, split, either, clash, fails-by}
+use Rattle.position.proofs.Rules.{accepted, count, Checked, Contract, Step, Mine, destinationNumber, conflict, meetsOther, invalidated, fieldsRight, ofKind, spelled}
+use Rattle.position.proofs.Rules.{rangeChecked, decode, start, inPool, inBlock, blockOf, isConfirmed, stepRefusal, leavesPool, afterMine, effect}
 use Rattle.position.specs.declared.Position.{Position}
 use Rattle.position.specs.declared.Stepped.{Stepped}
-use Rattle.position.specs.Position.{start, inPool, inBlock, blockOf, isConfirmed}
-use Rattle.position.specs.StepRefusal.{stepRefusal}
-use Rattle.position.specs.Effect.{leavesPool, afterMine, effect}
-use Rattle.position.specs.Play.{decodeBytes, takeStep, takeDecoded, step}
+use Rattle.position.proofs.Rules.{decodeBytes, takeStep, takeDecoded, step}
+use Rattle.sheet.proofs.Theorems.{sheet-checked}
+use Rattle.slots.proofs.Conflicts.{conflict-self}
+use Rattle.slots.proofs.Ancestors.{Above, above-le, other-find, other-met}
 use Rattle.position.proofs.StepCases.{accepts, refuses}
 use Rattle.step_laws.proofs.AfterBlocks.{none-stands, mine-blocks, mine-pool}
 use Rattle.claim_ledger.specs.Claim.{positionOf}

@@ -1,12 +1,7 @@
 -- Holders read from the report of a list's accepted steps are those of the position after the list.
 -- Assumes nothing.
 use Rattle.laws.proofs.Prelude.{ℕ, _*_, _≡_, List, take}
-use Rattle.sheet.specs.Refusal.{accepted}
-use Rattle.sheet.specs.Field.{count}
-use Rattle.readings.specs.Reported.{rowWidth, reportedHolder}
-use Rattle.position.specs.Position.{start}
-use Rattle.position.specs.Play.{FourBytes, journalBytes, play, acceptedOf}
-use Rattle.position.specs.Holder.{holderIn}
+use Rattle.position.proofs.Rules.{accepted, count, rowWidth, reportedHolder, start, FourBytes, journalBytes, play, acceptedOf, holderIn}
 use Rattle.dated.specs.Report.{reportAnswer}
 use Rattle.dated.proofs.ReportAnswers.{countsAfter, report-run, report-buffer}
 use Rattle.step_laws.proofs.Journals.{run-position}

@@ -2,15 +2,9 @@
 -- unconfirmed), and the sets of those that wait in the pool and in the block being filled.
 -- Assumes nothing.
 use Rattle.laws.proofs.Prelude.{ℕ, _≤_, _<_, _≡_, Bool, true, false, List, _⊎_, length}
-use Rattle.sheet.specs.Field.{count, parent, opening}
-use Rattle.sheet.specs.LockHeight.{lockHeight}
-use Rattle.sheet.specs.Setup.{perDay}
-use Rattle.slots.specs.Conflict.{conflict}
-use Rattle.slots.specs.Slot.{emptySlot}
+use Rattle.position.proofs.Rules.{count, parent, opening, lockHeight, perDay, conflict, emptySlot, slotCount, slot, inPool, poolTo, inBlock, blockTo, blockOf}
 use Rattle.position.specs.declared.Position.{Position}
-use Rattle.position.specs.Position.{slotCount, slot, inPool, poolTo, inBlock, blockTo, blockOf, isConfirmed, confirmedTo}
-use Rattle.steps.specs.Decode.{sharesTo}
-use Rattle.position.specs.Tests.{blockLimit}
+use Rattle.position.proofs.Rules.{isConfirmed, confirmedTo, sharesTo, blockLimit}
 
 -- the confirmed ones
 pub record Settled (s : List ℕ) (perDay : ℕ) (block : ℕ → ℕ) (mined : ℕ) : Type 0 where

@@ -1,25 +1,14 @@
 -- The empty journal's position is sound, and every step of any four bytes keeps it so.
 -- Assumes nothing.
-use Rattle.laws.proofs.Prelude.{ℕ, _<_, _≡_, refl, ap, fun-ext, true, false, _&&_, _||_, false≢true, List, [], _∷_, eqb, ltb, ltb-true}
-use Rattle.laws.proofs.Prelude.{leb-true, arith}
-use Rattle.laws.specs.Booleans.{and-parts}
-use Rattle.laws.specs.Failing.{passed}
-use Rattle.sheet.specs.Field.{count}
-use Rattle.sheet.specs.Check.{sheetRefusal}
-use Rattle.sheet.specs.Setup.{setupRefusal, perDay}
-use Rattle.sheet.specs.Checked.{Checked, SetupChecked}
-use Rattle.sheet.proofs.Theorems.{sheet-checked, setup-checked}
-use Rattle.slots.specs.declared.Step.{Step}
-use Rattle.slots.specs.declared.Step.the-variants.{Share, Give, SendToPool, HandToMiner, Include, Mine, Bump}
-use Rattle.slots.specs.Destination.{miner, contract, destinationNumber, isParty}
-use Rattle.slots.specs.declared.Slot.{Slot}
+use Rattle.laws.proofs.Prelude.{ℕ, _<_, _≡_, refl, ap, fun-ext, true, false, _&&_, _||_, false≢true, List, [], _∷_, eqb, ltb, ltb-true, leb-true, arith, and-parts}
+use Rattle.laws.proofs.Prelude.{passed}
+use Rattle.position.proofs.Rules.{count, sheetRefusal, setupRefusal, perDay, Checked, SetupChecked, Step, Share, Give, SendToPool, HandToMiner, Include, Mine, Bump}
+use Rattle.position.proofs.Rules.{miner, contract, destinationNumber, isParty, Slot, start, inPool, inBlock, blockOf, isConfirmed, lockHeightIn, sendsTo}
 use Rattle.position.specs.declared.Position.{Position}
-use Rattle.position.specs.Position.{start, inPool, inBlock, blockOf, isConfirmed, lockHeightIn}
-use Rattle.steps.specs.Decode.{sendsTo, sharesTo, firstShareFields, fieldsRight}
-use Rattle.position.specs.Tests.{sendTests, poolTests, minerTests, includeTests, mineTests, blockLimit}
-use Rattle.position.specs.StepRefusal.{tests, stepRefusal}
-use Rattle.position.specs.Effect.{effect}
-use Rattle.position.specs.Play.{FourBytes, step, play}
+use Rattle.position.proofs.Rules.{sharesTo, firstShareFields, fieldsRight, sendTests, poolTests, minerTests, includeTests, mineTests, blockLimit, stepRefusal, effect}
+use Rattle.position.proofs.Rules.{FourBytes, step, play}
+use Rattle.sheet.proofs.Theorems.{sheet-checked, setup-checked}
+use Rattle.position.specs.StepRefusal.{tests}
 use Rattle.step_laws.proofs.AfterBlocks.{none-stands}
 use Rattle.position.proofs.Starts.{start-slot, start-length, start-mined}
 use Rattle.position.proofs.StepCases.{StepCase, taken, turned-down, step-case}

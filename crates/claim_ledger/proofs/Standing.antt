@@ -1,17 +1,11 @@
 -- A pool entry whose parent is confirmed, or an opening, at a mined block.
 -- Assumes nothing.
-use Rattle.laws.proofs.Prelude.{ℕ, _+_, _<_, _≡_, true, false, List, _⊎_, eq-eqb, arith}
-use Rattle.laws.specs.Booleans.{either, clash}
-use Rattle.laws.specs.Below.{any-none}
-use Rattle.sheet.specs.Field.{count, parent, opening}
-use Rattle.sheet.specs.Checked.{Checked}
-use Rattle.slots.specs.Conflict.{conflict}
+use Rattle.laws.proofs.Prelude.{ℕ, _+_, _<_, _≡_, true, false, List, _⊎_, eq-eqb, arith, either, clash, any-none}
+use Rattle.position.proofs.Rules.{count, parent, opening, Checked, conflict, inPool, inBlock, blockOf, deadlineIn, waiting, owed, anyOwed}
+use Rattle.position.specs.declared.Position.{Position}
 use Rattle.slots.proofs.Parents.{parent-has}
 use Rattle.slots.proofs.Conflicts.{conflict-sym}
 use Rattle.slots.proofs.Ancestors.{Above, here, up, above-le}
-use Rattle.position.specs.declared.Position.{Position}
-use Rattle.position.specs.Position.{inPool, inBlock, blockOf, deadlineIn}
-use Rattle.position.specs.Owed.{waiting, owed, anyOwed}
 use Rattle.claim_ledger.proofs.Sound.{Sound}
 use Rattle.claim_ledger.proofs.BumpedBlock.{settled-up}
 

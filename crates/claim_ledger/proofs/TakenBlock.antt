@@ -1,20 +1,13 @@
 -- The ledger takes a mined block, entry by entry, and stays linked.
 -- Assumes nothing.
-use Rattle.laws.proofs.Prelude.{ℕ, zero, suc, _+_, _≤_, _<_, _≡_, refl, sym, ap, _∙_, fun-ext, Bool, true, false, _&&_, List, [], _∷_, _++_}
-use Rattle.laws.proofs.Prelude.{append-assoc, eqb, ltb, eqb-true, eqb-false, ltb-true, ltb-false, eq-eqb, ne-eqb, lt-ltb, le-ltb, arith}
-use Rattle.laws.specs.Booleans.{pick, split, either, and-parts}
-use Rattle.laws.specs.Gather.{gather}
-use Rattle.sheet.specs.Field.{count, parent, opening, lockType}
-use Rattle.sheet.specs.LockHeight.{sinceParent, lockHeight}
-use Rattle.sheet.specs.Checked.{Checked, LockPair, none, absolute, since}
-use Rattle.slots.specs.Conflict.{conflict}
+use Rattle.laws.proofs.Prelude.{ℕ, zero, suc, _+_, _≤_, _<_, _≡_, refl, sym, ap, _∙_, fun-ext, Bool, true, false, _&&_, List, [], _∷_, _++_, append-assoc, eqb, ltb}
+use Rattle.laws.proofs.Prelude.{eqb-true, eqb-false, ltb-true, ltb-false, eq-eqb, ne-eqb, lt-ltb, le-ltb, arith, pick, split, either, and-parts, gather}
+use Rattle.position.proofs.Rules.{count, parent, opening, lockType, sinceParent, lockHeight, Checked, LockPair, absolute, since, conflict, Entry, Kept, lockFrom, fits}
+use Rattle.position.proofs.Rules.{keep, enter, coinOf, blockLimit}
+use Rattle.sheet.specs.Checked.{none}
 use Rattle.slots.proofs.Parents.{parent-lower, parent-below}
 use Rattle.slots.proofs.Conflicts.{conflict-self}
-use Rattle.ledger.specs.Entry.{Entry}
-use Rattle.ledger.specs.Ledger.{Kept, lockFrom, fits, keep, enter}
-use Rattle.ledger.specs.Coin.{coinOf}
 use Rattle.ledger.proofs.Taking.{enter-next}
-use Rattle.position.specs.Tests.{blockLimit}
 use Rattle.claim_ledger.proofs.Sound.{Settled, Waits}
 use Rattle.claim_ledger.proofs.Linked.{Linked, linked-by}
 use Rattle.claim_ledger.proofs.OneEntry.{entry-fits, entry-linked}

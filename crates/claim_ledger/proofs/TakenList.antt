@@ -1,19 +1,10 @@
 -- The ledger takes all that the accepted kind 6 steps of a list confirm, and stays linked to the position.
 -- Assumes nothing.
-use Rattle.laws.proofs.Prelude.{ℕ, _+_, _≡_, refl, true, List, [], _∷_, _++_, arith}
-use Rattle.laws.specs.All.{none-some}
-use Rattle.sheet.specs.Check.{sheetRefusal}
-use Rattle.sheet.specs.Setup.{perDay, setupRefusal}
-use Rattle.sheet.specs.Checked.{Checked}
-use Rattle.sheet.proofs.Theorems.{sheet-checked}
-use Rattle.slots.specs.declared.Step.{Step}
-use Rattle.ledger.specs.Entry.{Entry}
-use Rattle.ledger.specs.Ledger.{Kept, noneKept, enter}
+use Rattle.laws.proofs.Prelude.{ℕ, _+_, _≡_, refl, true, List, [], _∷_, _++_, arith, none-some}
+use Rattle.position.proofs.Rules.{sheetRefusal, perDay, setupRefusal, Checked, Step, Entry, Kept, noneKept, enter, Read, start, inBlock, blockTo, blockOf}
 use Rattle.position.specs.declared.Position.{Position}
-use Rattle.steps.specs.declared.Decoded.the-variants.{Read}
-use Rattle.position.specs.Position.{start, inBlock, blockTo, blockOf, confirmedTo}
-use Rattle.position.specs.Effect.{afterMine, effect}
-use Rattle.position.specs.Play.{FourBytes, play, blockEntries, confirms, confirmedEntries}
+use Rattle.position.proofs.Rules.{confirmedTo, afterMine, effect, FourBytes, play, blockEntries, confirms, confirmedEntries}
+use Rattle.sheet.proofs.Theorems.{sheet-checked}
 use Rattle.step_laws.proofs.Untouched.{SameConfirmed}
 use Rattle.step_laws.proofs.AfterBlocks.{mine-blocks, mine-to}
 use Rattle.position.proofs.RowSteps.{play-next}

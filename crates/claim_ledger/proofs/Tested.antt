@@ -1,15 +1,9 @@
 -- The words of `Once` by tests over a list's places, for computed examples.
 -- Assumes nothing.
-use Rattle.laws.proofs.Prelude.{ℕ, zero, suc, _<_, _≡_, refl, Bool, true, not, _&&_, _||_, List, [], _∷_, eqb, ltb, leb, length, getD}
-use Rattle.laws.proofs.Prelude.{eqb-true, ltb-true, leb-true, eq-eqb, le-leb, arith}
-use Rattle.laws.specs.Booleans.{split, and-parts}
-use Rattle.laws.specs.All.{none-some, some-same}
-use Rattle.laws.specs.Below.{allBelow, anyBelow, all-at, any-found, any-some}
-use Rattle.sheet.specs.Field.{count, parent, opening}
-use Rattle.ledger.specs.Entry.{Entry}
-use Rattle.ledger.specs.Coin.{coinOf}
+use Rattle.laws.proofs.Prelude.{ℕ, zero, suc, _<_, _≡_, refl, Bool, true, not, _&&_, _||_, List, [], _∷_, eqb, ltb, leb, length, getD, eqb-true, ltb-true, leb-true}
+use Rattle.laws.proofs.Prelude.{eq-eqb, le-leb, arith, split, and-parts, none-some, some-same, allBelow, anyBelow, all-at, any-found, any-some}
+use Rattle.position.proofs.Rules.{count, parent, opening, Entry, coinOf, blockOf, isConfirmed, lockHeightIn}
 use Rattle.position.specs.declared.Position.{Position}
-use Rattle.position.specs.Position.{blockOf, isConfirmed, lockHeightIn}
 use Rattle.claim_ledger.specs.Once.{Stands, OpenedOnce, SpentOnce, SpentAfter, NoEarlyLock}
 
 -- the entry at a place

@@ -1,16 +1,12 @@
 -- Demand 3, and what it comes to for a reader.
 -- Assumes nothing.
-use Rattle.laws.proofs.Prelude.{ℕ, _+_, _≤_, _≡_, sym, _∙_, List, length, ltb-true, ne-eqb}
-use native.Mathlib.Nat.{zero-add}
-use Rattle.sheet.specs.Refusal.{accepted}
-use Rattle.sheet.specs.Check.{sheetRefusal}
-use Rattle.sheet.specs.Setup.{perDay, setupRefusal}
+use Rattle.laws.proofs.Prelude.{ℕ, _+_, _≤_, _≡_, sym, _∙_, List, length, ltb-true, ne-eqb, zero-add}
+use Rattle.position.proofs.Rules.{accepted, sheetRefusal, perDay, setupRefusal, start, blockOf, isConfirmed, lockHeightIn, FourBytes, journalBytes, step}
+use Rattle.position.specs.declared.Position.{Position}
+use Rattle.position.proofs.Rules.{runFrom, run, play, acceptedOf}
 use Rattle.sheet.proofs.Theorems.{sheet-checked}
 use Rattle.slots.proofs.Conflicts.{conflict-self, siblings-conflict}
 use Rattle.ledger.proofs.Rising.{blocks-rise}
-use Rattle.position.specs.declared.Position.{Position}
-use Rattle.position.specs.Position.{start, blockOf, isConfirmed, lockHeightIn}
-use Rattle.position.specs.Play.{FourBytes, journalBytes, step, runFrom, run, play, acceptedOf}
 use Rattle.position.proofs.StepCases.{refused-same}
 use Rattle.step_laws.proofs.Journals
 use Rattle.claim_ledger.specs.Claim.{entriesOf, positionOf, Agreement}

@@ -1,12 +1,8 @@
 -- Who waits: nobody, or one transaction more whose tests passed.
 -- Assumes nothing.
-use Rattle.laws.proofs.Prelude.{ℕ, _≤_, _<_, _≡_, sym, _∙_, Bool, true, false, _||_, false≢true, List, _⊎_, inl, inr, eqb, ltb, eqb-true}
-use Rattle.laws.proofs.Prelude.{ltb-true, ltb-false, arith}
-use Rattle.laws.specs.Booleans.{either, clash, or-parts, or-right, or-neither}
-use Rattle.sheet.specs.Field.{count, parent, opening}
-use Rattle.sheet.specs.LockHeight.{lockHeight}
-use Rattle.slots.specs.Conflict.{conflict, noConflict}
-use Rattle.slots.specs.Ancestry.{hasParent}
+use Rattle.laws.proofs.Prelude.{ℕ, _≤_, _<_, _≡_, sym, _∙_, Bool, true, false, _||_, false≢true, List, _⊎_, inl, inr, eqb, ltb, eqb-true, ltb-true, ltb-false, arith}
+use Rattle.laws.proofs.Prelude.{either, clash, or-parts, or-right, or-neither}
+use Rattle.position.proofs.Rules.{count, parent, opening, lockHeight, conflict, noConflict, hasParent}
 use Rattle.slots.proofs.Conflicts.{conflict-sym, no-conflict, parent-member}
 use Rattle.claim_ledger.proofs.Sound.{Waits}
 

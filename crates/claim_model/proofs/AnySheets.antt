@@ -1,12 +1,9 @@
 -- What holds in every sound position of any checked sheet.
 -- Assumes nothing.
-use Rattle.laws.proofs.Prelude.{ℕ, _<_, _≡_, Bool, true, false, _||_, List, ltb-true, arith}
-use Rattle.laws.specs.Booleans.{either, or-parts, fails-by}
-use Rattle.sheet.specs.Field.{count}
-use Rattle.sheet.specs.Setup.{perDay}
-use Rattle.slots.proofs.Conflicts.{conflict-self, conflict-sym}
+use Rattle.laws.proofs.Prelude.{ℕ, _<_, _≡_, Bool, true, false, _||_, List, ltb-true, arith, either, or-parts, fails-by}
+use Rattle.position.proofs.Rules.{count, perDay, inPool, inBlock, blockOf, isConfirmed, sent, placed, lockHeightIn}
 use Rattle.position.specs.declared.Position.{Position}
-use Rattle.position.specs.Position.{inPool, inBlock, blockOf, isConfirmed, sent, placed, lockHeightIn}
+use Rattle.slots.proofs.Conflicts.{conflict-self, conflict-sym}
 use Rattle.step_laws.specs.Wellformed.{Wellformed}
 use Rattle.claim_ledger.proofs.Sound.{Waits, Sound}
 use Rattle.claim_careful.proofs.Places.{pool-anywhere, block-anywhere, confirmed-anywhere, in-sheet}

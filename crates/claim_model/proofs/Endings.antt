@@ -1,22 +1,13 @@
 -- The endings: who is paid from both coins, what remains then, and what a timeout leaves.
 -- Assumes nothing.
-use Rattle.laws.proofs.Prelude.{ℕ, _<_, _≡_, refl, sym, _∙_, Bool, true, false, not, _&&_, _||_, and-false, List, [], _∷_, _⊎_, inl, eqb}
-use Rattle.laws.proofs.Prelude.{ltb, eqb-true, ltb-true, eq-eqb, lt-ltb, not-true, arith}
-use mathlib.Core.Bool.{or-false, and-true}
-use Rattle.laws.specs.Booleans.{split, either, clash, and-parts, or-parts, or-right, fails-by}
-use Rattle.laws.specs.Below.{anyBelow, any-found, any-some, any-none}
-use Rattle.laws.specs.Bits.{zero-or-one}
-use Rattle.laws.specs.Gather.{every}
-use Rattle.sheet.specs.Field.{count}
-use Rattle.sheet.specs.Checked.{Checked}
-use Rattle.sheet.specs.Saswap.{saswap}
-use Rattle.sheet.specs.Setup.{perDay}
-use Rattle.sheet.proofs.Theorems.{saswap-passes, sheet-checked}
-use Rattle.slots.specs.Destination.{alice, bob, isContract}
-use Rattle.ledger.specs.Coin.{coinOf}
-use Rattle.steps.specs.Names.{secretBob, lockA, lockB, success, timeout, spendA, spendB, spendSuccess, spendRefund1Bob, spendRefund1Alice, spendRevoke, spendRefund2, spendTimeout}
+use Rattle.laws.proofs.Prelude.{ℕ, _<_, _≡_, refl, sym, _∙_, Bool, true, false, not, _&&_, _||_, and-false, List, [], _∷_, _⊎_, inl, eqb, ltb, eqb-true, ltb-true, eq-eqb}
+use Rattle.laws.proofs.Prelude.{lt-ltb, not-true, arith, or-false, and-true, split, either, clash, and-parts, or-parts, or-right, fails-by, anyBelow, any-found, any-some}
+use Rattle.laws.proofs.Prelude.{any-none, zero-or-one, every}
+use Rattle.position.proofs.Rules.{count, Checked, saswap, perDay, alice, bob, isContract, coinOf, secretBob, lockA, lockB, success, timeout, spendA, spendB, spendSuccess}
+use Rattle.position.proofs.Rules.{spendRefund1Bob, spendRefund1Alice, spendRevoke, spendRefund2, spendTimeout, inPool, inBlock, blockOf, isConfirmed}
 use Rattle.position.specs.declared.Position.{Position}
-use Rattle.position.specs.Position.{inPool, inBlock, blockOf, isConfirmed, confirmedTo, holds}
+use Rattle.position.proofs.Rules.{confirmedTo, holds}
+use Rattle.sheet.proofs.Theorems.{saswap-passes, sheet-checked}
 use Rattle.position.proofs.Opened.{opened}
 use Rattle.claim_ledger.proofs.Sound.{Sound}
 use Rattle.claim_careful.specs.Claim.{inShared}

@@ -1,21 +1,9 @@
 -- Three blocks per day, computed: a journal for each ending and some for none, and for each claim a position in which it is false.
 -- Assumes nothing.
-use Rattle.laws.proofs.Prelude.{ℕ, _≡_, refl, Bool, true, false, List, [], _∷_, _++_, arith}
-use mathlib.Core.List.{map}
-use Rattle.laws.specs.Booleans.{pick, clash, either}
-use Rattle.laws.specs.Gather.{gather}
-use Rattle.sheet.specs.Refusal.{accepted}
-use Rattle.sheet.specs.Saswap.{saswap}
-use Rattle.slots.specs.Destination.{alice, bob, contract}
-use Rattle.slots.specs.Slot.{entryFor, withPool, withBlock, withConfirmed, withShared, withMark}
-use Rattle.ledger.specs.Coin.{nobody}
-use Rattle.steps.specs.Names.{lockA, lockB, success, refund1, revoke, spendA, spendB, spendRefund1Bob, spendTimeout}
+use Rattle.laws.proofs.Prelude.{ℕ, _≡_, refl, Bool, true, false, List, [], _∷_, _++_, arith, map, pick, clash, either, gather}
+use Rattle.position.proofs.Rules.{accepted, saswap, alice, bob, contract, entryFor, withPool, withBlock, withConfirmed, withShared, withMark, nobody, lockA, lockB}
+use Rattle.position.proofs.Rules.{success, refund1, revoke, spendA, spendB, spendRefund1Bob, spendTimeout, start, phase, changeSlot, holderIn, run}
 use Rattle.position.specs.declared.Position.{Position}
-use Rattle.position.specs.Position.{start}
-use Rattle.position.specs.Conduct.{phase}
-use Rattle.position.specs.Effect.{changeSlot}
-use Rattle.position.specs.Holder.{holderIn}
-use Rattle.position.specs.Play.{run}
 use Rattle.position.proofs.Opened.{opened}
 use Rattle.claim_careful.specs.Claim.{inShared}
 use Rattle.claim_model.specs.Words.{allShared, bothShared, phases, cardinality, remains, noneRemains, hasCustody, swapSuccessful, swapAborted, swapTimedOut, contractFinished}

@@ -1,28 +1,13 @@
 -- What holds beside the invariant of careful conduct: a confirmed contract transaction has exposed its signatures, each party keeps its own
 -- secret, and success is shared only once lock_B is confirmed.
 -- Assumes nothing.
-use Rattle.laws.proofs.Prelude.{ℕ, _≤_, _<_, _≡_, refl, _∙_, true, not, _&&_, false≢true, List, eqb, leb, length, ltb-true, arith}
-use Rattle.laws.specs.Booleans.{split, either, clash, and-parts, or-right}
-use Rattle.laws.specs.Bits.{bit-or}
-use Rattle.laws.specs.Mask.{bit}
-use Rattle.sheet.specs.Field.{count}
-use Rattle.sheet.specs.Checked.{Checked}
-use Rattle.sheet.specs.Saswap.{saswap}
-use Rattle.sheet.specs.Setup.{perDay, conduct}
-use Rattle.slots.specs.declared.Slot.{Slot}
-use Rattle.slots.specs.declared.Step.{Step}
-use Rattle.slots.specs.Destination.{alice, bob, contract, isContract}
-use Rattle.slots.specs.Signatures.{exposedMask}
-use Rattle.slots.specs.Slot.{standing, entryTo, withPool, withBlock, withConfirmed, sharedFor, withShared}
-use Rattle.steps.specs.Decode.{fieldsRight}
-use Rattle.steps.specs.Mined.{confirmEntry}
-use Rattle.steps.specs.Names.{secretAlice, secretBob, lockA, lockB, success, refund1, timeout}
+use Rattle.laws.proofs.Prelude.{ℕ, _≤_, _<_, _≡_, refl, _∙_, true, not, _&&_, false≢true, List, eqb, leb, length, ltb-true, arith, split, either, clash, and-parts}
+use Rattle.laws.proofs.Prelude.{or-right, bit-or, bit}
+use Rattle.position.proofs.Rules.{count, Checked, saswap, perDay, conduct, Slot, Step, alice, bob, contract, isContract, exposedMask, standing, entryTo, withPool}
+use Rattle.position.proofs.Rules.{withBlock, withConfirmed, sharedFor, withShared, fieldsRight, confirmEntry, secretAlice, secretBob, lockA, lockB, success, refund1}
+use Rattle.position.proofs.Rules.{timeout, start, slot, inBlock, blockTo, blockOf, isConfirmed, sent, shared, holds, firstSharesMade, phase, late, aliceShares}
 use Rattle.position.specs.declared.Position.{Position}
-use Rattle.position.specs.Position.{start, slot, inBlock, blockTo, blockOf, isConfirmed, sent, shared, holds}
-use Rattle.position.specs.FirstShares.{firstSharesMade}
-use Rattle.position.specs.Conduct.{phase, late, aliceShares, mayShare}
-use Rattle.position.specs.StepRefusal.{stepRefusal}
-use Rattle.position.specs.Effect.{leavesPool, mineSlot, withMined, afterMine, effect}
+use Rattle.position.proofs.Rules.{mayShare, stepRefusal, leavesPool, mineSlot, withMined, afterMine, effect}
 use Rattle.position.proofs.Changed.{all-slot}
 use Rattle.position.proofs.Opened.{opened}
 use Rattle.position.proofs.Starts.{start-slot}

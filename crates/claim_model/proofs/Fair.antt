@@ -1,19 +1,11 @@
 -- A fair ending: who is paid, and what the other party then has.
 -- Assumes nothing.
-use Rattle.laws.proofs.Prelude.{ℕ, _<_, _≡_, refl, Bool, true, false, not, _&&_, _||_, List, inl, inr, eqb, eqb-true, eq-eqb, arith}
-use Rattle.laws.specs.Booleans.{either, clash, or-parts, or-right, fails-by}
-use Rattle.laws.specs.Mask.{bit}
-use Rattle.sheet.specs.Field.{secrets}
-use Rattle.sheet.specs.Saswap.{saswap}
-use Rattle.sheet.specs.Setup.{perDay, conduct}
-use Rattle.slots.specs.Destination.{alice, bob, contract}
-use Rattle.slots.specs.Signatures.{exposedMask, signed}
-use Rattle.steps.specs.Names.{secretAlice, secretBob, lockA, lockB, success, refund1, refund2, spendB, spendSuccess, spendRefund1Alice, spendRefund2, spendTimeout}
+use Rattle.laws.proofs.Prelude.{ℕ, _<_, _≡_, refl, Bool, true, false, not, _&&_, _||_, List, inl, inr, eqb, eqb-true, eq-eqb, arith, either, clash, or-parts, or-right}
+use Rattle.laws.proofs.Prelude.{fails-by, bit}
+use Rattle.position.proofs.Rules.{secrets, saswap, perDay, conduct, alice, bob, contract, exposedMask, signed, secretAlice, secretBob, lockA, lockB, success, refund1}
+use Rattle.position.proofs.Rules.{refund2, spendB, spendSuccess, spendRefund1Alice, spendRefund2, spendTimeout, blockOf, isConfirmed, shared, holds, senderHas}
 use Rattle.position.specs.declared.Position.{Position}
-use Rattle.position.specs.Position.{blockOf, isConfirmed, shared, holds, senderHas}
-use Rattle.position.specs.Conduct.{phase, successUnshared}
-use Rattle.readings.specs.Holder.{isPayout, isPayoutTo}
-use Rattle.position.specs.Holder.{holderIn}
+use Rattle.position.proofs.Rules.{phase, successUnshared, isPayout, isPayoutTo, holderIn}
 use Rattle.position.proofs.Opened.{opened}
 use Rattle.step_laws.specs.Wellformed.{Wellformed}
 use Rattle.claim_ledger.proofs.Sound.{Sound}

@@ -1,22 +1,12 @@
 -- An ending is final: what is confirmed stays so, for the same destination, and after a timeout secretBob stays with Bob.
 -- Assumes nothing.
-use Rattle.laws.proofs.Prelude.{ℕ, _<_, _≡_, true, false, not, _&&_, List, [], _∷_, eqb, not-true, arith}
-use Rattle.laws.specs.Booleans.{split, either, clash, and-parts, or-parts, or-right, fails-by}
-use Rattle.sheet.specs.Field.{count}
-use Rattle.sheet.specs.Checked.{Checked, SetupChecked}
-use Rattle.sheet.specs.Setup.{perDay, conduct, setupRefusal}
-use Rattle.sheet.proofs.Theorems.{saswap-passes, sheet-checked, setup-checked}
-use Rattle.slots.specs.declared.Step.{Step}
-use Rattle.slots.specs.declared.Step.the-variants.{Share, Give, SendToPool, HandToMiner, Include, Mine, Bump}
-use Rattle.slots.specs.Destination.{alice, bob, destinationNumber}
-use Rattle.slots.proofs.Conflicts.{conflict-self}
-use Rattle.steps.specs.Decode.{fieldsRight}
-use Rattle.steps.specs.Names.{secretBob, revoke, timeout, spendA, spendB, spendSuccess, spendRefund1Alice, spendRevoke, spendRefund2, spendTimeout}
+use Rattle.laws.proofs.Prelude.{ℕ, _<_, _≡_, true, false, not, _&&_, List, [], _∷_, eqb, not-true, arith, split, either, clash, and-parts, or-parts, or-right, fails-by}
+use Rattle.position.proofs.Rules.{count, Checked, SetupChecked, perDay, conduct, setupRefusal, Step, Share, Give, SendToPool, HandToMiner, Include, Mine, Bump, alice}
+use Rattle.position.proofs.Rules.{bob, destinationNumber, fieldsRight, secretBob, revoke, timeout, spendA, spendB, spendSuccess, spendRefund1Alice, spendRevoke}
+use Rattle.position.proofs.Rules.{spendRefund2, spendTimeout, inBlock, blockOf, isConfirmed, confirmedTo, holds, stepRefusal, effect, FourBytes, step, play}
 use Rattle.position.specs.declared.Position.{Position}
-use Rattle.position.specs.Position.{inBlock, blockOf, isConfirmed, confirmedTo, holds}
-use Rattle.position.specs.StepRefusal.{stepRefusal}
-use Rattle.position.specs.Effect.{effect}
-use Rattle.position.specs.Play.{FourBytes, step, play}
+use Rattle.sheet.proofs.Theorems.{saswap-passes, sheet-checked, setup-checked}
+use Rattle.slots.proofs.Conflicts.{conflict-self}
 use Rattle.position.proofs.StepCases.{StepCase, taken, turned-down, step-case}
 use Rattle.step_laws.proofs.AfterShares.{share-confirmed, give-confirmed}
 use Rattle.step_laws.proofs.AfterSends.{send-confirmed, hand-confirmed, include-confirmed}

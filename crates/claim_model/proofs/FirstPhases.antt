@@ -1,36 +1,19 @@
 -- Under careful conduct both first shares are made exactly if their signatures are in shared knowledge: document 01's phase 1 is 001's.
 -- Assumes nothing.
-use Rattle.laws.proofs.Prelude.{ℕ, _-_, _<_, _≡_, refl, sym, ap, _∙_, fun-ext, Bool, true, false, not, _&&_, _||_, and-false, false≢true}
-use Rattle.laws.proofs.Prelude.{List, [], _∷_, eqb, ltb, leb, eqb-true, eqb-false, ltb-true, not-true, arith}
-use lib.Bits.{bitAnd}
-use Rattle.laws.specs.Booleans.{split, either, clash, and-parts, or-parts, or-right, fails-by}
-use Rattle.laws.specs.Below.{anyBelow, any-some}
-use Rattle.laws.specs.Bits.{bit-and, bit-or, zero-or-one}
-use Rattle.laws.specs.Failing.{passed}
-use Rattle.laws.specs.Gather.{every}
-use Rattle.laws.specs.Mask.{bit, without}
-use Rattle.sheet.specs.Field.{count, isParty, secrets, required}
-use Rattle.sheet.specs.Saswap.{saswap}
-use Rattle.sheet.specs.Setup.{perDay, conduct}
-use Rattle.slots.specs.declared.Destination.{Destination}
-use Rattle.slots.specs.declared.Slot.{Slot}
-use Rattle.slots.specs.declared.Step.{Step}
-use Rattle.slots.specs.declared.Step.the-variants.{Share, Give, SendToPool, HandToMiner, Include, Mine, Bump}
-use Rattle.slots.specs.Destination.{alice, bob, contract, destinationNumber}
-use Rattle.slots.specs.Signatures.{shareMask}
-use Rattle.slots.specs.Slot.{sharedFor, withShared, markedFor, withMark}
-use Rattle.slots.proofs.SharedBits.{shared-kept, shared-mark}
-use Rattle.steps.specs.Conduct.{maySend}
-use Rattle.steps.specs.Decode.{noTransaction, fieldsRight}
-use Rattle.steps.specs.Names.{lockA, lockB, success}
+use Rattle.laws.proofs.Prelude.{ℕ, _-_, _<_, _≡_, refl, sym, ap, _∙_, fun-ext, Bool, true, false, not, _&&_, _||_, and-false, false≢true, List, [], _∷_, eqb, ltb, leb}
+use Rattle.laws.proofs.Prelude.{eqb-true, eqb-false, ltb-true, not-true, arith, bitAnd, split, either, clash, and-parts, or-parts, or-right, fails-by, anyBelow, any-some}
+use Rattle.laws.proofs.Prelude.{bit-and, bit-or, zero-or-one, passed, every, bit, without}
+use Rattle.position.proofs.Rules.{count, secrets, required, saswap, perDay, conduct, Destination, Slot, Step, Share, Give, SendToPool, HandToMiner, Include, Mine, Bump}
+use Rattle.position.proofs.Rules.{alice, bob, contract, destinationNumber, shareMask, sharedFor, withShared, markedFor, withMark, maySend, noTransaction, fieldsRight}
+use Rattle.position.proofs.Rules.{lockA, lockB, success, start, inPool, inBlock, blockOf, isConfirmed, shared, keys, holds, marked, firstShares}
 use Rattle.position.specs.declared.Position.{Position}
-use Rattle.position.specs.Position.{start, inPool, inBlock, blockOf, isConfirmed, shared, keys, holds, marked}
-use Rattle.position.specs.FirstShares.{firstShares, firstSharesMade}
-use Rattle.position.specs.Conduct.{phase, isCareful, aliceShares, mayShare, aliceGives, bobGives, mayGive, safeToSend, sendAllowed, conductAllows}
-use Rattle.position.specs.Owed.{waiting, owed}
-use Rattle.position.specs.Tests.{shareMet, shareTests, giveMet, giveTests, blockMet, includeTests, mineTests, bumpTests}
-use Rattle.position.specs.StepRefusal.{tests, stepRefusal}
-use Rattle.position.specs.Effect.{shareOne, shareEach, afterShare, effect}
+use Rattle.position.proofs.Rules.{firstSharesMade, phase, isCareful, aliceShares, mayShare, aliceGives, bobGives, mayGive, safeToSend, sendAllowed, conductAllows}
+use Rattle.position.proofs.Rules.{waiting, owed, shareMet, shareTests, giveMet, giveTests, includeTests, mineTests, bumpTests, stepRefusal, shareOne, shareEach}
+use Rattle.position.proofs.Rules.{afterShare, effect}
+use Rattle.sheet.specs.Field.{isParty}
+use Rattle.slots.proofs.SharedBits.{shared-kept, shared-mark}
+use Rattle.position.specs.Tests.{blockMet}
+use Rattle.position.specs.StepRefusal.{tests}
 use Rattle.position.proofs.Changed.{one-other}
 use Rattle.position.proofs.Opened.{opened}
 use Rattle.position.proofs.Starts.{start-slot}

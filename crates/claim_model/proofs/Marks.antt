@@ -1,26 +1,14 @@
 -- Share marks: which steps set them, and which leave them alone.
 -- Assumes nothing.
-use Rattle.laws.proofs.Prelude.{ℕ, _-_, _<_, _≡_, refl, sym, ap, _∙_, Bool, true, false, List, [], _∷_, _⊎_, inl, inr, eqb, length, eq-eqb}
-use Rattle.laws.proofs.Prelude.{ne-eqb, arith}
-use lib.Bits.{bitAnd}
-use Rattle.laws.specs.Booleans.{split, either, clash, and-parts, or-right}
-use Rattle.laws.specs.Bits.{bit-or, bit-and, zero-or-one}
-use Rattle.laws.specs.Cases.{stored}
-use Rattle.laws.specs.Gather.{every}
-use Rattle.laws.specs.Mask.{bit, without}
-use Rattle.sheet.specs.Field.{required, secrets}
-use Rattle.slots.specs.declared.Slot.{Slot}
-use Rattle.slots.specs.declared.Step.{Step}
-use Rattle.slots.specs.declared.Step.the-variants.{Share, Give, SendToPool, HandToMiner, Include, Mine, Bump}
-use Rattle.slots.specs.Destination.{alice, contract}
-use Rattle.slots.specs.Signatures.{shareMask}
-use Rattle.slots.specs.Slot.{emptySlot, standing, withPool, withBlock, withConfirmed, withShared, marksOf, markedFor, withMark}
-use Rattle.slots.proofs.SharedBits.{shared-from, shared-mark, kept}
-use Rattle.steps.specs.Mined.{confirmEntry}
+use Rattle.laws.proofs.Prelude.{ℕ, _-_, _<_, _≡_, refl, sym, ap, _∙_, Bool, true, false, List, [], _∷_, _⊎_, inl, inr, eqb, length, eq-eqb, ne-eqb, arith, bitAnd, split}
+use Rattle.laws.proofs.Prelude.{either, clash, and-parts, or-right, bit-or, bit-and, zero-or-one, every, bit, without}
+use Rattle.position.proofs.Rules.{required, secrets, Slot, Step, Share, Give, SendToPool, HandToMiner, Include, Mine, Bump, alice, contract, shareMask, emptySlot}
+use Rattle.position.proofs.Rules.{standing, withPool, withBlock, withConfirmed, withShared, marksOf, markedFor, withMark, confirmEntry, slot, inBlock, shared}
 use Rattle.position.specs.declared.Position.{Position}
-use Rattle.position.specs.Position.{slot, inBlock, shared, keys, marked}
-use Rattle.position.specs.Effect.{withSlots, changeSlot, withKey, shareOne, shareEach, afterGive, afterSend, afterHandIn, afterInclude, leavesPool, mineSlot, withMined, afterMine, leavesBlock, bumpSlot, afterBump, effect}
-use Rattle.position.specs.Owed.{enters}
+use Rattle.position.proofs.Rules.{keys, marked, withSlots, changeSlot, withKey, shareOne, shareEach, afterGive, afterSend, afterHandIn, afterInclude, leavesPool}
+use Rattle.position.proofs.Rules.{mineSlot, withMined, afterMine, leavesBlock, bumpSlot, afterBump, effect, enters}
+use Rattle.laws.specs.Cases.{stored}
+use Rattle.slots.proofs.SharedBits.{shared-from, shared-mark, kept}
 use Rattle.position.proofs.Changed.{one-length, one-slot, one-kept, all-kept}
 
 -- ---- a slot's marks

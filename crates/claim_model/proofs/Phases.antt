@@ -1,11 +1,8 @@
 -- Exactly one phase, and it is document 01's where both first shares are made exactly if they are shared.
 -- Assumes nothing.
-use Rattle.laws.proofs.Prelude.{_≡_, _∙_, true, false, getD}
-use Rattle.laws.specs.Booleans.{split}
-use Rattle.steps.specs.Names.{lockA, lockB}
+use Rattle.laws.proofs.Prelude.{_≡_, _∙_, true, false, getD, split}
+use Rattle.position.proofs.Rules.{lockA, lockB, isConfirmed, phase}
 use Rattle.position.specs.declared.Position.{Position}
-use Rattle.position.specs.Position.{isConfirmed}
-use Rattle.position.specs.Conduct.{phase}
 use Rattle.claim_model.specs.Words.{bothShared, phases, cardinality}
 use Rattle.claim_model.proofs.FirstPhases.{bothMade}
 

@@ -1,21 +1,10 @@
 -- What remains on the SASwap sheet, by what is confirmed: tests over the sets that can be confirmed together.
 -- Assumes nothing.
-use Rattle.laws.proofs.Prelude.{ℕ, _<_, _≡_, refl, Bool, true, false, not, _&&_, _||_, List, _⊎_, eqb}
-use mathlib.Core.Bool.{Bool·beq}
-use Rattle.laws.specs.Booleans.{and-parts, beq-same, implied}
-use Rattle.laws.specs.Below.{allBelow, anyBelow, all-at}
-use Rattle.laws.specs.Mask.{bit}
-use Rattle.laws.specs.Sets.{joined}
-use Rattle.sheet.specs.Checked.{Checked}
-use Rattle.sheet.specs.Saswap.{saswap}
-use Rattle.sheet.specs.Setup.{perDay}
-use Rattle.sheet.proofs.Theorems.{saswap-passes, sheet-checked}
-use Rattle.slots.specs.Destination.{isContract}
-use Rattle.slots.specs.Invalidated.{invalidated}
-use Rattle.ledger.specs.Coin.{coinOf}
-use Rattle.steps.specs.Names.{lockA, lockB, spendB, spendTimeout}
+use Rattle.laws.proofs.Prelude.{ℕ, _<_, _≡_, refl, Bool, true, false, not, _&&_, _||_, List, _⊎_, eqb, Bool·beq, and-parts, beq-same, implied, allBelow, anyBelow, all-at}
+use Rattle.laws.proofs.Prelude.{bit, joined}
+use Rattle.position.proofs.Rules.{Checked, saswap, perDay, isContract, invalidated, coinOf, lockA, lockB, spendB, spendTimeout, isConfirmed}
 use Rattle.position.specs.declared.Position.{Position}
-use Rattle.position.specs.Position.{isConfirmed}
+use Rattle.sheet.proofs.Theorems.{saswap-passes, sheet-checked}
 use Rattle.position.proofs.Opened.{opened}
 use Rattle.claim_ledger.proofs.Sound.{Sound}
 use Rattle.claim_careful.proofs.Setting.{sheet}

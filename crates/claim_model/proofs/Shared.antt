@@ -1,20 +1,10 @@
 -- What is in shared knowledge: a signature shared for a transaction, and what a sender has by it.
 -- Assumes nothing.
-use Rattle.laws.proofs.Prelude.{ℕ, zero, suc, _<_, _≡_, refl, _∙_, true, false, _||_, List, eqb, arith}
-use lib.Bits.{bitAnd, bitOr}
-use Rattle.laws.specs.Booleans.{or-right}
-use Rattle.laws.specs.Below.{allBelow, anyBelow, any-found, any-some, all-at}
-use Rattle.laws.specs.Bits.{bit-or, bit-and, no-bit}
-use Rattle.laws.specs.Mask.{bit, subset, unionBelow}
-use Rattle.sheet.specs.Field.{count, secrets, required}
-use Rattle.sheet.specs.Saswap.{saswap, saswapAt}
-use Rattle.sheet.specs.Setup.{perDay}
-use Rattle.slots.specs.Destination.{contract, destinations}
-use Rattle.slots.specs.Signatures.{sharedSecrets, senderMask, signed}
-use Rattle.slots.specs.Slot.{sharedFor, sharedAny}
-use Rattle.steps.specs.Names.{sigAlice, sigBob, secretAlice, secretBob, spendB}
+use Rattle.laws.proofs.Prelude.{ℕ, zero, suc, _<_, _≡_, refl, _∙_, true, false, _||_, List, eqb, arith, bitAnd, bitOr, or-right, allBelow, anyBelow, any-found, any-some}
+use Rattle.laws.proofs.Prelude.{all-at, bit-or, bit-and, no-bit, bit, subset, unionBelow}
+use Rattle.position.proofs.Rules.{count, secrets, required, saswap, saswapAt, perDay, contract, destinations, sharedSecrets, senderMask, signed, sharedFor, sharedAny}
+use Rattle.position.proofs.Rules.{sigAlice, sigBob, secretAlice, secretBob, spendB, slot, shared, keys, holds, senderHas}
 use Rattle.position.specs.declared.Position.{Position}
-use Rattle.position.specs.Position.{slot, shared, keys, holds, senderHas}
 use Rattle.position.proofs.Opened.{opened}
 use Rattle.claim_careful.specs.Claim.{inShared}
 use Rattle.claim_careful.proofs.Has.{SharedSomewhere, somewhere}

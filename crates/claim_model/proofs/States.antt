@@ -1,20 +1,11 @@
 -- The sets of transactions that can be confirmed together: each with its parents and without its rivals. A test that all of them pass is
 -- passed by what is confirmed in any sound position.
 -- Assumes nothing.
-use Rattle.laws.proofs.Prelude.{ℕ, zero, suc, _≤_, _<_, _≡_, sym, _∙_, fun-ext, Bool, true, false, not, _&&_, _||_, List, ltb, ltb-true}
-use Rattle.laws.proofs.Prelude.{ltb-false, lt-ltb, arith}
-use Rattle.laws.specs.Booleans.{split, clash, and-parts, fails-by, implied}
-use Rattle.laws.specs.Below.{any-all-false}
-use Rattle.laws.specs.Bits.{bit-above}
-use Rattle.laws.specs.Mask.{bit}
-use Rattle.laws.specs.Sets.{joined, setBelow, set-bit, set-small}
-use Rattle.sheet.specs.Field.{count, parent, opening}
-use Rattle.sheet.specs.Checked.{Checked}
-use Rattle.slots.specs.Conflict.{conflict, conflictIn, noConflict}
-use Rattle.slots.specs.Ancestry.{hasParent}
-use Rattle.slots.proofs.Parents.{parent-lower}
+use Rattle.laws.proofs.Prelude.{ℕ, zero, suc, _≤_, _<_, _≡_, sym, _∙_, fun-ext, Bool, true, false, not, _&&_, _||_, List, ltb, ltb-true, ltb-false, lt-ltb, arith, split}
+use Rattle.laws.proofs.Prelude.{clash, and-parts, fails-by, implied, any-all-false, bit-above, bit, joined, setBelow, set-bit, set-small}
+use Rattle.position.proofs.Rules.{count, parent, opening, Checked, conflict, conflictIn, noConflict, hasParent, blockOf, isConfirmed}
 use Rattle.position.specs.declared.Position.{Position}
-use Rattle.position.specs.Position.{blockOf, isConfirmed}
+use Rattle.slots.proofs.Parents.{parent-lower}
 use Rattle.claim_ledger.proofs.Sound.{Sound}
 use Rattle.claim_model.proofs.AnySheets.{has-block, chain-low}
 

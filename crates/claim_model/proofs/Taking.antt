@@ -1,37 +1,16 @@
 -- Who can take coin B: with lock_B confirmed and both secrets at hand a party's send of spend_B to the pool passes.
 -- Assumes nothing.
-use Rattle.laws.proofs.Prelude.{ℕ, _<_, _≡_, refl, sym, ap, _∙_, Bool, true, false, not, _&&_, List, _⊎_, eqb, eqb-true, lt-ltb, le-leb}
-use Rattle.laws.proofs.Prelude.{arith}
-use Rattle.laws.specs.Booleans.{clash, and-parts, or-right, fails-by}
-use Rattle.laws.specs.Below.{any-all-false}
-use Rattle.laws.specs.Bits.{zero-or-one}
-use Rattle.laws.specs.Failing.{firstFailing}
-use Rattle.laws.specs.Mask.{bit}
-use Rattle.sheet.specs.Field.{count, required}
-use Rattle.sheet.specs.LockHeight.{never, lockHeight}
-use Rattle.sheet.specs.Refusal.{accepted}
-use Rattle.sheet.specs.Saswap.{saswap}
-use Rattle.sheet.specs.Setup.{perDay, conduct}
-use Rattle.slots.specs.declared.Destination.{Destination}
-use Rattle.slots.specs.declared.Destination.the-variants.{Alice, Bob}
-use Rattle.slots.specs.declared.Step.the-variants.{SendToPool}
-use Rattle.slots.specs.Ancestry.{hasParent}
-use Rattle.slots.specs.Conflict.{conflict, conflictIn, noConflict}
-use Rattle.slots.specs.Deadline.{deadline}
-use Rattle.slots.specs.Destination.{alice, bob, destinationNumber}
-use Rattle.slots.specs.Signatures.{signed}
-use Rattle.slots.proofs.Entered.{pooled}
-use Rattle.steps.specs.declared.Decoded.the-variants.{Read}
-use Rattle.steps.specs.Conduct.{maySend}
-use Rattle.steps.specs.Names.{secretAlice, secretBob, lockB, spendB}
+use Rattle.laws.proofs.Prelude.{ℕ, _<_, _≡_, refl, sym, ap, _∙_, Bool, true, false, not, _&&_, List, _⊎_, eqb, eqb-true, lt-ltb, le-leb, arith, clash, and-parts}
+use Rattle.laws.proofs.Prelude.{or-right, fails-by, any-all-false, zero-or-one, firstFailing, bit}
+use Rattle.position.proofs.Rules.{count, required, never, lockHeight, accepted, saswap, perDay, conduct, Destination, Alice, Bob, SendToPool, hasParent, conflict}
+use Rattle.position.proofs.Rules.{conflictIn, noConflict, deadline, alice, bob, destinationNumber, signed, Read, maySend, secretAlice, secretBob, lockB, spendB}
 use Rattle.position.specs.declared.Position.{Position}
+use Rattle.position.proofs.Rules.{inPool, poolTo, blockTo, blockOf, isConfirmed, confirmedTo, sent, holds, senderHas, lockHeightIn, deadlineIn, isOpen}
 use Rattle.position.specs.declared.Stepped.{Stepped}
-use Rattle.position.specs.Position.{inPool, poolTo, blockTo, blockOf, isConfirmed, confirmedTo, sent, holds, senderHas, lockHeightIn, deadlineIn}
-use Rattle.position.specs.Conduct.{isOpen, isCareful, phase, secretSafe, safeToSend, sendAllowed, payingFirst, conductAllows}
-use Rattle.position.specs.StepRefusal.{tests, stepRefusal}
-use Rattle.position.specs.Tests.{sendTests, poolTests}
-use Rattle.position.specs.Effect.{effect}
-use Rattle.position.specs.Play.{FourBytes, decodeBytes, takeDecoded, step}
+use Rattle.position.proofs.Rules.{isCareful, phase, secretSafe, safeToSend, sendAllowed, payingFirst, conductAllows, stepRefusal, sendTests, poolTests, effect, FourBytes}
+use Rattle.position.proofs.Rules.{decodeBytes, takeDecoded, step}
+use Rattle.slots.proofs.Entered.{pooled}
+use Rattle.position.specs.StepRefusal.{tests}
 use Rattle.position.proofs.Opened.{opened}
 use Rattle.position.proofs.StepCases.{accepts}
 use Rattle.step_laws.proofs.Provenance.{Stands}

@@ -1,11 +1,8 @@
 -- What document 001's model checks, proved.
 -- Assumes nothing.
-use Rattle.laws.proofs.Prelude.{_≡_, _∙_, true}
-use Rattle.laws.specs.Booleans.{either, or-parts}
-use Rattle.sheet.specs.Saswap.{saswap}
-use Rattle.sheet.specs.Setup.{perDay}
+use Rattle.laws.proofs.Prelude.{_≡_, _∙_, true, either, or-parts}
+use Rattle.position.proofs.Rules.{saswap, perDay, start, inPool, inBlock}
 use Rattle.sheet.proofs.Theorems.{saswap-passes, setup-checked}
-use Rattle.position.specs.Position.{start, inPool, inBlock}
 use Rattle.step_laws.proofs.Theorems.{wellformed-start, wellformed-play}
 use Rattle.claim_ledger.specs.Claim.{positionOf}
 use Rattle.claim_ledger.proofs.SoundSteps.{sound-start, sound-play}

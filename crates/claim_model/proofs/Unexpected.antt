@@ -1,13 +1,9 @@
 -- spend_refund_1_bob stands nowhere: it would need refund_1, and sigAlice in Bob's hands.
 -- Assumes nothing.
-use Rattle.laws.proofs.Prelude.{ℕ, _<_, _≡_, refl, true, false, List, inr, ltb-true, arith}
-use Rattle.laws.specs.Booleans.{either, or-parts, fails-by}
-use Rattle.sheet.specs.Field.{count, parent, opening}
-use Rattle.sheet.specs.Setup.{perDay}
-use Rattle.slots.proofs.Entered.{pooled, filled, settled}
-use Rattle.steps.specs.Names.{refund1, spendRefund1Bob}
+use Rattle.laws.proofs.Prelude.{ℕ, _<_, _≡_, refl, true, false, List, inr, ltb-true, arith, either, or-parts, fails-by}
+use Rattle.position.proofs.Rules.{count, parent, opening, perDay, refund1, spendRefund1Bob, inPool, inBlock, blockOf, isConfirmed, sent, placed}
 use Rattle.position.specs.declared.Position.{Position}
-use Rattle.position.specs.Position.{inPool, inBlock, blockOf, isConfirmed, sent, placed}
+use Rattle.slots.proofs.Entered.{pooled, filled, settled}
 use Rattle.position.proofs.Opened.{opened}
 use Rattle.step_laws.proofs.Provenance.{Stands}
 use Rattle.claim_ledger.proofs.Sound.{Sound}

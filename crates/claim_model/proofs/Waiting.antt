@@ -1,16 +1,10 @@
 -- What waits in the pool or in the block remains.
 -- Assumes nothing.
-use Rattle.laws.proofs.Prelude.{ℕ, _<_, _≡_, Bool, true, false, List, eqb-false, arith}
-use Rattle.laws.specs.Booleans.{either, fails-by}
-use Rattle.sheet.specs.Field.{count}
-use Rattle.sheet.specs.Checked.{Checked}
-use Rattle.sheet.specs.Setup.{perDay}
-use Rattle.slots.specs.Ancestry.{meetsOther}
-use Rattle.slots.specs.Invalidated.{invalidated}
+use Rattle.laws.proofs.Prelude.{ℕ, _<_, _≡_, Bool, true, false, List, eqb-false, arith, either, fails-by}
+use Rattle.position.proofs.Rules.{count, Checked, perDay, meetsOther, invalidated, inPool, inBlock, blockOf, isConfirmed}
+use Rattle.position.specs.declared.Position.{Position}
 use Rattle.slots.proofs.Ancestors.{above-le, other-find}
 use Rattle.slots.proofs.Conflicts.{conflict-self}
-use Rattle.position.specs.declared.Position.{Position}
-use Rattle.position.specs.Position.{inPool, inBlock, blockOf, isConfirmed}
 use Rattle.claim_ledger.proofs.Sound.{Waits, Sound}
 use Rattle.claim_ledger.proofs.BumpedBlock.{waits-up}
 use Rattle.claim_model.specs.Words.{remains}

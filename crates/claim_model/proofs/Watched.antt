@@ -1,12 +1,9 @@
 -- All that holds in every position that careful conduct on the SASwap sheet leads to, along every row of four-byte groups.
 -- Assumes nothing.
 use Rattle.laws.proofs.Prelude.{ℕ, _≡_, List, [], _∷_}
-use Rattle.sheet.specs.Checked.{Checked, SetupChecked}
-use Rattle.sheet.specs.Setup.{perDay, conduct, setupRefusal}
-use Rattle.sheet.proofs.Theorems.{saswap-passes, sheet-checked, setup-checked}
+use Rattle.position.proofs.Rules.{Checked, SetupChecked, perDay, conduct, setupRefusal, start, FourBytes, step, play}
 use Rattle.position.specs.declared.Position.{Position}
-use Rattle.position.specs.Position.{start}
-use Rattle.position.specs.Play.{FourBytes, step, play}
+use Rattle.sheet.proofs.Theorems.{saswap-passes, sheet-checked, setup-checked}
 use Rattle.position.proofs.StepCases.{StepCase, taken, turned-down, step-case}
 use Rattle.claim_ledger.proofs.SoundSteps.{sound-start}
 use Rattle.claim_careful.proofs.Along.{Guarded, guarded-effect}

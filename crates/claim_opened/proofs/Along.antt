@@ -1,18 +1,11 @@
 -- The count after a row of steps is the least of the positions along it.
 -- Assumes nothing.
-use Rattle.laws.proofs.Prelude.{ℕ, _+_, _≤_, _<_, _≡_, refl, sym, _∙_, true, false, List, [], _∷_, eqb, length, getD, arith}
-use mathlib.Core.List.{List·Memᴰ, List·Memᴰ·head, List·Memᴰ·tail, List·Memᴰ·not-nil, List·Memᴰ·cases-cons}
-use Rattle.laws.specs.Booleans.{pick, split, either, clash}
-use Rattle.sheet.specs.Refusal.{accepted}
-use Rattle.sheet.specs.Field.{count}
-use Rattle.sheet.specs.LockHeight.{never}
-use Rattle.sheet.specs.Checked.{Checked}
-use Rattle.slots.specs.declared.Step.{Step}
-use Rattle.slots.specs.declared.Step.the-variants.{Share, Give, SendToPool, HandToMiner, Include, Mine, Bump}
-use Rattle.slots.specs.Destination.{destinationNumber}
+use Rattle.laws.proofs.Prelude.{ℕ, _+_, _≤_, _<_, _≡_, refl, sym, _∙_, true, false, List, [], _∷_, eqb, length, getD, arith, List·Memᴰ, List·Memᴰ·head, List·Memᴰ·not-nil}
+use Rattle.laws.proofs.Prelude.{pick, split, either, clash}
+use Rattle.position.proofs.Rules.{accepted, count, never, Checked, Step, Share, Give, SendToPool, HandToMiner, Include, Mine, Bump, destinationNumber}
 use Rattle.position.specs.declared.Position.{Position}
-use Rattle.position.specs.Effect.{withSlots, changeSlots, withMined, afterMine, afterBump, effect}
-use Rattle.position.specs.Play.{FourBytes, step}
+use Rattle.position.proofs.Rules.{withSlots, changeSlots, withMined, afterMine, afterBump, effect, FourBytes, step}
+use mathlib.Core.List.{List·Memᴰ·tail, List·Memᴰ·cases-cons}
 use Rattle.position.proofs.StepCases.{StepCase, taken, turned-down, step-case}
 use Rattle.step_laws.specs.Wellformed.{Wellformed}
 use Rattle.step_laws.proofs.AfterShares.{share-confirmed, give-confirmed}

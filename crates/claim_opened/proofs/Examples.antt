@@ -1,13 +1,8 @@
 -- What open, the counts and the claims' words mean, by computed examples on both sides.
 -- Assumes nothing.
-use Rattle.laws.proofs.Prelude.{ℕ, _≡_, refl, ap, true, false, List, [], _∷_, _++_, length, arith}
-use Rattle.laws.specs.Booleans.{clash}
-use Rattle.sheet.specs.LockHeight.{never}
-use Rattle.sheet.specs.Saswap.{saswap}
-use Rattle.steps.specs.Names.{lockA, lockB, success, revoke, refund1}
+use Rattle.laws.proofs.Prelude.{ℕ, _≡_, refl, ap, true, false, List, [], _∷_, _++_, length, arith, clash}
+use Rattle.position.proofs.Rules.{never, saswap, lockA, lockB, success, revoke, refund1, start, isConfirmed, journalSteps}
 use Rattle.position.specs.declared.Position.{Position}
-use Rattle.position.specs.Position.{start, isConfirmed}
-use Rattle.position.specs.Play.{journalSteps}
 use Rattle.readings.specs.Reported.{reportedCount}
 use Rattle.dated.specs.Opens.{opens}
 use Rattle.dated.specs.Dated.{countOf, datedRun}

@@ -1,14 +1,9 @@
 -- A count that is set stays.
 -- Assumes nothing.
-use Rattle.laws.proofs.Prelude.{ℕ, _+_, _≡_, refl, sym, ap, _∙_, List, [], _∷_, eqb, ltb, length, getD, ltb-true, ltb-false, ne-eqb}
-use lib.ListN.{List·getD-eq-default}
-use Rattle.laws.specs.Booleans.{split}
-use Rattle.laws.specs.Each.{not-rewritten}
-use Rattle.sheet.specs.Refusal.{accepted}
-use Rattle.sheet.specs.Field.{count}
-use Rattle.sheet.specs.LockHeight.{never}
+use Rattle.laws.proofs.Prelude.{ℕ, _+_, _≡_, refl, sym, ap, _∙_, List, [], _∷_, eqb, ltb, length, getD, ltb-true, ltb-false, ne-eqb, List·getD-eq-default, split}
+use Rattle.laws.proofs.Prelude.{not-rewritten}
+use Rattle.position.proofs.Rules.{accepted, count, never, FourBytes, step}
 use Rattle.position.specs.declared.Position.{Position}
-use Rattle.position.specs.Play.{FourBytes, step}
 use Rattle.dated.specs.declared.Dated.{Dated}
 use Rattle.dated.specs.Dated.{countOf, firstOpen, noted, AfterStep, datedStep, datedRunFrom, DatedRun}
 use Rattle.dated.proofs.Notes.{noted-at}

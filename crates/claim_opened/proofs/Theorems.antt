@@ -1,11 +1,8 @@
 -- The claims about the counts.
 -- Assumes nothing.
 use Rattle.laws.proofs.Prelude.{ℕ, zero, suc, _<_, _≡_, refl, sym, ap, _∙_, List, length, getD, replicate, arith}
-use Rattle.sheet.specs.LockHeight.{never}
+use Rattle.position.proofs.Rules.{never, start, journalSteps, step, openSteps}
 use Rattle.position.specs.declared.Position.{Position}
-use Rattle.position.specs.Position.{start}
-use Rattle.position.specs.Play.{journalSteps, step}
-use Rattle.position.specs.Open.{openSteps}
 use Rattle.step_laws.proofs.Wellformeds.{wellformed-start}
 use Rattle.call_run.proofs.Calls.{call-fit}
 use Rattle.dated.specs.Dated.{unseen, datedStart}

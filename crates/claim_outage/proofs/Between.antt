@@ -1,17 +1,10 @@
 -- What is claimed between a position and those that it leads to.
 -- Assumes nothing.
-use Rattle.laws.proofs.Prelude.{ℕ, _+_, _≤_, _<_, _≡_, true, List, _⊎_, inl, inr, ltb, ltb-true, ltb-false, arith}
-use Rattle.laws.specs.Booleans.{split, either}
-use Rattle.sheet.specs.Refusal.{accepted}
-use Rattle.sheet.specs.Field.{count, parent, opening}
-use Rattle.sheet.specs.Check.{sheetRefusal}
-use Rattle.sheet.specs.Setup.{perDay, setupRefusal}
-use Rattle.sheet.specs.Checked.{Checked}
-use Rattle.sheet.proofs.Theorems.{sheet-checked}
-use Rattle.slots.specs.Conflict.{conflict}
+use Rattle.laws.proofs.Prelude.{ℕ, _+_, _≤_, _<_, _≡_, true, List, _⊎_, inl, inr, ltb, ltb-true, ltb-false, arith, split, either}
+use Rattle.position.proofs.Rules.{accepted, count, parent, opening, sheetRefusal, perDay, setupRefusal, Checked, conflict, isConfirmed, blockOf, lockHeightIn}
 use Rattle.position.specs.declared.Position.{Position}
-use Rattle.position.specs.Position.{isConfirmed, blockOf, lockHeightIn, deadlineIn}
-use Rattle.position.specs.Play.{FourBytes, play}
+use Rattle.position.proofs.Rules.{deadlineIn, FourBytes, play}
+use Rattle.sheet.proofs.Theorems.{sheet-checked}
 use Rattle.claim_ledger.proofs.Sound.{Sound}
 use Rattle.claim_ledger.proofs.SoundSteps.{sound-play}
 use Rattle.call_outage.specs.Verdict.{soonestBlockIn, soonestDeadlineIn}

@@ -1,10 +1,7 @@
 -- Two chains, the second no earlier: what is confirmed stays in its block, and what is new stands above the blocks mined before.
 -- Assumes nothing.
-use Rattle.laws.proofs.Prelude.{ℕ, zero, suc, _+_, _≤_, _<_, _≡_, refl, List, _⊎_, ltb, ltb-true, ltb-false, arith}
-use native.Mathlib.Nat.{not-suc-le-zero}
-use Rattle.laws.specs.Booleans.{split, either}
-use Rattle.sheet.specs.Field.{count, parent, opening}
-use Rattle.sheet.specs.Checked.{Checked}
+use Rattle.laws.proofs.Prelude.{ℕ, zero, suc, _+_, _≤_, _<_, _≡_, refl, List, _⊎_, ltb, ltb-true, ltb-false, arith, not-suc-le-zero, split, either}
+use Rattle.position.proofs.Rules.{count, parent, opening, Checked}
 use Rattle.slots.proofs.Parents.{parent-lower, parent-below}
 use Rattle.claim_ledger.proofs.Sound.{Settled}
 use Rattle.soonest.specs.Soonest.{greater, lockAt, soonestBlock, soonestParent}

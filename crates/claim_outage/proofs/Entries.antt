@@ -1,17 +1,9 @@
 -- The confirmed entries of a list have blocks that are mined, so entries of later blocks stand behind them in order.
 -- Assumes nothing.
-use Rattle.laws.proofs.Prelude.{ℕ, _≤_, _<_, _≡_, ap, _∙_, true, List, [], _∷_, _++_, lt-ltb, arith}
-use Rattle.laws.specs.All.{All, empty, all-append, all-weaken}
-use Rattle.sheet.specs.Check.{sheetRefusal}
-use Rattle.sheet.specs.Setup.{setupRefusal}
-use Rattle.sheet.proofs.Theorems.{sheet-checked}
-use Rattle.slots.specs.declared.Step.{Step}
-use Rattle.steps.specs.declared.Decoded.the-variants.{Read}
-use Rattle.ledger.specs.Entry.{Entry, before, inOrder}
+use Rattle.laws.proofs.Prelude.{ℕ, _≤_, _<_, _≡_, ap, _∙_, true, List, [], _∷_, _++_, lt-ltb, arith, All, empty, all-append, all-weaken}
+use Rattle.position.proofs.Rules.{sheetRefusal, setupRefusal, Step, Read, Entry, before, inOrder, start, effect, FourBytes, confirms, confirmedEntries, play}
 use Rattle.position.specs.declared.Position.{Position}
-use Rattle.position.specs.Position.{start}
-use Rattle.position.specs.Effect.{effect}
-use Rattle.position.specs.Play.{FourBytes, confirms, confirmedEntries, play}
+use Rattle.sheet.proofs.Theorems.{sheet-checked}
 use Rattle.position.proofs.StepCases.{StepCase, taken, turned-down, step-case}
 use Rattle.step_laws.proofs.AfterBlocks.{mine-mined}
 use Rattle.position.proofs.RowSteps.{play-next}

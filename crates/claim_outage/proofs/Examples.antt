@@ -1,27 +1,12 @@
 -- Soonest deadlines and verdicts on the SASwap sheet, computed.
 -- Assumes nothing.
-use Rattle.laws.proofs.Prelude.{ℕ, zero, suc, _≤_, _<_, _≡_, refl, Bool, true, false, not, _&&_, false≢true, List, [], _∷_, _++_, inl, inr}
-use Rattle.laws.proofs.Prelude.{leb, replicate, le-leb, arith}
-use mathlib.Core.Bool.{true≢false}
-use mathlib.Core.Option.{some}
-use Rattle.laws.specs.All.{All, empty, also}
-use Rattle.laws.specs.Below.{allBelow, all-at}
-use Rattle.laws.specs.Booleans.{clash}
-use Rattle.sheet.specs.Field.{count, opening}
-use Rattle.sheet.specs.Check.{sheetRefusal}
-use Rattle.sheet.specs.Setup.{setupRefusal}
-use Rattle.sheet.specs.Saswap.{saswap}
-use Rattle.sheet.specs.LockHeight.{never}
-use Rattle.slots.specs.Destination.{contract}
-use Rattle.slots.specs.Conflict.{conflict}
-use Rattle.slots.specs.Invalidated.{invalidated}
-use Rattle.slots.proofs.Conflicts.{conflict-opening}
-use Rattle.ledger.specs.Entry.{Entry, inOrder}
-use Rattle.ledger.specs.Ledger.{ledger}
-use Rattle.steps.specs.Names.{lockA, lockB, success, revoke, refund2, timeout, spendRevoke}
+use Rattle.laws.proofs.Prelude.{ℕ, zero, suc, _≤_, _<_, _≡_, refl, Bool, true, false, not, _&&_, false≢true, List, [], _∷_, _++_, inl, inr, leb, replicate, le-leb, arith}
+use Rattle.laws.proofs.Prelude.{true≢false, some, All, empty, also, allBelow, all-at, clash}
+use Rattle.position.proofs.Rules.{count, opening, sheetRefusal, setupRefusal, saswap, never, contract, conflict, invalidated, Entry, inOrder, ledger, lockA, lockB}
+use Rattle.position.proofs.Rules.{success, revoke, refund2, timeout, spendRevoke, inPool, isConfirmed, lockHeightIn, deadlineIn, FourBytes, journalSteps, run}
 use Rattle.position.specs.declared.Position.{Position}
-use Rattle.position.specs.Position.{inPool, isConfirmed, lockHeightIn, deadlineIn}
-use Rattle.position.specs.Play.{FourBytes, journalSteps, run, play}
+use Rattle.position.proofs.Rules.{play}
+use Rattle.slots.proofs.Conflicts.{conflict-opening}
 use Rattle.position.proofs.Opened.{opened}
 use Rattle.soonest.specs.Soonest.{greater, lockAt, soonestOver, soonestBlock, soonestParent, sinceLocked, mayRise, countsAt, soonestDeadline}
 use Rattle.call_outage.specs.Verdict.{soonestBlockIn, soonestDeadlineIn, isSettled, isSafe, isCovered, isPassed, exposed, verdict, payeesBelow, blockFrom, outageRow, outageBytes}

@@ -1,27 +1,14 @@
 -- A rival that is locked later in the block after the soonest deadline: the plain ledger takes such a list.
 -- Assumes nothing.
-use Rattle.laws.proofs.Prelude.{ℕ, _+_, _-_, _≤_, _<_, _≡_, refl, sym, ap, _∙_, true, false, List, [], _∷_, _++_, append-nil, eqb, ltb}
-use Rattle.laws.proofs.Prelude.{ltb-true, ltb-false, arith}
-use mathlib.Core.Option.{some}
-use Rattle.laws.specs.Booleans.{split, clash}
-use Rattle.laws.specs.All.{All, empty, also, all-append, all-weaken}
-use Rattle.sheet.specs.Field.{count, parent, opening}
-use Rattle.sheet.specs.LockHeight.{never}
-use Rattle.sheet.specs.Check.{sheetRefusal}
-use Rattle.sheet.specs.Setup.{perDay, setupRefusal}
-use Rattle.sheet.specs.Checked.{Checked}
+use Rattle.laws.proofs.Prelude.{ℕ, _+_, _-_, _≤_, _<_, _≡_, refl, sym, ap, _∙_, true, false, List, [], _∷_, _++_, append-nil, eqb, ltb, ltb-true, ltb-false, arith, some}
+use Rattle.laws.proofs.Prelude.{split, clash, All, empty, also, all-append, all-weaken}
+use Rattle.position.proofs.Rules.{count, parent, opening, never, sheetRefusal, perDay, setupRefusal, Checked, conflict, invalidated, Entry, inOrder, coinOf, Kept, Books}
+use Rattle.position.proofs.Rules.{noneKept, lockFrom, fits, keep, enter, ledger, start, isConfirmed, blockOf, confirmedTo, FourBytes}
+use Rattle.position.specs.declared.Position.{Position}
 use Rattle.sheet.proofs.Theorems.{sheet-checked}
-use Rattle.slots.specs.Conflict.{conflict}
-use Rattle.slots.specs.Invalidated.{invalidated}
 use Rattle.slots.proofs.Parents.{parent-lower}
 use Rattle.slots.proofs.Conflicts.{conflict-parent}
-use Rattle.ledger.specs.Entry.{Entry, inOrder}
-use Rattle.ledger.specs.Coin.{coinOf}
-use Rattle.ledger.specs.Ledger.{Kept, Books, noneKept, lockFrom, fits, keep, enter, ledger}
 use Rattle.ledger.proofs.Taking.{spend-fits, enter-next}
-use Rattle.position.specs.declared.Position.{Position}
-use Rattle.position.specs.Position.{start, isConfirmed, blockOf, confirmedTo}
-use Rattle.position.specs.Play.{FourBytes}
 use Rattle.claim_ledger.proofs.SoundSteps.{sound-start}
 use Rattle.readings.proofs.Coins.{coin-spend}
 use Rattle.claim_ledger.proofs.Linked.{Linked}

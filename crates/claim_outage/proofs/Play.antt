@@ -1,16 +1,10 @@
 -- Every list of steps leads to a later chain.
 -- Assumes nothing.
-use Rattle.laws.proofs.Prelude.{ℕ, _≡_, refl, sym, _∙_, List, [], _∷_, inl, inr, arith}
-use Rattle.laws.specs.Booleans.{split, either}
-use Rattle.sheet.specs.Check.{sheetRefusal}
-use Rattle.sheet.specs.Setup.{setupRefusal}
-use Rattle.sheet.specs.Checked.{Checked}
+use Rattle.laws.proofs.Prelude.{ℕ, _≡_, refl, sym, _∙_, List, [], _∷_, inl, inr, arith, split, either}
+use Rattle.position.proofs.Rules.{sheetRefusal, setupRefusal, Checked, inBlock, blockOf, afterMine, effect, FourBytes, step, play}
+use Rattle.position.specs.declared.Position.{Position}
 use Rattle.sheet.proofs.Theorems.{sheet-checked}
 use Rattle.slots.proofs.Conflicts.{conflict-self}
-use Rattle.position.specs.declared.Position.{Position}
-use Rattle.position.specs.Position.{inBlock, blockOf}
-use Rattle.position.specs.Effect.{afterMine, effect}
-use Rattle.position.specs.Play.{FourBytes, step, play}
 use Rattle.position.proofs.StepCases.{StepCase, taken, turned-down, step-case}
 use Rattle.step_laws.proofs.AfterBlocks.{mine-blocks, mine-mined}
 use Rattle.step_laws.proofs.Quiet.{Quiet, lasting}

@@ -1,31 +1,17 @@
 -- Pool entries: before their deadline; and where the parent is confirmed or there is none, in the pool until they or a rival are confirmed.
 -- Assumes nothing.
-use Rattle.laws.proofs.Prelude.{ℕ, _+_, _≤_, _<_, _≡_, refl, sym, ap, _∙_, true, false, not, false≢true, List, [], _∷_, _⊎_, inl, inr, eqb}
-use Rattle.laws.proofs.Prelude.{ltb, eqb-true, eqb-false, ltb-true, ltb-false, not-true, arith}
-use Rattle.laws.specs.Booleans.{split, either, clash, and-parts, or-parts, or-neither}
-use Rattle.sheet.specs.Field.{count, parent, opening}
-use Rattle.sheet.specs.LockHeight.{lockHeight}
-use Rattle.sheet.specs.Check.{sheetRefusal}
-use Rattle.sheet.specs.Setup.{perDay, setupRefusal}
-use Rattle.sheet.specs.Checked.{Checked}
+use Rattle.laws.proofs.Prelude.{ℕ, _+_, _≤_, _<_, _≡_, refl, sym, ap, _∙_, true, false, not, false≢true, List, [], _∷_, _⊎_, inl, inr, eqb, ltb, eqb-true, eqb-false}
+use Rattle.laws.proofs.Prelude.{ltb-true, ltb-false, not-true, arith, split, either, clash, and-parts, or-parts, or-neither}
+use Rattle.position.proofs.Rules.{count, parent, opening, lockHeight, sheetRefusal, perDay, setupRefusal, Checked, Step, Share, Give, SendToPool, HandToMiner, Include}
+use Rattle.position.proofs.Rules.{Mine, Bump, destinationNumber, conflict, meetsOther, start, inPool, inBlock, isConfirmed, blockOf, lockHeightIn, deadlineIn}
+use Rattle.position.specs.declared.Position.{Position}
+use Rattle.position.proofs.Rules.{fieldsRight, anyOwed, stepRefusal, leavesPool, afterMine, effect, FourBytes, step, play}
 use Rattle.sheet.proofs.Theorems.{sheet-checked, setup-checked}
-use Rattle.slots.specs.declared.Step.{Step}
-use Rattle.slots.specs.declared.Step.the-variants.{Share, Give, SendToPool, HandToMiner, Include, Mine, Bump}
-use Rattle.slots.specs.Destination.{destinationNumber}
-use Rattle.slots.specs.Conflict.{conflict}
-use Rattle.slots.specs.Ancestry.{meetsOther}
 use Rattle.slots.proofs.Parents.{parent-below}
 use Rattle.slots.proofs.Conflicts.{conflict-self, conflict-opening, conflict-parent}
 use Rattle.slots.proofs.Ancestors.{other-find}
 use Rattle.slots.proofs.Deadlines.{deadline-opening}
 use Rattle.slots.proofs.Since.{lockHeight-since, deadline-since}
-use Rattle.position.specs.declared.Position.{Position}
-use Rattle.position.specs.Position.{start, inPool, inBlock, isConfirmed, blockOf, lockHeightIn, deadlineIn}
-use Rattle.steps.specs.Decode.{fieldsRight}
-use Rattle.position.specs.Owed.{anyOwed}
-use Rattle.position.specs.StepRefusal.{stepRefusal}
-use Rattle.position.specs.Effect.{leavesPool, afterMine, effect}
-use Rattle.position.specs.Play.{FourBytes, step, play}
 use Rattle.position.proofs.StepCases.{StepCase, taken, turned-down, step-case}
 use Rattle.position.proofs.Starts.{start-slot}
 use Rattle.step_laws.proofs.AfterShares.{share-pool, give-pool}

@@ -1,31 +1,20 @@
 -- Tightness: the plain ledger takes a list that brings a transaction which is not dead into its soonest block.
 -- Assumes nothing.
-use Rattle.laws.proofs.Prelude.{ℕ, zero, suc, _+_, _≤_, _<_, _≡_, refl, sym, ap, _∙_, true, false, not, _&&_, List, [], _∷_, _++_}
-use Rattle.laws.proofs.Prelude.{append-assoc, append-nil, eqb, ltb, eqb-true, ltb-true, ltb-false, eq-eqb, ne-eqb, lt-ltb, arith}
-use native.Mathlib.Nat.{not-suc-le-zero}
-use mathlib.Core.Option.{none, some}
-use Rattle.laws.specs.Booleans.{split, either, clash, and-parts}
-use Rattle.laws.specs.All.{All, empty, also, all-append, all-weaken}
-use Rattle.laws.specs.Below.{any-found}
-use Rattle.sheet.specs.Field.{count, parent, opening, lockType}
-use Rattle.sheet.specs.LockHeight.{sinceParent, lockHeight}
-use Rattle.sheet.specs.Check.{sheetRefusal}
-use Rattle.sheet.specs.Setup.{perDay, setupRefusal}
-use Rattle.sheet.specs.Checked.{Checked, LockPair, none, absolute, since}
+use Rattle.laws.proofs.Prelude.{ℕ, zero, suc, _+_, _≤_, _<_, _≡_, refl, sym, ap, _∙_, true, false, not, _&&_, List, [], _∷_, _++_, append-assoc, append-nil, eqb, ltb}
+use Rattle.laws.proofs.Prelude.{eqb-true, ltb-true, ltb-false, eq-eqb, ne-eqb, lt-ltb, arith, not-suc-le-zero, none, some, split, either, clash, and-parts, All, empty}
+use Rattle.laws.proofs.Prelude.{also, all-append, all-weaken, any-found}
+use Rattle.position.proofs.Rules.{count, parent, opening, lockType, sinceParent, lockHeight, sheetRefusal, perDay, setupRefusal, Checked, LockPair, absolute, since}
+use Rattle.position.proofs.Rules.{conflict, conflictIn, invalidated, meetsOther, Entry, before, inOrder, coinOf, Kept, Books, noneKept, lockFrom, fits, keep, enter}
+use Rattle.position.proofs.Rules.{ledger, start, isConfirmed, blockOf, confirmedTo, FourBytes}
+use Rattle.position.specs.declared.Position.{Position}
+use Rattle.sheet.specs.Checked.{none}
 use Rattle.sheet.proofs.Theorems.{sheet-checked}
-use Rattle.slots.specs.Conflict.{conflict, conflictIn, otherConflictIn}
-use Rattle.slots.specs.Invalidated.{invalidated}
-use Rattle.slots.specs.Ancestry.{inAncestry, meetsOther}
+use Rattle.slots.specs.Conflict.{otherConflictIn}
+use Rattle.slots.specs.Ancestry.{inAncestry}
 use Rattle.slots.proofs.Parents.{child-spends, parent-lower, parent-below, parent-has}
 use Rattle.slots.proofs.Conflicts.{siblings-conflict}
 use Rattle.slots.proofs.Ancestors.{Above, here, up, line-at, holds-above}
-use Rattle.ledger.specs.Entry.{Entry, before, inOrder}
-use Rattle.ledger.specs.Coin.{coinOf}
-use Rattle.ledger.specs.Ledger.{Kept, Books, noneKept, lockFrom, fits, keep, enter, ledger}
 use Rattle.ledger.proofs.Taking.{opening-fits, spend-fits, enter-next, enter-parts, keep-own}
-use Rattle.position.specs.declared.Position.{Position}
-use Rattle.position.specs.Position.{start, isConfirmed, blockOf, confirmedTo}
-use Rattle.position.specs.Play.{FourBytes}
 use Rattle.claim_ledger.proofs.SoundSteps.{sound-start}
 use Rattle.readings.proofs.Coins.{coin-opening, coin-spend, coin-above}
 use Rattle.claim_ledger.proofs.Linked.{Linked}

@@ -1,20 +1,11 @@
 -- The byte that a caller reads is the verdict on the position that the journal leads to.
 -- Assumes nothing.
-use Rattle.laws.proofs.Prelude.{ℕ, zero, suc, _+_, _*_, _≤_, _<_, _≡_, refl, sym, ap, _∙_, List, [], _∷_, eqb, length, getD, eq-eqb, arith}
-use native.Mathlib.Nat.{not-suc-le-zero, le-of-suc-le-suc, add-zero}
-use Rattle.laws.specs.Booleans.{split, clash}
-use Rattle.laws.specs.Failing.{firstFailing}
-use Rattle.laws.specs.Gather.{gather-at}
-use Rattle.laws.specs.Over.{over}
-use Rattle.sheet.specs.Refusal.{accepted}
-use Rattle.sheet.specs.Field.{byte, count}
-use Rattle.sheet.specs.Check.{sheetRefusal}
-use Rattle.sheet.specs.Setup.{setupRefusal}
+use Rattle.laws.proofs.Prelude.{ℕ, zero, suc, _+_, _*_, _≤_, _<_, _≡_, refl, sym, ap, _∙_, List, [], _∷_, eqb, length, getD, eq-eqb, arith, not-suc-le-zero}
+use Rattle.laws.proofs.Prelude.{le-of-suc-le-suc, add-zero, split, clash, firstFailing, gather-at, over}
+use Rattle.position.proofs.Rules.{accepted, byte, count, sheetRefusal, setupRefusal, start, FourBytes, journalSteps, step, runFrom, callTests, run, play}
 use Rattle.position.specs.declared.Position.{Position}
 use Rattle.position.specs.declared.Ran.{Ran}
-use Rattle.position.specs.Position.{start}
-use Rattle.position.specs.Play.{FourBytes, journalSteps, step, runFrom, callTests, run, play}
-use Rattle.position.specs.Answers.{Written, passOn}
+use Rattle.position.proofs.Rules.{Written, passOn}
 use Rattle.position.proofs.Passing.{passed-on, fitted-room, answer-run}
 use Rattle.call_run.proofs.Runs.{run-allowed, run-checked}
 use Rattle.position.proofs.RowSteps.{run-next, run-stops, run-ends, play-next}

@@ -1,20 +1,15 @@
 -- The soonest deadline rises, the deadline falls, and the first is at most the second.
 -- Assumes nothing.
-use Rattle.laws.proofs.Prelude.{ℕ, _+_, _≤_, _<_, _≡_, refl, sym, ap, _∙_, true, false, not, _&&_, false≢true, List, _⊎_, inl, inr, eqb}
-use Rattle.laws.proofs.Prelude.{ltb, eqb-true, eqb-false, ltb-true, ltb-false, eq-eqb, lt-ltb, le-ltb, not-true, arith}
-use native.Mathlib.Nat.{le-antisymm}
-use Rattle.laws.specs.Booleans.{split, either, clash, and-parts}
-use Rattle.sheet.specs.Field.{count, parent, opening}
-use Rattle.sheet.specs.LockHeight.{lockHeight, never}
-use Rattle.sheet.specs.Checked.{Checked}
-use Rattle.slots.specs.Conflict.{conflict}
-use Rattle.slots.specs.Deadline.{deadline}
+use Rattle.laws.proofs.Prelude.{ℕ, _+_, _≤_, _<_, _≡_, refl, sym, ap, _∙_, true, false, not, _&&_, false≢true, List, _⊎_, inl, inr, eqb, ltb, eqb-true, eqb-false}
+use Rattle.laws.proofs.Prelude.{ltb-true, ltb-false, eq-eqb, lt-ltb, le-ltb, not-true, arith, le-antisymm, split, either, clash, and-parts, least-top, least-le}
+use Rattle.laws.proofs.Prelude.{least-from}
+use Rattle.position.proofs.Rules.{count, parent, opening, lockHeight, never, Checked, conflict, deadline}
 use Rattle.slots.proofs.Conflicts.{conflict-parent, conflict-opening}
 use Rattle.slots.proofs.Parents.{parent-below}
 use Rattle.claim_ledger.proofs.Sound.{Settled}
 use Rattle.soonest.specs.Soonest.{greater, lockAt, sinceLocked, mayRise, countsAt, soonestParent, soonestDeadline}
 use Rattle.soonest.proofs.Bounds.{greater-left, greater-le, greater-mono}
-use Rattle.laws.specs.Least.{least-top, least-le, least-from, least-reached}
+use Rattle.laws.specs.Least.{least-reached}
 use Rattle.soonest.proofs.Locks.{Form, fixed, hangs, form, lock-is, rival-lock}
 use Rattle.soonest.proofs.Deadlines.{deadline-top, deadline-le, deadline-from}
 use Rattle.soonest.proofs.SoonestParents.{parent-there, parent-some}

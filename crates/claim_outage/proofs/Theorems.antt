@@ -1,8 +1,7 @@
 -- What an outage can cost: the claims of specs/Claim.antt.
 -- Assumes nothing.
 use Rattle.sheet.proofs.Theorems.{sheet-checked}
-use Rattle.position.specs.Position.{start}
-use Rattle.position.specs.Play.{journalSteps, play}
+use Rattle.position.proofs.Rules.{start, journalSteps, play}
 use Rattle.claim_ledger.proofs.SoundSteps.{sound-start, sound-play}
 use Rattle.claim_outage.specs.Claim.{Foresight, Planner}
 use Rattle.claim_outage.proofs.Between.{fixed-now, below, any-list}

@@ -1,17 +1,11 @@
 -- What each byte of a verdict promises, from the claims about soonest deadlines and the pool.
 -- Assumes nothing.
-use Rattle.laws.proofs.Prelude.{ℕ, _+_, _<_, _≡_, true, false, List, inl, inr, eqb, leb, eqb-true, eqb-false, ltb-true, leb-true, leb-false}
-use Rattle.laws.proofs.Prelude.{lt-ltb, le-ltb, le-leb, arith}
-use Rattle.laws.specs.Booleans.{split, either, and-parts, or-parts}
-use Rattle.sheet.specs.Refusal.{accepted}
-use Rattle.sheet.specs.Field.{count, parent, opening}
-use Rattle.sheet.specs.Check.{sheetRefusal}
-use Rattle.sheet.specs.Setup.{stealth, setupRefusal}
-use Rattle.sheet.proofs.Theorems.{sheet-checked, setup-checked}
-use Rattle.slots.specs.Ancestry.{hasParent}
+use Rattle.laws.proofs.Prelude.{ℕ, _+_, _<_, _≡_, true, false, List, inl, inr, eqb, leb, eqb-true, eqb-false, ltb-true, leb-true, leb-false, lt-ltb, le-ltb, le-leb}
+use Rattle.laws.proofs.Prelude.{arith, split, either, and-parts, or-parts}
+use Rattle.position.proofs.Rules.{accepted, count, parent, opening, sheetRefusal, stealth, setupRefusal, hasParent, inPool, isConfirmed, blockOf, deadlineIn}
 use Rattle.position.specs.declared.Position.{Position}
-use Rattle.position.specs.Position.{inPool, isConfirmed, blockOf, deadlineIn}
-use Rattle.position.specs.Play.{FourBytes, play}
+use Rattle.position.proofs.Rules.{FourBytes, play}
+use Rattle.sheet.proofs.Theorems.{sheet-checked, setup-checked}
 use Rattle.claim_ledger.proofs.Sound.{Sound}
 use Rattle.call_outage.specs.Verdict.{soonestDeadlineIn, isSettled, isSafe, isCovered, isPassed, exposed, verdict}
 use Rattle.claim_outage.specs.Claim.{NoneLater, Promise, clear, settled, safe, covered, passed, late}

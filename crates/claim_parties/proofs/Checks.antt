@@ -1,14 +1,10 @@
 -- A sheet of two that passes the check passes it with Carol put in.
 -- Assumes nothing.
-use Rattle.laws.proofs.Prelude.{ℕ, _+_, _-_, _*_, _^_, _<_, _≡_, refl, fun-ext, Bool, true, _&&_, List, ltb, leb, length, length-drop}
-use Rattle.laws.proofs.Prelude.{eqb-true, ltb-true, eq-eqb, lt-ltb, le-leb, arith}
+use Rattle.laws.proofs.Prelude.{ℕ, _+_, _-_, _*_, _^_, _<_, _≡_, refl, fun-ext, Bool, true, _&&_, List, ltb, leb, length, length-drop, eqb-true, ltb-true, eq-eqb, lt-ltb}
+use Rattle.laws.proofs.Prelude.{le-leb, arith, and-parts, allBelow, all-at, all-from, firstFailing, testOf, passed}
+use Rattle.position.proofs.Rules.{accepted, byte, parties, arrays, count, signatures, secrets, startMask, payees, required, veil, arrayTests, sheetTests, sheetRefusal}
 use lib.Pow.{pow-pos}
-use Rattle.laws.specs.Booleans.{and-parts}
-use Rattle.laws.specs.Below.{allBelow, all-at, all-from}
-use Rattle.laws.specs.Failing.{firstFailing, testOf, passed}
-use Rattle.sheet.specs.Refusal.{accepted}
-use Rattle.sheet.specs.Field.{byte, parties, arrays, count, signatures, secrets, startMask, payees, required, veil}
-use Rattle.sheet.specs.Check.{headRight, countRight, within, masksRight, signaturesRight, lengthRight, parentRight, entryRight, daysRight, lockRight, hasChild, childrenRight, arrayTests, sheetTests, sheetRefusal}
+use Rattle.sheet.specs.Check.{headRight, countRight, within, masksRight, signaturesRight, lengthRight, parentRight, entryRight, daysRight, lockRight, hasChild, childrenRight}
 use Rattle.claim_parties.specs.Claim.{withCarol}
 use Rattle.claim_parties.proofs.Fields.{two-parties, three-parties, alike}
 use Rattle.claim_parties.proofs.Leaves.{opening-same}

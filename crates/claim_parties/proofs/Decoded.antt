@@ -1,13 +1,9 @@
 -- Bytes that do not name Carol are the same step, or refused, on both sheets.
 -- Assumes nothing.
 use Rattle.laws.proofs.Prelude.{ℕ, _≡_, refl, fun-ext, false, List, eqb}
+use Rattle.position.proofs.Rules.{Destination, Alice, Bob, Contract, carol, destinationNumber, isPayee, isContract, Decoded, Refused, sendsTo, sharesTo, isOther}
+use Rattle.position.proofs.Rules.{fieldsRight, ofKind, spelled, rangeChecked, decode}
 use Rattle.laws.specs.Cases.{picked-has}
-use Rattle.slots.specs.declared.Destination.{Destination}
-use Rattle.slots.specs.declared.Destination.the-variants.{Alice, Bob, Contract}
-use Rattle.slots.specs.Destination.{carol, destinationNumber, isPayee, isContract}
-use Rattle.steps.specs.declared.Decoded.{Decoded}
-use Rattle.steps.specs.declared.Decoded.the-variants.{Refused}
-use Rattle.steps.specs.Decode.{sendsTo, sharesTo, isOther, fieldsRight, ofKind, spelled, rangeChecked, decode}
 use Rattle.claim_parties.proofs.Alike.{Alike}
 
 module _ (s w u : List ℕ) (a : Alike s w) where

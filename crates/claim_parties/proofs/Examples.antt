@@ -1,17 +1,10 @@
 -- A renaming, a ring of three with its parties renamed, and a journal of it, computed.
 -- Assumes nothing.
-use Rattle.laws.proofs.Prelude.{ℕ, zero, suc, _≡_, refl, List, [], _∷_, ltb, arith}
-use Rattle.sheet.specs.Refusal.{accepted}
-use Rattle.laws.specs.Sets.{joined, setBelow}
-use Rattle.sheet.specs.Field.{place, partyAt}
-use Rattle.sheet.specs.Check.{sheetRefusal}
-use Rattle.sheet.specs.LockHeight.{never}
-use Rattle.slots.specs.Destination.{destinations}
+use Rattle.laws.proofs.Prelude.{ℕ, zero, suc, _≡_, refl, List, [], _∷_, ltb, arith, joined, setBelow}
+use Rattle.position.proofs.Rules.{accepted, place, partyAt, sheetRefusal, never, destinations, start, blockOf, lockHeightIn, deadlineIn, run, status}
 use Rattle.position.specs.declared.Position.{Position}
 use Rattle.position.specs.declared.Ran.{Ran}
-use Rattle.position.specs.Position.{start, blockOf, lockHeightIn, deadlineIn}
-use Rattle.position.specs.Play.{run}
-use Rattle.position.specs.Report.{status, payee}
+use Rattle.position.proofs.Rules.{payee}
 use Rattle.position.proofs.Opened.{opened}
 use Rattle.claim_parties.specs.Renaming.{Renaming, RenamedSheet, renamedPayees, renamedByte, renamedSheet, renamedJournal, renamedEntry, Renamed, RunRenamed, RowRenamed}
 use Rattle.claim_parties.proofs.Theorems.{renaming-of-rings}

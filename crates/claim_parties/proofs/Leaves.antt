@@ -1,13 +1,10 @@
 -- What is worked out from a sheet's transactions is the same on two sheets with the same transactions.
 -- Assumes nothing.
-use Rattle.laws.proofs.Prelude.{ℕ, _≡_, ap, fun-ext, false, _||_, List}
-use Rattle.laws.specs.Climb.{climb}
-use Rattle.sheet.specs.Field.{opening}
-use Rattle.sheet.specs.LockHeight.{lockBlocks, lockHeight}
-use Rattle.slots.specs.Conflict.{conflict, conflictIn, otherConflictIn, noConflict}
-use Rattle.slots.specs.Ancestry.{inAncestry, isSelfOrAncestor, meetsConflict, meetsOther, hasParent}
-use Rattle.slots.specs.Deadline.{deadline}
-use Rattle.slots.specs.Signatures.{sharedSecrets, signed, shareMask, exposedMask}
+use Rattle.laws.proofs.Prelude.{ℕ, _≡_, ap, fun-ext, false, _||_, List, climb}
+use Rattle.position.proofs.Rules.{opening, lockBlocks, lockHeight, conflict, conflictIn, noConflict, isSelfOrAncestor, meetsConflict, meetsOther, hasParent, deadline}
+use Rattle.position.proofs.Rules.{sharedSecrets, signed, shareMask, exposedMask}
+use Rattle.slots.specs.Conflict.{otherConflictIn}
+use Rattle.slots.specs.Ancestry.{inAncestry}
 use Rattle.claim_parties.specs.Renaming.{SameTransactions}
 
 module _ (s w : List ℕ) (a : SameTransactions s w) where

@@ -1,26 +1,14 @@
 -- Steps and runs on a sheet of two, and on that with Carol put in.
 -- Assumes nothing.
-use Rattle.laws.proofs.Prelude.{ℕ, _+_, _<_, _≡_, refl, sym, ap, _∙_, fun-ext, true, false, not, List, [], _∷_, _++_, eqb, eqb-true}
-use Rattle.laws.proofs.Prelude.{eqb-false, not-true}
-use mathlib.Core.Path.{ap₂}
-use Rattle.laws.specs.Booleans.{split, and-parts, or-neither}
-use Rattle.laws.specs.Failing.{firstFailing, passed-append}
-use Rattle.laws.specs.Gather.{every}
-use Rattle.sheet.specs.Refusal.{accepted, journalLength}
-use Rattle.sheet.specs.Field.{byte, place, isParty, startKeys}
-use Rattle.sheet.specs.Check.{arrayTests, sheetTests, sheetRefusal}
-use Rattle.sheet.specs.Setup.{conduct, partiesRight, conductRight, setupTests}
-use Rattle.slots.specs.Destination.{carol}
-use Rattle.slots.specs.declared.Step.{Step}
-use Rattle.steps.specs.declared.Decoded.{Decoded}
-use Rattle.steps.specs.declared.Decoded.the-variants.{Read, Refused}
+use Rattle.laws.proofs.Prelude.{ℕ, _+_, _<_, _≡_, refl, sym, ap, _∙_, fun-ext, true, false, not, List, [], _∷_, _++_, eqb, eqb-true, eqb-false, not-true, ap₂, split}
+use Rattle.laws.proofs.Prelude.{and-parts, or-neither, firstFailing, passed-append, every}
+use Rattle.position.proofs.Rules.{accepted, journalLength, byte, place, startKeys, arrayTests, sheetTests, sheetRefusal, conduct, partiesRight, conductRight, setupTests}
+use Rattle.position.proofs.Rules.{carol, Step, Decoded, Read, Refused, startHeld, start, FourBytes, journalSteps, decodeBytes, takeStep}
 use Rattle.position.specs.declared.Position.{Position}
 use Rattle.position.specs.declared.Stepped.{Stepped}
 use Rattle.position.specs.declared.Ran.{Ran}
-use Rattle.position.specs.Position.{startHeld, start}
-use Rattle.position.specs.Play.{FourBytes, journalSteps, decodeBytes, takeStep, takeDecoded, step, runFrom, journalRight, callTests, run}
-use Rattle.position.specs.StepRefusal.{stepRefusal}
-use Rattle.position.specs.Effect.{effect}
+use Rattle.position.proofs.Rules.{takeDecoded, step, runFrom, journalRight, callTests, run, stepRefusal, effect}
+use Rattle.sheet.specs.Field.{isParty}
 use Rattle.position.proofs.StepCases.{accepts, refuses}
 use Rattle.claim_parties.specs.Claim.{withCarol, namesCarol}
 use Rattle.claim_parties.proofs.Fields.{two-parties, three-parties, alike}

@@ -1,18 +1,12 @@
 -- A sheet of three that passes the check passes it with its parties renamed.
 -- Assumes nothing.
-use Rattle.laws.proofs.Prelude.{ℕ, _+_, _*_, _^_, _<_, _≡_, refl, ap, _∙_, fun-ext, Bool, true, false, _&&_, List, eqb, ltb, leb, length}
-use Rattle.laws.proofs.Prelude.{eq-eqb, lt-ltb, le-leb, arith}
-use Rattle.laws.specs.Booleans.{and-parts}
-use Rattle.laws.specs.Below.{allBelow, anyBelow, all-at, all-from}
-use Rattle.laws.specs.Each.{length-rewriteFirst}
-use Rattle.laws.specs.Failing.{firstFailing, testOf, passed}
-use Rattle.laws.specs.Mask.{bit}
-use Rattle.laws.specs.Sets.{joined, setBelow}
-use Rattle.sheet.specs.Refusal.{accepted}
-use Rattle.sheet.specs.Field.{parties, arrays, place, partyAt, isParty, count, signatures, secrets, startMask, startKeys, payees, required, veil}
-use Rattle.sheet.specs.Check.{headRight, countRight, within, masksRight, signaturesRight, lengthRight, parentRight, entryRight, daysRight, lockRight, hasChild, childrenRight, arrayTests, sheetTests, sheetRefusal}
+use Rattle.laws.proofs.Prelude.{ℕ, _+_, _*_, _^_, _<_, _≡_, refl, ap, _∙_, fun-ext, Bool, true, false, _&&_, List, eqb, ltb, leb, length, eq-eqb, lt-ltb, le-leb, arith}
+use Rattle.laws.proofs.Prelude.{and-parts, allBelow, anyBelow, all-at, all-from, length-rewriteFirst, firstFailing, testOf, passed, bit, joined, setBelow}
+use Rattle.position.proofs.Rules.{accepted, parties, arrays, place, partyAt, count, signatures, secrets, startMask, startKeys, payees, required, veil, arrayTests}
+use Rattle.position.proofs.Rules.{sheetTests, sheetRefusal, isContract}
+use Rattle.sheet.specs.Field.{isParty}
+use Rattle.sheet.specs.Check.{headRight, countRight, within, masksRight, signaturesRight, lengthRight, parentRight, entryRight, daysRight, lockRight, hasChild, childrenRight}
 use Rattle.sheet.proofs.PassedSheet.{passed-sheet}
-use Rattle.slots.specs.Destination.{isContract}
 use Rattle.claim_parties.specs.Renaming.{Renaming, renamedPayees, renamedByte, renamedSheet}
 use Rattle.claim_parties.proofs.Leaves.{opening-same}
 use Rattle.claim_parties.proofs.RenamedSheets.{long, other, parties-kept, count-kept, transactions-kept, payees-at, mask-at, party-back, contract-renamed}

@@ -1,11 +1,9 @@
 -- Renamed numbers: which are equal, the miner's, known ones, and those that entries name.
 -- Assumes nothing.
-use Rattle.laws.proofs.Prelude.{ℕ, zero, suc, _+_, _-_, _<_, _≡_, refl, sym, ap, _∙_, true, false≢true, eqb, ltb, eqb-true, eqb-false}
-use Rattle.laws.proofs.Prelude.{ltb-true, eq-eqb, ne-eqb, lt-ltb, arith}
-use Rattle.laws.specs.Booleans.{split}
+use Rattle.laws.proofs.Prelude.{ℕ, zero, suc, _+_, _-_, _<_, _≡_, refl, sym, ap, _∙_, true, false≢true, eqb, ltb, eqb-true, eqb-false, ltb-true, eq-eqb, ne-eqb, lt-ltb}
+use Rattle.laws.proofs.Prelude.{arith, split}
+use Rattle.position.proofs.Rules.{destinations, standing, entryFor, entryTo}
 use Rattle.sheet.specs.Field.{miner}
-use Rattle.slots.specs.Destination.{destinations}
-use Rattle.slots.specs.Slot.{standing, entryFor, entryTo}
 use Rattle.claim_parties.specs.Renaming.{Renaming, renamedEntry}
 
 module _ (ρ : Renaming) where

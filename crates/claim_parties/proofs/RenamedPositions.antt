@@ -1,20 +1,10 @@
 -- Positions with the parties renamed, after each change of a position.
 -- Assumes nothing.
-use Rattle.laws.proofs.Prelude.{ℕ, _^_, _≤_, _<_, _≡_, refl, sym, ap, _∙_, fun-ext, List, eqb, ltb, length, getD, length-set, eqb-true}
-use Rattle.laws.proofs.Prelude.{eqb-false, ltb-true, ltb-false, arith}
-use lib.Bits.{bitOr}
-use lib.ListN.{List·getD-eq-default}
-use lib.Seq.{getD-set-same, getD-set-other, set-out}
-use Rattle.laws.specs.Booleans.{pick, split}
-use Rattle.laws.specs.Each.{rewriteFirst, length-rewriteFirst}
-use Rattle.sheet.specs.Field.{count}
-use Rattle.slots.specs.declared.Slot.{Slot}
-use Rattle.slots.specs.Destination.{destinations}
-use Rattle.slots.specs.Slot.{emptySlot, standing}
+use Rattle.laws.proofs.Prelude.{ℕ, _^_, _≤_, _<_, _≡_, refl, sym, ap, _∙_, fun-ext, List, eqb, ltb, length, getD, length-set, eqb-true, eqb-false, ltb-true, ltb-false}
+use Rattle.laws.proofs.Prelude.{arith, bitOr, List·getD-eq-default, getD-set-same, getD-set-other, set-out, pick, split, rewriteFirst, length-rewriteFirst}
+use Rattle.position.proofs.Rules.{count, Slot, destinations, emptySlot, standing, slot, keys, inPool, inBlock, blockOf, isConfirmed, sent, placed, waiting}
 use Rattle.position.specs.declared.Position.{Position}
-use Rattle.position.specs.Position.{slot, keys, inPool, inBlock, blockOf, isConfirmed, sent, placed}
-use Rattle.position.specs.Owed.{waiting}
-use Rattle.position.specs.Effect.{withSlots, changeSlot, changeSlots, withKey, withMined}
+use Rattle.position.proofs.Rules.{withSlots, changeSlot, changeSlots, withKey, withMined}
 use Rattle.position.proofs.Changed.{one-length, one-other, one-slot, all-length, all-beyond, all-slot}
 use Rattle.claim_parties.specs.Renaming.{Renaming, RenamedSlot, Renamed}
 use Rattle.claim_parties.proofs.RenamedNumbers.{number-same, known, entry-standing}

@@ -1,15 +1,11 @@
 -- Every journal of a sheet of three, under every setup, with the parties renamed.
 -- Assumes nothing.
-use Rattle.laws.proofs.Prelude.{ℕ, _≡_, refl, _∙_, Bool, true, false, _||_, List, [], _∷_, _++_, eqb, leb, eqb-true, eqb-false, lt-leb}
-use Rattle.laws.proofs.Prelude.{arith}
-use Rattle.laws.specs.Booleans.{pick, split, or-neither}
-use Rattle.laws.specs.Failing.{firstFailing, passed-append}
-use Rattle.sheet.specs.Refusal.{accepted, setupBlocks, setupParties, setupConduct, journalLength}
-use Rattle.sheet.specs.Field.{parties}
-use Rattle.sheet.specs.Check.{arrayTests, sheetTests, sheetRefusal}
-use Rattle.sheet.specs.Setup.{conduct, blocksRight, partiesRight, conductRight, setupTests}
-use Rattle.position.specs.Position.{start}
-use Rattle.position.specs.Play.{journalRight, callTests, run}
+use Rattle.laws.proofs.Prelude.{ℕ, _≡_, refl, _∙_, Bool, true, false, _||_, List, [], _∷_, _++_, eqb, leb, eqb-true, eqb-false, lt-leb, arith, pick, split, or-neither}
+use Rattle.laws.proofs.Prelude.{firstFailing, passed-append}
+use Rattle.position.proofs.Rules.{accepted, setupBlocks, journalLength, parties, arrayTests, sheetTests, sheetRefusal, conduct, partiesRight, conductRight, setupTests}
+use Rattle.position.proofs.Rules.{start, journalRight, callTests, run}
+use Rattle.sheet.specs.Refusal.{setupParties, setupConduct}
+use Rattle.sheet.specs.Setup.{blocksRight}
 use Rattle.claim_parties.specs.Renaming.{Renaming, renamedSheet, renamedJournal, RunRenamed}
 use Rattle.claim_parties.proofs.RenamedSheets.{parties-kept, sheet-renamed}
 use Rattle.claim_parties.proofs.RenamedChecks.{passes-renamed}

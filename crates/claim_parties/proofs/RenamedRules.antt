@@ -1,16 +1,12 @@
 -- The tests and effects of a step and of the step with the parties renamed, on one sheet, under open conduct.
 -- Assumes nothing.
 use Rattle.laws.proofs.Prelude.{ℕ, _+_, _<_, _≡_, refl, ap, fun-ext, Bool, true, false, List, eqb}
-use Rattle.slots.specs.Destination.{destinations}
-use Rattle.slots.specs.Slot.{sharedAny, entryFor}
-use Rattle.slots.specs.Signatures.{sharedSecrets, shareMask, exposedMask}
-use Rattle.steps.specs.Decode.{noTransaction}
-use Rattle.steps.specs.Mined.{confirmEntry}
+use Rattle.position.proofs.Rules.{destinations, sharedAny, entryFor, sharedSecrets, shareMask, exposedMask, noTransaction, confirmEntry, slot, keys, holds}
 use Rattle.position.specs.declared.Position.{Position}
-use Rattle.position.specs.Position.{slot, keys, holds, marked, shared, inBlock, senderHas, lockHeightIn, deadlineIn}
-use Rattle.position.specs.Owed.{owed, anyOwed, enters}
-use Rattle.position.specs.Tests.{shareMet, shareTests, giveMet, giveTests, sendTests, poolTests, minerTests, includeTests, blockMet, mineTests, bumpTests}
-use Rattle.position.specs.Effect.{shareOne, afterShare, afterGive, afterSend, afterHandIn, afterInclude, leavesPool, mineSlot, afterMine, leavesBlock, bumpSlot, afterBump}
+use Rattle.position.proofs.Rules.{marked, shared, inBlock, senderHas, lockHeightIn, deadlineIn, owed, anyOwed, enters, shareMet, shareTests, giveMet, giveTests}
+use Rattle.position.proofs.Rules.{sendTests, poolTests, minerTests, includeTests, mineTests, bumpTests, shareOne, afterShare, afterGive, afterSend, afterHandIn}
+use Rattle.position.proofs.Rules.{afterInclude, leavesPool, mineSlot, afterMine, leavesBlock, bumpSlot, afterBump}
+use Rattle.position.specs.Tests.{blockMet}
 use Rattle.claim_parties.specs.Renaming.{Renaming, RenamedSlot, Renamed}
 use Rattle.claim_parties.proofs.RenamedNumbers.{entry-for, entry-none}
 use Rattle.claim_parties.proofs.RenamedSlots.{picked-both, any-same, with-pool, with-block, with-shared, with-mark, confirm-renamed}

@@ -1,21 +1,13 @@
 -- Journals and reports with the parties renamed.
 -- Assumes nothing.
-use Rattle.laws.proofs.Prelude.{ℕ, zero, suc, _+_, _<_, _≡_, refl, sym, ap, _∙_, Bool, true, false, not, and-false, List, [], _∷_, _++_}
-use Rattle.laws.proofs.Prelude.{eqb, length, arith}
-use mathlib.Core.List.{map}
-use Rattle.laws.specs.Booleans.{pick, split}
-use Rattle.laws.specs.Failing.{firstFailing, passed-append}
-use Rattle.sheet.specs.Refusal.{accepted, journalLength}
-use Rattle.sheet.specs.Field.{parties, isParty, startKeys}
-use Rattle.sheet.specs.Check.{arrayTests, sheetTests, sheetRefusal}
-use Rattle.sheet.specs.Setup.{conduct, partiesRight, conductRight, setupTests}
-use Rattle.slots.specs.Destination.{destinations}
-use Rattle.slots.specs.Invalidated.{invalidated}
+use Rattle.laws.proofs.Prelude.{ℕ, zero, suc, _+_, _<_, _≡_, refl, sym, ap, _∙_, Bool, true, false, not, and-false, List, [], _∷_, _++_, eqb, length, arith, map, pick}
+use Rattle.laws.proofs.Prelude.{split, firstFailing, passed-append}
+use Rattle.position.proofs.Rules.{accepted, journalLength, parties, startKeys, arrayTests, sheetTests, sheetRefusal, conduct, partiesRight, conductRight, setupTests}
+use Rattle.position.proofs.Rules.{destinations, invalidated, startHeld, start, keys, blockOf, isConfirmed, confirmedTo, FourBytes, journalSteps, step}
 use Rattle.position.specs.declared.Position.{Position}
 use Rattle.position.specs.declared.Ran.{Ran}
-use Rattle.position.specs.Position.{startHeld, start, keys, blockOf, isConfirmed, confirmedTo}
-use Rattle.position.specs.Play.{FourBytes, journalSteps, step, runFrom, journalRight, callTests, run}
-use Rattle.position.specs.Report.{status, payee, unconfirmed}
+use Rattle.position.proofs.Rules.{runFrom, journalRight, callTests, run, status, payee, unconfirmed}
+use Rattle.sheet.specs.Field.{isParty}
 use Rattle.claim_parties.specs.Renaming.{Renaming, RenamedSheet, Renamed, renamedStep, renamedJournal, RunRenamed, RowRenamed}
 use Rattle.claim_parties.proofs.Leaves.{meets-other}
 use Rattle.claim_parties.proofs.Rules.{lock-in, deadline-in}

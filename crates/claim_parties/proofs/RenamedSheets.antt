@@ -1,20 +1,14 @@
 -- A sheet of three with its parties renamed: what it says.
 -- Assumes nothing.
-use Rattle.laws.proofs.Prelude.{ℕ, zero, suc, _+_, _-_, _*_, _%_, _≤_, _<_, _≡_, refl, sym, ap, _∙_, fun-ext, Bool, true, false, not, _&&_}
-use Rattle.laws.proofs.Prelude.{and-false, List, eqb, ltb, leb, lit≤, length, ltb-true, ltb-false, eq-eqb, ne-eqb, lt-ltb, le-ltb, le-leb}
-use Rattle.laws.proofs.Prelude.{arith}
-use mathlib.Core.Bool.{Bool·beq}
-use Rattle.laws.specs.Booleans.{split, beq-same}
-use Rattle.laws.specs.Below.{allBelow, anyBelow, all-at, any-found, any-some, any-none, any-all-false}
-use Rattle.laws.specs.Each.{rewritten, not-rewritten}
-use Rattle.laws.specs.Mask.{bit}
-use Rattle.laws.specs.Sets.{set-bit, set-some}
-use Rattle.sheet.specs.Refusal.{accepted}
-use Rattle.sheet.specs.Field.{byte, parties, arrays, miner, place, partyAt, isParty, count, startMask, startKeys, entry, lockPair, payees}
-use Rattle.sheet.specs.Check.{sheetRefusal}
+use Rattle.laws.proofs.Prelude.{ℕ, zero, suc, _+_, _-_, _*_, _%_, _≤_, _<_, _≡_, refl, sym, ap, _∙_, fun-ext, Bool, true, false, not, _&&_, and-false, List, eqb, ltb}
+use Rattle.laws.proofs.Prelude.{leb, lit≤, length, ltb-true, ltb-false, eq-eqb, ne-eqb, lt-ltb, le-ltb, le-leb, arith, Bool·beq, split, beq-same, allBelow, anyBelow}
+use Rattle.laws.proofs.Prelude.{all-at, any-found, any-some, any-none, any-all-false, rewritten, not-rewritten, bit, set-bit}
+use Rattle.position.proofs.Rules.{accepted, byte, parties, arrays, place, partyAt, count, startMask, startKeys, entry, payees, sheetRefusal, destinations, isPayee}
+use Rattle.position.proofs.Rules.{isContract}
+use Rattle.laws.specs.Sets.{set-some}
+use Rattle.sheet.specs.Field.{miner, isParty, lockPair}
 use Rattle.sheet.proofs.Parties.{parties-same, place-at, place-below, at-place, party-at, party-past}
 use Rattle.sheet.proofs.PassedSheet.{passed-sheet}
-use Rattle.slots.specs.Destination.{destinations, isPayee, isContract}
 use Rattle.claim_parties.specs.Renaming.{Renaming, SameTransactions, RenamedSheet, renamedPayees, renamedByte, renamedSheet}
 use Rattle.claim_parties.proofs.RenamedNumbers.{miner-number}
 

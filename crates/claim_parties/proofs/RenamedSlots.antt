@@ -1,21 +1,12 @@
 -- Slots with the parties renamed, after each change of a slot.
 -- Assumes nothing.
-use Rattle.laws.proofs.Prelude.{ℕ, zero, suc, _<_, _≡_, refl, sym, ap, _∙_, Bool, true, false, not, _&&_, _||_, false≢true, List, eqb}
-use Rattle.laws.proofs.Prelude.{arith}
-use native.Mathlib.Nat.{not-suc-le-zero, le-of-suc-le-suc, eq-or-lt-of-le}
-use mathlib.Core.Bool.{or-false}
-use lib.Bits.{bitOr, or-comm, or-zero-r}
-use Rattle.laws.specs.Booleans.{pick, either}
-use Rattle.laws.specs.Mask.{bit, unionBelow}
-use Rattle.laws.specs.Bits.{no-bit}
+use Rattle.laws.proofs.Prelude.{ℕ, zero, suc, _<_, _≡_, refl, sym, ap, _∙_, Bool, true, false, not, _&&_, _||_, false≢true, List, eqb, arith, not-suc-le-zero}
+use Rattle.laws.proofs.Prelude.{le-of-suc-le-suc, eq-or-lt-of-le, or-false, bitOr, pick, either, bit, unionBelow, no-bit, joined, bit-joined}
+use Rattle.position.proofs.Rules.{Slot, alice, bob, carol, contract, destinations, emptySlot, standing, entryTo, withPool, withBlock, withConfirmed, sharedFor}
+use Rattle.position.proofs.Rules.{withShared, sharedAny, marksOf, markedFor, withMark, exposedMask, confirmEntry}
+use lib.Bits.{or-comm, or-zero-r}
 use Rattle.laws.specs.Unions.{or-assoc, or-swap, or-again}
-use Rattle.laws.specs.Sets.{joined, bit-joined}
 use Rattle.sheet.specs.Field.{miner}
-use Rattle.slots.specs.declared.Slot.{Slot}
-use Rattle.slots.specs.Destination.{alice, bob, carol, contract, destinations}
-use Rattle.slots.specs.Slot.{emptySlot, standing, entryTo, withPool, withBlock, withConfirmed, sharedFor, withShared, sharedAny, marksOf, markedFor, withMark}
-use Rattle.slots.specs.Signatures.{exposedMask}
-use Rattle.steps.specs.Mined.{confirmEntry}
 use Rattle.claim_parties.specs.Renaming.{Renaming, renamedEntry, RenamedSlot}
 use Rattle.claim_parties.proofs.RenamedNumbers.{number-same, miner-number, known, known-back, entry-standing, entry-to, entry-none}
 

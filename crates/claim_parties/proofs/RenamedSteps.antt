@@ -1,25 +1,15 @@
 -- A step of four bytes and the same with the parties renamed.
 -- Assumes nothing.
-use Rattle.laws.proofs.Prelude.{ℕ, zero, suc, _%_, _≤_, _<_, _≡_, refl, sym, ap, _∙_, Bool, true, false, _&&_, and-false, List, eqb, ltb}
-use Rattle.laws.proofs.Prelude.{eqb-true, eqb-false, ltb-true, ltb-false, ne-eqb, arith}
-use Rattle.laws.specs.Booleans.{pick, split, either, clash, and-parts, or-parts}
-use Rattle.sheet.specs.Refusal.{accepted}
-use Rattle.sheet.specs.Field.{byte, count}
-use Rattle.sheet.specs.Setup.{conduct}
-use Rattle.sheet.proofs.Parties.{party-small}
-use Rattle.slots.specs.declared.Destination.{Destination}
-use Rattle.slots.specs.declared.Destination.the-variants.{Alice, Bob, Contract, Carol}
-use Rattle.slots.specs.declared.Step.{Step}
-use Rattle.slots.specs.declared.Step.the-variants.{Share, Give, SendToPool, HandToMiner, Include, Mine, Bump}
-use Rattle.slots.specs.Destination.{destinations, destinationNumber, isParty}
-use Rattle.steps.specs.declared.Decoded.{Decoded}
-use Rattle.steps.specs.declared.Decoded.the-variants.{Read, Refused}
-use Rattle.steps.specs.Decode.{noTransaction, sendsTo, sharesTo, isOther, firstShareFields, fieldsRight, ofKind, spelled, rangeChecked, decode}
+use Rattle.laws.proofs.Prelude.{ℕ, zero, suc, _%_, _≤_, _<_, _≡_, refl, sym, ap, _∙_, Bool, true, false, _&&_, and-false, List, eqb, ltb, eqb-true, eqb-false, ltb-true}
+use Rattle.laws.proofs.Prelude.{ltb-false, ne-eqb, arith, pick, split, either, clash, and-parts, or-parts}
+use Rattle.position.proofs.Rules.{accepted, byte, count, conduct, Destination, Alice, Bob, Contract, Carol, Step, Share, Give, SendToPool, HandToMiner, Include, Mine}
+use Rattle.position.proofs.Rules.{Bump, destinations, destinationNumber, isParty, Decoded, Read, Refused, noTransaction, sendsTo, sharesTo, isOther, firstShareFields}
+use Rattle.position.proofs.Rules.{fieldsRight, ofKind, spelled, rangeChecked, decode, stepRefusal, effect, FourBytes, decodeBytes, takeStep}
 use Rattle.position.specs.declared.Position.{Position}
 use Rattle.position.specs.declared.Stepped.{Stepped}
-use Rattle.position.specs.StepRefusal.{tests, stepRefusal}
-use Rattle.position.specs.Effect.{effect}
-use Rattle.position.specs.Play.{FourBytes, decodeBytes, takeStep, takeDecoded, step}
+use Rattle.position.proofs.Rules.{takeDecoded, step}
+use Rattle.sheet.proofs.Parties.{party-small}
+use Rattle.position.specs.StepRefusal.{tests}
 use Rattle.position.proofs.StepCases.{accepts, refuses}
 use Rattle.position.proofs.Decoding.{destination-within}
 use Rattle.claim_parties.specs.Renaming.{Renaming, RenamedSheet, Renamed, renamedStep, StepRenamed}

@@ -1,9 +1,7 @@
 -- P10's sheet with a Carol put in who has nothing: what the words of the claim mean, computed.
 -- Assumes nothing.
 use Rattle.laws.proofs.Prelude.{ℕ, _≡_, refl, true, false, List, [], _∷_}
-use Rattle.sheet.specs.Refusal.{accepted, stepField}
-use Rattle.sheet.specs.Check.{sheetRefusal}
-use Rattle.position.specs.Play.{FourBytes, run}
+use Rattle.position.proofs.Rules.{accepted, stepField, sheetRefusal, FourBytes, run}
 use Rattle.position.proofs.Opened.{opened}
 use Rattle.claim_parties.specs.Claim.{withCarol, namesCarol}
 

@@ -1,18 +1,10 @@
 -- The words of specs/ by example: on a swap by hash and time locks, on a ring of three and on the SASwap sheet.
 -- Assumes nothing.
-use Rattle.laws.proofs.Prelude.{ℕ, _+_, _≤_, _≡_, refl, Bool, true, false, false≢true, List, [], _∷_, _++_, eqb, leb}
-use Rattle.laws.proofs.Prelude.{eqb-true, eqb-false, leb-true, leb-false, arith}
-use Rattle.laws.specs.Booleans.{split, clash}
-use Rattle.laws.specs.Below.{allBelow, anyBelow}
-use Rattle.laws.specs.Greatest.{greatestTo}
-use Rattle.laws.specs.Sets.{joined, setBelow}
-use Rattle.sheet.specs.Check.{sheetRefusal}
-use Rattle.sheet.specs.LockHeight.{never}
-use Rattle.sheet.specs.Saswap.{saswap}
-use Rattle.sheet.specs.Setup.{setupRefusal}
-use Rattle.slots.specs.Destination.{alice, bob, carol, isParty}
+use Rattle.laws.proofs.Prelude.{ℕ, _+_, _≤_, _≡_, refl, Bool, true, false, false≢true, List, [], _∷_, _++_, eqb, leb, eqb-true, eqb-false, leb-true, leb-false, arith}
+use Rattle.laws.proofs.Prelude.{split, clash, allBelow, anyBelow, joined, setBelow}
+use Rattle.position.proofs.Rules.{sheetRefusal, never, saswap, setupRefusal, alice, bob, carol, isParty, journalSteps, play}
 use Rattle.position.specs.declared.Position.{Position}
-use Rattle.position.specs.Play.{journalSteps, play}
+use Rattle.laws.specs.Greatest.{greatestTo}
 use Rattle.position.proofs.Opened.{opened}
 use Rattle.soonest.specs.Soonest.{greater, lockAt, soonestOver, soonestBlock, soonestParent, sinceLocked}
 use Rattle.claim_ledger.specs.Claim.{positionOf}

@@ -1,21 +1,11 @@
 -- What can come without X after a step of others could come before it, whatever more X sends.
 -- Assumes nothing.
-use Rattle.laws.proofs.Prelude.{ℕ, _<_, _≡_, refl, sym, _∙_, Bool, true, false, not, _&&_, List, [], _∷_, eqb, not-true, arith}
-use Rattle.laws.specs.Booleans.{either, and-parts}
-use Rattle.laws.specs.Below.{anyBelow, any-some, any-found}
-use Rattle.laws.specs.Gather.{every}
-use Rattle.laws.specs.Mask.{bit}
-use Rattle.laws.specs.Sets.{set-bit}
-use Rattle.sheet.specs.Field.{count}
-use Rattle.sheet.specs.Check.{sheetRefusal}
-use Rattle.sheet.specs.Setup.{setupRefusal}
-use Rattle.sheet.specs.Checked.{Checked}
-use Rattle.sheet.proofs.Theorems.{sheet-checked}
-use Rattle.slots.specs.Destination.{destinations, isParty}
-use Rattle.slots.proofs.Conflicts.{conflict-self}
+use Rattle.laws.proofs.Prelude.{ℕ, _<_, _≡_, refl, sym, _∙_, Bool, true, false, not, _&&_, List, [], _∷_, eqb, not-true, arith, either, and-parts, anyBelow, any-some}
+use Rattle.laws.proofs.Prelude.{any-found, every, bit, set-bit}
+use Rattle.position.proofs.Rules.{count, sheetRefusal, setupRefusal, Checked, destinations, isParty, inBlock, blockTo, FourBytes, step, play}
 use Rattle.position.specs.declared.Position.{Position}
-use Rattle.position.specs.Position.{inBlock, blockTo}
-use Rattle.position.specs.Play.{FourBytes, step, play}
+use Rattle.sheet.proofs.Theorems.{sheet-checked}
+use Rattle.slots.proofs.Conflicts.{conflict-self}
 use Rattle.claim_ledger.proofs.Sound.{Sound}
 use Rattle.attainable.specs.Attainable.{comes, attainable, attainableElsewhere, Closed}
 use Rattle.attainable.proofs.Parts.{comes-parts, comes-more}

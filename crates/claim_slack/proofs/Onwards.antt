@@ -1,24 +1,14 @@
 -- A step without X leads onward: what the laws of slack ask for holds between a position and the next.
 -- Assumes nothing.
-use Rattle.laws.proofs.Prelude.{ℕ, _+_, _≤_, _<_, _≡_, refl, sym, _∙_, true, false, _&&_, List, _⊎_, inl, inr, eqb}
-use Rattle.laws.proofs.Prelude.{eqb-true, ltb-true, ltb-false, lt-ltb, eq-eqb, arith}
-use Rattle.laws.specs.Booleans.{split, either, clash, and-parts, or-parts, or-right, or-neither}
-use Rattle.laws.specs.Mask.{bit}
-use Rattle.sheet.specs.Field.{count, parent, opening}
-use Rattle.sheet.specs.Check.{sheetRefusal}
-use Rattle.sheet.specs.Setup.{perDay, setupRefusal}
-use Rattle.sheet.specs.Checked.{Checked}
+use Rattle.laws.proofs.Prelude.{ℕ, _+_, _≤_, _<_, _≡_, refl, sym, _∙_, true, false, _&&_, List, _⊎_, inl, inr, eqb, eqb-true, ltb-true, ltb-false, lt-ltb, eq-eqb, arith}
+use Rattle.laws.proofs.Prelude.{split, either, clash, and-parts, or-parts, or-right, or-neither, bit}
+use Rattle.position.proofs.Rules.{count, parent, opening, sheetRefusal, perDay, setupRefusal, Checked, isParty, hasParent, invalidated, inPool, poolTo, inBlock}
+use Rattle.position.specs.declared.Position.{Position}
+use Rattle.position.proofs.Rules.{blockTo, blockOf, isConfirmed, confirmedTo, lockHeightIn, afterMine, FourBytes, step}
 use Rattle.sheet.proofs.Theorems.{sheet-checked}
-use Rattle.slots.specs.Destination.{isParty}
-use Rattle.slots.specs.Ancestry.{hasParent}
-use Rattle.slots.specs.Invalidated.{invalidated}
 use Rattle.slots.proofs.Conflicts.{conflict-self}
 use Rattle.slots.proofs.Entered.{pooled, filled, settled}
 use Rattle.slots.proofs.Parents.{parent-below, parent-lower}
-use Rattle.position.specs.declared.Position.{Position}
-use Rattle.position.specs.Position.{inPool, poolTo, inBlock, blockTo, blockOf, isConfirmed, confirmedTo, lockHeightIn}
-use Rattle.position.specs.Effect.{afterMine}
-use Rattle.position.specs.Play.{FourBytes, step}
 use Rattle.position.proofs.StepCases.{StepCase, taken, turned-down, step-case}
 use Rattle.soonest.specs.Soonest.{greater, lockAt}
 use Rattle.soonest.proofs.Bounds.{greater-left}

@@ -1,28 +1,15 @@
 -- Pool entries: they keep their destination while they stand, and without stealth the block being filled is of pool entries.
 -- Assumes nothing.
-use Rattle.laws.proofs.Prelude.{ℕ, _<_, _≡_, refl, sym, _∙_, true, false, not, _&&_, _||_, false≢true, List, [], _∷_, _⊎_, inl, inr, eqb, ltb}
-use Rattle.laws.proofs.Prelude.{length, eqb-true, ltb-true, not-true, arith}
-use Rattle.laws.specs.Booleans.{split, either, clash, and-parts, or-parts, or-neither}
-use Rattle.laws.specs.Failing.{passed}
-use Rattle.sheet.specs.Field.{count}
-use Rattle.sheet.specs.Check.{sheetRefusal}
-use Rattle.sheet.specs.Setup.{setupRefusal, stealth}
-use Rattle.sheet.specs.Checked.{Checked}
-use Rattle.sheet.proofs.Theorems.{sheet-checked}
-use Rattle.slots.specs.declared.Step.{Step}
-use Rattle.slots.specs.declared.Step.the-variants.{Share, Give, SendToPool, HandToMiner, Include, Mine, Bump}
-use Rattle.slots.specs.Destination.{miner, contract, destinationNumber}
-use Rattle.slots.specs.Ancestry.{meetsConflict}
-use Rattle.slots.specs.Invalidated.{invalidated}
-use Rattle.slots.proofs.Conflicts.{conflict-self, no-conflict}
+use Rattle.laws.proofs.Prelude.{ℕ, _<_, _≡_, refl, sym, _∙_, true, false, not, _&&_, _||_, false≢true, List, [], _∷_, _⊎_, inl, inr, eqb, ltb, length, eqb-true, ltb-true}
+use Rattle.laws.proofs.Prelude.{not-true, arith, split, either, clash, and-parts, or-parts, or-neither, passed}
+use Rattle.position.proofs.Rules.{count, sheetRefusal, setupRefusal, stealth, Checked, Step, Share, Give, SendToPool, HandToMiner, Include, Mine, Bump, miner, contract}
+use Rattle.position.proofs.Rules.{destinationNumber, meetsConflict, invalidated, start, inPool, poolTo, inBlock, blockTo, isConfirmed, sent, fieldsRight}
 use Rattle.position.specs.declared.Position.{Position}
-use Rattle.position.specs.Position.{start, inPool, poolTo, inBlock, blockTo, isConfirmed, sent}
-use Rattle.steps.specs.Decode.{fieldsRight}
-use Rattle.position.specs.Owed.{enters}
-use Rattle.position.specs.Tests.{sendTests, poolTests, minerTests, includeTests}
-use Rattle.position.specs.StepRefusal.{tests, stepRefusal}
-use Rattle.position.specs.Effect.{afterShare, afterGive, afterSend, leavesPool, afterMine, afterBump, effect}
-use Rattle.position.specs.Play.{FourBytes, step, play}
+use Rattle.position.proofs.Rules.{enters, sendTests, poolTests, minerTests, includeTests, stepRefusal, afterShare, afterGive, afterSend, leavesPool, afterMine, afterBump}
+use Rattle.position.proofs.Rules.{effect, FourBytes, step, play}
+use Rattle.sheet.proofs.Theorems.{sheet-checked}
+use Rattle.slots.proofs.Conflicts.{conflict-self, no-conflict}
+use Rattle.position.specs.StepRefusal.{tests}
 use Rattle.position.proofs.Starts.{start-slot}
 use Rattle.position.proofs.StepCases.{StepCase, taken, turned-down, step-case}
 use Rattle.step_laws.proofs.Untouched.{SamePool, SameBlock}

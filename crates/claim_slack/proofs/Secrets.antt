@@ -1,20 +1,11 @@
 -- Secrets in shared knowledge: they stay there, and a mined block adds those of its entries.
 -- Assumes nothing.
-use Rattle.laws.proofs.Prelude.{ℕ, zero, suc, _<_, _≡_, sym, _∙_, true, List, length, arith}
-use Rattle.laws.specs.Booleans.{split, and-parts}
-use Rattle.laws.specs.Bits.{bit-and, union-bit}
-use Rattle.laws.specs.Mask.{bit, unionBelow}
-use Rattle.sheet.specs.Field.{count, secrets}
-use Rattle.slots.specs.declared.Slot.{Slot}
-use Rattle.slots.specs.Destination.{destinations}
-use Rattle.slots.specs.Slot.{standing, entryTo, sharedFor, sharedAny, withPool, withBlock, withConfirmed, withShared}
-use Rattle.slots.specs.Signatures.{sharedSecrets, exposedMask}
-use Rattle.slots.proofs.SharedBits.{shared-any}
+use Rattle.laws.proofs.Prelude.{ℕ, zero, suc, _<_, _≡_, sym, _∙_, true, List, length, arith, split, and-parts, bit-and, union-bit, bit, unionBelow}
+use Rattle.position.proofs.Rules.{count, secrets, Slot, destinations, standing, entryTo, sharedFor, sharedAny, withPool, withBlock, withConfirmed, withShared}
+use Rattle.position.proofs.Rules.{sharedSecrets, exposedMask, slot, inBlock, blockTo, shared, confirmEntry, leavesPool, mineSlot, withMined, afterMine}
 use Rattle.position.specs.declared.Position.{Position}
-use Rattle.position.specs.Position.{slot, inBlock, blockTo, shared}
+use Rattle.slots.proofs.SharedBits.{shared-any}
 use Rattle.position.proofs.Changed.{all-slot}
-use Rattle.steps.specs.Mined.{confirmEntry}
-use Rattle.position.specs.Effect.{leavesPool, mineSlot, withMined, afterMine}
 use Rattle.step_laws.proofs.Provenance.{Moved}
 use Rattle.attainable.specs.Attainable.{secretsOf}
 use Rattle.attainable.proofs.Masks.{or-last}

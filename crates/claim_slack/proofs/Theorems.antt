@@ -1,16 +1,9 @@
 -- What a party keeps while it takes no step: the claims of specs/Claim.antt.
 -- Assumes nothing.
-use Rattle.laws.proofs.Prelude.{ℕ, _+_, _-_, _≤_, _≡_, true, false, not, List, [], _∷_, not-true, arith}
-use Rattle.laws.specs.Booleans.{and-parts}
-use Rattle.laws.specs.Gather.{every}
-use Rattle.sheet.specs.Check.{sheetRefusal}
-use Rattle.sheet.specs.LockHeight.{never}
-use Rattle.sheet.specs.Setup.{setupRefusal}
-use Rattle.sheet.proofs.Theorems.{sheet-checked, fit}
-use Rattle.slots.specs.Destination.{isParty}
+use Rattle.laws.proofs.Prelude.{ℕ, _+_, _-_, _≤_, _≡_, true, false, not, List, [], _∷_, not-true, arith, and-parts, every}
+use Rattle.position.proofs.Rules.{sheetRefusal, never, setupRefusal, isParty, start, FourBytes, step, play}
 use Rattle.position.specs.declared.Position.{Position}
-use Rattle.position.specs.Position.{start}
-use Rattle.position.specs.Play.{FourBytes, step, play}
+use Rattle.sheet.proofs.Theorems.{sheet-checked, fit}
 use Rattle.claim_ledger.proofs.Sound.{Sound}
 use Rattle.claim_ledger.proofs.SoundSteps.{sound-start, sound-play}
 use Rattle.claim_outage.proofs.Play.{later-play}

@@ -1,12 +1,8 @@
 -- Steps and runs without the counts are the model's.
 -- Assumes nothing.
-use Rattle.laws.proofs.Prelude.{ℕ, _+_, _≡_, refl, sym, ap, _∙_, true, false, List, [], _∷_, eqb, eqb-true}
-use Rattle.laws.specs.Booleans.{split}
-use Rattle.laws.specs.Failing.{firstFailing}
-use Rattle.sheet.specs.Refusal.{accepted}
+use Rattle.laws.proofs.Prelude.{ℕ, _+_, _≡_, refl, sym, ap, _∙_, true, false, List, [], _∷_, eqb, eqb-true, split, firstFailing}
+use Rattle.position.proofs.Rules.{accepted, start, FourBytes, journalSteps, step, runFrom, callTests, run}
 use Rattle.position.specs.declared.Position.{Position}
-use Rattle.position.specs.Position.{start}
-use Rattle.position.specs.Play.{FourBytes, journalSteps, step, runFrom, callTests, run}
 use Rattle.position.proofs.StepCases.{refused-same}
 use Rattle.dated.specs.declared.Dated.{Dated}
 use Rattle.dated.specs.Dated.{AfterStep, unseen, datedStart, datedStep, datedRunFrom, datedRun, forgotten}

@@ -1,9 +1,7 @@
 -- The counts once a position is seen, place by place.
 -- Assumes nothing.
-use Rattle.laws.proofs.Prelude.{ℕ, _<_, _≡_, List, length, getD}
-use Rattle.laws.specs.Each.{length-rewriteFirst, rewritten}
-use Rattle.sheet.specs.Field.{count}
-use Rattle.sheet.specs.LockHeight.{never}
+use Rattle.laws.proofs.Prelude.{ℕ, _<_, _≡_, List, length, getD, length-rewriteFirst, rewritten}
+use Rattle.position.proofs.Rules.{count, never}
 use Rattle.position.specs.declared.Position.{Position}
 use Rattle.dated.specs.Dated.{firstOpen, noted}
 

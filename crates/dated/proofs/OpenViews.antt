@@ -1,24 +1,11 @@
 -- What is open over a view, a slot and the parent's block is what is open in the position.
 -- Assumes nothing.
-use Rattle.laws.proofs.Prelude.{ℕ, _<_, _≡_, refl, sym, ap, _∙_, Bool, true, false, not, List, eqb, leb, length, eqb-true, not-true}
-use Rattle.laws.proofs.Prelude.{not-false}
-use Rattle.laws.specs.Booleans.{split, clash}
-use Rattle.laws.specs.Below.{anyBelow}
-use Rattle.laws.specs.Mask.{bit}
-use Rattle.laws.specs.Sets.{set-bit}
-use Rattle.sheet.specs.Field.{parties, partyAt, count, parent}
-use Rattle.sheet.specs.Setup.{perDay}
-use Rattle.sheet.specs.LockHeight.{never, lockHeight}
-use Rattle.sheet.specs.Checked.{Checked}
-use Rattle.slots.specs.declared.Slot.{Slot}
-use Rattle.slots.specs.Conflict.{conflictIn, noConflict}
-use Rattle.slots.specs.Ancestry.{hasParent}
-use Rattle.slots.specs.Signatures.{sharedSecrets}
-use Rattle.steps.specs.declared.View.{View}
-use Rattle.steps.specs.Forms.View.{keysIn, senderIn}
+use Rattle.laws.proofs.Prelude.{ℕ, _<_, _≡_, refl, sym, ap, _∙_, Bool, true, false, not, List, eqb, leb, length, eqb-true, not-true, not-false, split, clash, anyBelow}
+use Rattle.laws.proofs.Prelude.{bit, set-bit}
+use Rattle.position.proofs.Rules.{parties, partyAt, count, parent, perDay, never, lockHeight, Checked, Slot, conflictIn, noConflict, hasParent, sharedSecrets, View}
+use Rattle.position.proofs.Rules.{keysIn, slot, blockOf, isConfirmed, keys, shared, senderHas, viewBelow, sinceIn}
 use Rattle.position.specs.declared.Position.{Position}
-use Rattle.position.specs.Position.{slot, blockOf, isConfirmed, keys, shared, senderHas}
-use Rattle.position.specs.Forms.View.{viewBelow, sinceIn}
+use Rattle.steps.specs.Forms.View.{senderIn}
 use Rattle.position.proofs.SendTests.{noConflict-set, hasParent-set, since-parent, lockHeight-parent}
 use Rattle.dated.specs.Opens.{atHand, opens}
 use Rattle.dated.specs.Dated.{firstOpen}

@@ -1,13 +1,8 @@
 -- The report's answer by the model's run and the counts.
 -- Assumes nothing.
 use Rattle.laws.proofs.Prelude.{ℕ, _*_, _≡_, sym, ap, _∙_, List, length, take}
-use Rattle.sheet.specs.Refusal.{accepted}
-use Rattle.sheet.specs.Field.{count}
-use Rattle.readings.specs.Reported.{rowWidth}
+use Rattle.position.proofs.Rules.{accepted, count, rowWidth, run, reportBytes, Written, passOn}
 use Rattle.position.specs.declared.Ran.{Ran}
-use Rattle.position.specs.Play.{run}
-use Rattle.position.specs.Report.{reportBytes}
-use Rattle.position.specs.Answers.{Written, passOn}
 use Rattle.position.proofs.ReportLengths.{report-length}
 use Rattle.position.proofs.Passing.{answer-run, answer-buffer}
 use Rattle.dated.specs.Dated.{datedRun, forgotten}

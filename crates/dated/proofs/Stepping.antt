@@ -1,8 +1,7 @@
 -- A step on a position with its counts, accepted or refused; a row of steps by its first.
 -- Assumes nothing.
 use Rattle.laws.proofs.Prelude.{ℕ, _+_, _≡_, refl, true, false, List, [], _∷_, eqb}
-use Rattle.sheet.specs.Refusal.{accepted}
-use Rattle.position.specs.Play.{FourBytes, step}
+use Rattle.position.proofs.Rules.{accepted, FourBytes, step}
 use Rattle.dated.specs.declared.Dated.{Dated}
 use Rattle.dated.specs.Dated.{noted, datedStep, datedRunFrom}
 

@@ -1,10 +1,6 @@
 -- The bits of a mask counted.
 -- Assumes nothing.
-use Rattle.laws.proofs.Prelude.{ℕ, zero, suc, _+_, _*_, _≤_, _<_, _≡_, true, arith}
-use native.Mathlib.Nat.{eq-or-lt-of-le, le-of-suc-le-suc}
-use Rattle.laws.specs.Booleans.{either}
-use Rattle.laws.specs.Mask.{bit}
-use Rattle.laws.specs.Sum.{sumBelow, bitsBelow}
+use Rattle.laws.proofs.Prelude.{ℕ, zero, suc, _+_, _*_, _≤_, _<_, _≡_, true, arith, eq-or-lt-of-le, le-of-suc-le-suc, either, bit, sumBelow, bitsBelow}
 
 -- one bit more of a mask that has it
 ones-more : (mask t : ℕ) → bit mask t ≡ true → bitsBelow (suc t) mask ≡ bitsBelow t mask + 1

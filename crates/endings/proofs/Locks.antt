@@ -1,11 +1,7 @@
 -- The lock over a parent's block, and the earliest block over it.
 -- Assumes nothing.
-use Rattle.laws.proofs.Prelude.{ℕ, _+_, _≤_, _<_, _≡_, sym, _∙_, List, eq-eqb, ne-eqb, lt-ltb, le-ltb, arith}
-use native.Mathlib.Nat.{max-eq-left, max-eq-right}
-use Rattle.laws.specs.Climb.{climb-step}
-use Rattle.sheet.specs.Field.{parent, lockType}
-use Rattle.sheet.specs.LockHeight.{lockBlocks}
-use Rattle.ledger.specs.Ledger.{lockFrom}
+use Rattle.laws.proofs.Prelude.{ℕ, _+_, _≤_, _<_, _≡_, sym, _∙_, List, eq-eqb, ne-eqb, lt-ltb, le-ltb, arith, max-eq-left, max-eq-right, climb-step}
+use Rattle.position.proofs.Rules.{parent, lockType, lockBlocks, lockFrom}
 use Rattle.endings.specs.Earliest.{earliestFrom, earliest}
 
 -- the returns of the code, where l is the lock's type, b its blocks

@@ -1,16 +1,8 @@
 -- The tests of an ending, from what the code finds.
 -- Assumes nothing.
-use Rattle.laws.proofs.Prelude.{ℕ, _*_, _^_, _≡_, sym, _∙_, Bool, true, false, not, _&&_, List, eqb, ltb, leb, length, eq-eqb, ne-eqb}
-use Rattle.laws.proofs.Prelude.{not-true, not-false}
-use Rattle.laws.specs.Below.{allBelow}
-use Rattle.laws.specs.Booleans.{split}
-use Rattle.laws.specs.Mask.{bit}
-use Rattle.laws.specs.Sum.{bitsBelow}
-use Rattle.sheet.specs.Field.{count}
-use Rattle.sheet.specs.Setup.{perDay}
-use Rattle.slots.specs.Destination.{isParty, isPayee, isContract}
-use Rattle.ledger.specs.Coin.{coinOf}
-use Rattle.steps.specs.Decode.{sharesTo}
+use Rattle.laws.proofs.Prelude.{ℕ, _*_, _^_, _≡_, sym, _∙_, Bool, true, false, not, _&&_, List, eqb, ltb, leb, length, eq-eqb, ne-eqb, not-true, not-false, allBelow}
+use Rattle.laws.proofs.Prelude.{split, bit, bitsBelow}
+use Rattle.position.proofs.Rules.{count, perDay, isParty, isPayee, isContract, coinOf, sharesTo}
 use Rattle.endings.specs.Earliest.{earliest}
 use Rattle.endings.specs.Plan.{planned}
 use Rattle.endings.specs.Ending.{destinationOf, payingNamed, endingRight, coinsApart, inTime, isPossible}

@@ -1,8 +1,6 @@
 -- What the plain ledger takes and refuses, computed: one table over a small sheet at 2 blocks per day.
 -- Assumes nothing.
-use Rattle.laws.proofs.Prelude.{ℕ, _≡_, refl, Bool, true, not, _&&_, List, [], _∷_, _++_, eqb}
-use Rattle.laws.specs.Climb.{climbIn, climb}
-use Rattle.laws.specs.Gather.{every}
+use Rattle.laws.proofs.Prelude.{ℕ, _≡_, refl, Bool, true, not, _&&_, List, [], _∷_, _++_, eqb, climbIn, climb, every}
 use Rattle.sheet.specs.Check.{sheetRefusal}
 use Rattle.sheet.proofs.Opened.{opened}
 use Rattle.ledger.specs.Entry.{Entry, before, inOrder}

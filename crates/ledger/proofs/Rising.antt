@@ -1,11 +1,7 @@
 -- Entries in order: no entry has a lower block than an earlier one.
 -- Assumes nothing.
-use Rattle.laws.proofs.Prelude.{ℕ, zero, suc, _≤_, _<_, _≡_, refl, true, _&&_, List, [], _∷_, eqb, ltb, eqb-true, ltb-true, ltb-false}
-use Rattle.laws.proofs.Prelude.{eq-eqb, lt-ltb, arith}
-use mathlib.Core.Option.{some}
-use lib.ListN.{getElem?}
-use Rattle.laws.specs.Booleans.{split, either, and-parts, or-parts}
-use Rattle.laws.specs.All.{All, empty, also, all-weaken, none-some, some-same, all-place}
+use Rattle.laws.proofs.Prelude.{ℕ, zero, suc, _≤_, _<_, _≡_, refl, true, _&&_, List, [], _∷_, eqb, ltb, eqb-true, ltb-true, ltb-false, eq-eqb, lt-ltb, arith, some}
+use Rattle.laws.proofs.Prelude.{getElem?, split, either, and-parts, or-parts, All, empty, also, all-weaken, none-some, some-same, all-place}
 use Rattle.ledger.specs.Entry.{Entry, before, inOrder}
 
 -- an entry before another is in no later block, and one of a lower number in no later block is before it

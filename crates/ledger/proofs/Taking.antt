@@ -1,9 +1,7 @@
 -- What the plain ledger takes, and what it keeps then.
 -- Assumes nothing.
-use Rattle.laws.proofs.Prelude.{ℕ, _<_, _≡_, refl, true, false, not, _&&_, List, _∷_, eqb, ltb, eqb-true, ltb-true, eq-eqb, lt-ltb}
-use Rattle.laws.proofs.Prelude.{not-true}
-use mathlib.Core.Option.{Option, none, some}
-use Rattle.laws.specs.Booleans.{split, clash, and-parts}
+use Rattle.laws.proofs.Prelude.{ℕ, _<_, _≡_, refl, true, false, not, _&&_, List, _∷_, eqb, ltb, eqb-true, ltb-true, eq-eqb, lt-ltb, not-true, Option, none, some, split}
+use Rattle.laws.proofs.Prelude.{clash, and-parts}
 use Rattle.sheet.specs.Field.{parent, opening}
 use Rattle.ledger.specs.Entry.{Entry}
 use Rattle.ledger.specs.Coin.{coinOf}

@@ -1,10 +1,6 @@
 -- Some open steps and a row, written out.
 -- Assumes nothing.
-use Rattle.laws.proofs.Prelude.{ℕ, _≡_, refl, List, [], _∷_}
-use Rattle.laws.specs.Gather.{gather}
-use Rattle.laws.specs.Mask.{bit}
-use Rattle.laws.specs.Little.{bytesOf}
-use Rattle.laws.specs.Sum.{sumBelow, bitsBelow}
+use Rattle.laws.proofs.Prelude.{ℕ, _≡_, refl, List, [], _∷_, gather, bit, bytesOf, sumBelow, bitsBelow}
 use Rattle.output.specs.Forms.Emitted.{emitted, emittedAt, opensBelow, opensLast, belowBytes, lastBytes, kindBytes, actorBytes, openCount}
 use Rattle.output.specs.Forms.Row.{rowBytes}
 

@@ -1,12 +1,8 @@
 -- The four destinations of a kind and a transaction byte.
 -- Assumes nothing.
-use Rattle.laws.proofs.Prelude.{ℕ, _+_, _*_, _/_, _^_, _<_, _≡_, refl, sym, ap, _∙_, fun-ext, Bool, false, List, [], _∷_, getD, arith}
-use native.Mathlib.Nat.{add-zero, one-mul, one-le-pow, div-lt-iff-lt-mul}
-use lib.Bits.{bitOr}
-use Rattle.laws.specs.Booleans.{or-neither}
-use Rattle.laws.specs.Bits.{bit-or, no-bit, bit-above}
-use Rattle.laws.specs.Gather.{gather, gather-empty}
-use Rattle.laws.specs.Mask.{bit}
+use Rattle.laws.proofs.Prelude.{ℕ, _+_, _*_, _/_, _^_, _<_, _≡_, refl, sym, ap, _∙_, fun-ext, Bool, false, List, [], _∷_, getD, arith, add-zero, one-mul, bitOr}
+use Rattle.laws.proofs.Prelude.{or-neither, bit-or, no-bit, bit-above, gather, gather-empty, bit}
+use native.Mathlib.Nat.{one-le-pow, div-lt-iff-lt-mul}
 use Rattle.output.specs.Forms.Emitted.{emitted, emittedAt, opens, opensFor, opensBelow, opensLast, belowBytes, lastBytes}
 
 -- four tests in a list

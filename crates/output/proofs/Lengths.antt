@@ -1,13 +1,9 @@
 -- How long the bytes of open steps and of a row are.
 -- Assumes nothing.
-use Rattle.laws.proofs.Prelude.{ℕ, _+_, _*_, _≤_, _≡_, refl, sym, ap, _∙_, Bool, true, false, false≢true, List, length, getD, length-append}
-use Rattle.laws.proofs.Prelude.{arith}
+use Rattle.laws.proofs.Prelude.{ℕ, _+_, _*_, _≤_, _≡_, refl, sym, ap, _∙_, Bool, true, false, false≢true, List, length, getD, length-append, arith, ap₂, pick, gather}
+use Rattle.laws.proofs.Prelude.{bit, sumBelow, bitsBelow, sum-same, sum-both, sum-swap, sum-bound, length-gathered}
 use native.Mathlib.Nat.{mul-add}
-use mathlib.Core.Path.{ap₂}
-use Rattle.laws.specs.Booleans.{pick}
-use Rattle.laws.specs.Gather.{gather}
-use Rattle.laws.specs.Mask.{bit}
-use Rattle.laws.specs.Sum.{sumBelow, bitsBelow, sum-same, sum-both, sum-times, sum-swap, sum-groups, sum-bound, length-gathered, bits-bound}
+use Rattle.laws.specs.Sum.{sum-times, sum-groups, bits-bound}
 use Rattle.slots.specs.Destination.{destinations, placeOf}
 use Rattle.output.specs.Forms.Emitted.{emitted, emittedAt, opensBelow, opensLast, belowBytes, lastBytes, kindBytes, actorBytes, openCount, places}
 

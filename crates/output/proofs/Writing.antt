@@ -1,13 +1,11 @@
 -- Buffers written from the front: a list copied byte by byte, and a loop whose turns write a whole, each what its state says.
 -- Assumes nothing.
-use Rattle.laws.proofs.Prelude.{ℕ, zero, suc, _+_, _-_, _≤_, _<_, _≡_, refl, sym, ap, _∙_, List, [], _∷_, _++_, append-assoc, append-nil}
-use Rattle.laws.proofs.Prelude.{length, getD, take, drop, set, length-append, length-set, arith}
-use native.Mathlib.Nat.{not-suc-le-zero, le-of-suc-le-suc}
+use Rattle.laws.proofs.Prelude.{ℕ, zero, suc, _+_, _-_, _≤_, _<_, _≡_, refl, sym, ap, _∙_, List, [], _∷_, _++_, append-assoc, append-nil, length, getD, take, drop, set}
+use Rattle.laws.proofs.Prelude.{length-append, length-set, arith, not-suc-le-zero, le-of-suc-le-suc, over, over-none, Wrote, wrote-room, wrote-more, front-fits}
 use native.Mathlib.Numerals.{add-one}
 use lib.Seq.{take-length}
 use borrow.Rule.Slice.PartMut.{putMid}
-use Rattle.laws.specs.Over.{over, over-none}
-use Rattle.laws.specs.Wrote.{Wrote, wrote-none, wrote-room, wrote-more, front-fits}
+use Rattle.laws.specs.Wrote.{wrote-none}
 
 -- ---- a list is copied from the front: the first i elements stand
 pub record Copied (f l₀ l : List ℕ) (i : ℕ) : Type 0 where

@@ -1,14 +1,8 @@
 -- A mined block and a bump over sets are those of the rules.
 -- Assumes nothing.
-use Rattle.laws.proofs.Prelude.{ℕ, zero, suc, _+_, _≤_, _<_, _≡_, refl, sym, ap, _∙_, Bool, true, false, not, _&&_, _||_, List, [], _∷_}
-use Rattle.laws.proofs.Prelude.{eqb, ltb, getD, eqb-true, ltb-false, arith}
+use Rattle.laws.proofs.Prelude.{ℕ, zero, suc, _+_, _≤_, _<_, _≡_, refl, sym, ap, _∙_, Bool, true, false, not, _&&_, _||_, List, [], _∷_, eqb, ltb, getD, eqb-true}
+use Rattle.laws.proofs.Prelude.{ltb-false, arith, bitOr, bit-or, no-bit, split, or-neither, rewriteFirst, bit, setBelow, set-bit}
 use mathlib.Core.Bool.{and-assoc}
-use lib.Bits.{bitOr}
-use Rattle.laws.specs.Bits.{bit-or, no-bit}
-use Rattle.laws.specs.Booleans.{split, or-neither}
-use Rattle.laws.specs.Each.{rewriteFirst}
-use Rattle.laws.specs.Mask.{bit}
-use Rattle.laws.specs.Sets.{setBelow, set-bit}
 use Rattle.sheet.specs.Field.{count}
 use Rattle.slots.specs.Conflict.{conflictIn, otherConflictIn}
 use Rattle.slots.specs.Forms.Conflict.{foundIn}

@@ -1,11 +1,7 @@
 -- A position whose slots are changed: what each slot is afterwards.
 -- Assumes nothing.
-use Rattle.laws.proofs.Prelude.{ℕ, _≤_, _<_, _≡_, refl, sym, ap, _∙_, false, List, eqb, ltb, length, getD, length-set, eqb-true, eqb-false}
-use Rattle.laws.proofs.Prelude.{ltb-true, ltb-false, arith}
-use lib.ListN.{List·getD-eq-default}
-use lib.Seq.{getD-set-same, getD-set-other, set-out}
-use Rattle.laws.specs.Booleans.{pick, split}
-use Rattle.laws.specs.Each.{rewriteFirst, length-rewriteFirst, rewritten, not-rewritten}
+use Rattle.laws.proofs.Prelude.{ℕ, _≤_, _<_, _≡_, refl, sym, ap, _∙_, false, List, eqb, ltb, length, getD, length-set, eqb-true, eqb-false, ltb-true, ltb-false, arith}
+use Rattle.laws.proofs.Prelude.{List·getD-eq-default, getD-set-same, getD-set-other, set-out, pick, split, rewriteFirst, length-rewriteFirst, rewritten, not-rewritten}
 use Rattle.sheet.specs.Field.{count}
 use Rattle.slots.specs.declared.Slot.{Slot}
 use Rattle.slots.specs.Slot.{emptySlot}

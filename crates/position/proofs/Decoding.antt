@@ -1,8 +1,7 @@
 -- What four bytes that decode to a step tell: they are the step's, and they are in range.
 -- Assumes nothing.
-use Rattle.laws.proofs.Prelude.{ℕ, _≤_, _<_, _≡_, refl, sym, Bool, true, _&&_, List, [], _∷_, _⊎_, inl, inr, eqb, ltb, lit<, lit≤, length}
-use Rattle.laws.proofs.Prelude.{getD, eqb-true, ltb-true, arith}
-use Rattle.laws.specs.Booleans.{pick, split, either, and-parts, or-parts}
+use Rattle.laws.proofs.Prelude.{ℕ, _≤_, _<_, _≡_, refl, sym, Bool, true, _&&_, List, [], _∷_, _⊎_, inl, inr, eqb, ltb, lit<, lit≤, length, getD, eqb-true, ltb-true}
+use Rattle.laws.proofs.Prelude.{arith, pick, split, either, and-parts, or-parts}
 use Rattle.sheet.specs.Field.{count, signatures}
 use Rattle.slots.specs.declared.Destination.{Destination}
 use Rattle.slots.specs.declared.Destination.the-variants.{Alice, Bob, Contract, Carol}

@@ -1,16 +1,10 @@
 -- The bumps that are owed are those of the pool that wait outside the block and can have a deadline, and the soonest deadline is one of theirs.
 -- Assumes nothing.
-use Rattle.laws.proofs.Prelude.{ℕ, _+_, _-_, _≤_, _<_, _≡_, refl, sym, ap, _∙_, Bool, true, false, _&&_, and-false, List, eqb, ltb, length, eq-eqb}
-use Rattle.laws.proofs.Prelude.{ne-eqb, arith}
+use Rattle.laws.proofs.Prelude.{ℕ, _+_, _-_, _≤_, _<_, _≡_, refl, sym, ap, _∙_, Bool, true, false, _&&_, and-false, List, eqb, ltb, length, eq-eqb, ne-eqb, arith}
+use Rattle.laws.proofs.Prelude.{and-true, bitAnd, pick, split, anyBelow, any-same, any-all-false, leastBelow, least-start, least-more, least-same, bit, bit-and, no-bit}
+use Rattle.laws.proofs.Prelude.{set-bit, bit-outside}
 use Prim.Native.Nat.{min}
-use mathlib.Core.Bool.{and-true}
-use lib.Bits.{bitAnd}
-use Rattle.laws.specs.Booleans.{pick, split}
-use Rattle.laws.specs.Below.{anyBelow, any-same, any-all-false}
-use Rattle.laws.specs.Least.{leastBelow, least-start, least-more, least-same, least-upto}
-use Rattle.laws.specs.Mask.{bit}
-use Rattle.laws.specs.Bits.{bit-and, no-bit}
-use Rattle.laws.specs.Sets.{set-bit, bit-outside}
+use Rattle.laws.specs.Least.{least-upto}
 use Rattle.sheet.specs.Field.{count}
 use Rattle.sheet.specs.Setup.{perDay}
 use Rattle.sheet.specs.LockHeight.{never}

@@ -1,10 +1,7 @@
 -- A mined block with nothing in it alters nothing but the number of blocks.
 -- Assumes nothing.
-use Rattle.laws.proofs.Prelude.{ℕ, _+_, _≤_, _<_, _≡_, sym, _∙_, false, List}
+use Rattle.laws.proofs.Prelude.{ℕ, _+_, _≤_, _<_, _≡_, sym, _∙_, false, List, clash, fails-by, no-bit, set-bit}
 use Rattle.laws.specs.Each.{rewrite-kept}
-use Rattle.laws.specs.Booleans.{clash, fails-by}
-use Rattle.laws.specs.Bits.{no-bit}
-use Rattle.laws.specs.Sets.{set-bit}
 use Rattle.sheet.specs.Field.{count}
 use Rattle.slots.specs.Slot.{emptySlot, standing}
 use Rattle.slots.specs.Ancestry.{meetsOther}

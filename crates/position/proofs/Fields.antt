@@ -1,7 +1,6 @@
 -- What right fields tell of a step of each kind, for the methods.
 -- Assumes nothing.
-use Rattle.laws.proofs.Prelude.{ℕ, _≤_, _<_, _≡_, true, not, _&&_, List, eqb, ltb, eqb-true, ltb-true, not-true, arith}
-use Rattle.laws.specs.Booleans.{either, and-parts, or-parts, or-right}
+use Rattle.laws.proofs.Prelude.{ℕ, _≤_, _<_, _≡_, true, not, _&&_, List, eqb, ltb, eqb-true, ltb-true, not-true, arith, either, and-parts, or-parts, or-right}
 use Rattle.sheet.specs.Field.{count}
 use Rattle.sheet.specs.Setup.{conduct}
 use Rattle.sheet.specs.Checked.{Fit}

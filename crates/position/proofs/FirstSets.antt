@@ -1,11 +1,7 @@
 -- The first shares, gone through as the members of a set.
 -- Assumes nothing.
-use Rattle.laws.proofs.Prelude.{ℕ, zero, suc, _+_, _-_, _≤_, _<_, _≡_, refl, sym, _∙_, Bool, true, false, not, _||_, List, [], _∷_, _++_}
-use Rattle.laws.proofs.Prelude.{eqb, ltb, set, ltb-true, arith}
-use Rattle.laws.specs.Below.{allBelow, all-at}
-use Rattle.laws.specs.Booleans.{pick, split}
-use Rattle.laws.specs.Gather.{every}
-use Rattle.laws.specs.Mask.{bit}
+use Rattle.laws.proofs.Prelude.{ℕ, zero, suc, _+_, _-_, _≤_, _<_, _≡_, refl, sym, _∙_, Bool, true, false, not, _||_, List, [], _∷_, _++_, eqb, ltb, set, ltb-true, arith}
+use Rattle.laws.proofs.Prelude.{allBelow, all-at, pick, split, every, bit}
 use Rattle.slots.specs.declared.Slot.{Slot}
 use Rattle.slots.specs.Destination.{alice, contract}
 use Rattle.slots.specs.Forms.Next.{Next}

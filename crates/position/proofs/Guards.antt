@@ -1,11 +1,8 @@
 -- Conduct over the guards of a position is that of the rules.
 -- Assumes nothing.
-use Rattle.laws.proofs.Prelude.{ℕ, _≤_, _<_, _≡_, refl, sym, ap, _∙_, Bool, true, false, not, _&&_, _||_, and-false, List, eqb, ltb, length}
-use Rattle.laws.proofs.Prelude.{eqb-true, ne-eqb, arith}
-use mathlib.Core.Bool.{and-true, Bool·not-not}
-use Rattle.laws.specs.Booleans.{split}
-use Rattle.laws.specs.Below.{anyBelow, any-same, any-found, any-done}
-use Rattle.laws.specs.Mask.{bit}
+use Rattle.laws.proofs.Prelude.{ℕ, _≤_, _<_, _≡_, refl, sym, ap, _∙_, Bool, true, false, not, _&&_, _||_, and-false, List, eqb, ltb, length, eqb-true, ne-eqb, arith}
+use Rattle.laws.proofs.Prelude.{and-true, split, anyBelow, any-same, any-found, any-done, bit}
+use mathlib.Core.Bool.{Bool·not-not}
 use Rattle.sheet.specs.Field.{count}
 use Rattle.sheet.specs.Setup.{conduct}
 use Rattle.sheet.specs.Checked.{Checked}

@@ -24,3 +24,4 @@ pub mod ReportLengths
 pub mod Passing
 pub mod Renewed
 pub mod SeenAfter
+pub mod Rules

@@ -1,8 +1,7 @@
 -- The tests of kinds 5, 6 and 7 over a view are those of the rules.
 -- Assumes nothing.
-use Rattle.laws.proofs.Prelude.{ℕ, _≤_, _<_, _≡_, ap, _∙_, Bool, List}
-use Rattle.laws.specs.Failing.{firstFailing}
-use Rattle.laws.specs.Sets.{set-bit, set-some}
+use Rattle.laws.proofs.Prelude.{ℕ, _≤_, _<_, _≡_, ap, _∙_, Bool, List, firstFailing, set-bit}
+use Rattle.laws.specs.Sets.{set-some}
 use Rattle.sheet.specs.Field.{count, parent}
 use Rattle.sheet.specs.Setup.{perDay}
 use Rattle.sheet.specs.Checked.{Checked}

@@ -1,12 +1,8 @@
 -- A transaction that is neither in the pool nor in the block: a mined block and a bump leave its slot as it is; so does a block that
 -- strikes nobody, of one that is not in it.
 -- Assumes nothing.
-use Rattle.laws.proofs.Prelude.{ℕ, _≤_, _<_, _≡_, sym, ap, _∙_, false, _||_, List, eqb, eqb-true, ltb-false, arith}
-use lib.Bits.{bitOr}
-use Rattle.laws.specs.Booleans.{split, or-neither}
-use Rattle.laws.specs.Mask.{bit}
-use Rattle.laws.specs.Bits.{bit-or}
-use Rattle.laws.specs.Sets.{setBelow, set-bit}
+use Rattle.laws.proofs.Prelude.{ℕ, _≤_, _<_, _≡_, sym, ap, _∙_, false, _||_, List, eqb, eqb-true, ltb-false, arith, bitOr, split, or-neither, bit, bit-or, setBelow}
+use Rattle.laws.proofs.Prelude.{set-bit}
 use Rattle.sheet.specs.Field.{count}
 use Rattle.slots.specs.declared.Slot.{Slot}
 use Rattle.slots.specs.Slot.{standing}

@@ -1,14 +1,7 @@
 -- One name that opens every definition of the rules, for proofs by computation: `unfolding opened`.
 -- Assumes nothing.
 use Rattle.sheet.proofs.Opened as sheet
-use mathlib.Core.List.{flatMap}
-use Rattle.laws.specs.Climb.{climbIn, climb}
-use Rattle.laws.specs.Each.{rewriteFirst}
-use Rattle.laws.specs.Least.{leastBelow}
-use Rattle.laws.specs.Mask.{bit, subset, without, unionBelow}
-use Rattle.laws.specs.Gather.{gather, every}
-use Rattle.laws.specs.Little.{bytesOf, numberAt}
-use Rattle.laws.specs.Over.{over}
+use Rattle.laws.proofs.Prelude.{flatMap, climbIn, climb, rewriteFirst, leastBelow, bit, subset, without, unionBelow, gather, every, bytesOf, numberAt, over}
 use Rattle.ledger.specs.Entry.{before, inOrder}
 use Rattle.ledger.specs.Coin.{coinOf}
 use Rattle.ledger.specs.Ledger.{noneKept, lockFrom, fits, keep, enter, ledger, entryHolder, ledgerHolder}

@@ -1,10 +1,7 @@
 -- A method that stores a slot, or keys, whether or not it refuses: where it does, what stood there is stored again.
 -- Assumes nothing.
-use Rattle.laws.proofs.Prelude.{ℕ, zero, suc, _+_, _^_, _≡_, refl, sym, ap, _∙_, Bool, true, _&&_, _||_, List, [], _∷_, eqb, length, getD}
-use Rattle.laws.proofs.Prelude.{set, eqb-true, eqb-false, eq-eqb, ne-eqb}
-use lib.Bits.{bitOr}
-use Rattle.laws.specs.Booleans.{pick, split}
-use Rattle.laws.specs.Failing.{firstFailing}
+use Rattle.laws.proofs.Prelude.{ℕ, zero, suc, _+_, _^_, _≡_, refl, sym, ap, _∙_, Bool, true, _&&_, _||_, List, [], _∷_, eqb, length, getD, set, eqb-true, eqb-false}
+use Rattle.laws.proofs.Prelude.{eq-eqb, ne-eqb, bitOr, pick, split, firstFailing}
 use Rattle.sheet.specs.Refusal.{accepted}
 use Rattle.sheet.specs.Field.{count, parent}
 use Rattle.sheet.specs.Setup.{conduct}

@@ -1,9 +1,7 @@
 -- The answer of a call that writes if it fits, case by case: its number, its count and its buffer.
 -- Assumes nothing.
-use Rattle.laws.proofs.Prelude.{ℕ, _≤_, _<_, _≡_, _∙_, List, eqb, leb, lit<, length, take, eqb-true, eqb-false, leb-true, leb-false, eq-eqb}
-use Rattle.laws.proofs.Prelude.{ne-eqb, le-leb, lt-leb, arith}
-use Rattle.laws.specs.Booleans.{split}
-use Rattle.laws.specs.Over.{over, take-over}
+use Rattle.laws.proofs.Prelude.{ℕ, _≤_, _<_, _≡_, _∙_, List, eqb, leb, lit<, length, take, eqb-true, eqb-false, leb-true, leb-false, eq-eqb, ne-eqb, le-leb, lt-leb}
+use Rattle.laws.proofs.Prelude.{arith, split, over, take-over}
 use Rattle.sheet.specs.Refusal.{accepted, bufferShort}
 use Rattle.position.specs.declared.Ran.{Ran}
 use Rattle.position.specs.Answers.{Written, fitted, passOn}

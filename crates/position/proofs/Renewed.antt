@@ -1,17 +1,13 @@
 -- The view carried over a step: outside a set the slots stay as they are, and no confirmation and no shared signature goes. It is made
 -- over all members of the set, or over its only one, or where it has none of what is kept.
 -- Assumes nothing.
-use Rattle.laws.proofs.Prelude.{ℕ, zero, suc, _+_, _^_, _≤_, _<_, _≡_, refl, sym, ap, _∙_, Bool, true, false, not, _&&_, and-false, List}
-use Rattle.laws.proofs.Prelude.{eqb, ltb, eqb-true, eqb-false, ltb-true, ltb-false, eq-eqb, ne-eqb, lt-ltb, le-ltb, arith}
-use native.Mathlib.Nat.{eq-or-lt-of-le, le-of-suc-le-suc, le-antisymm}
+use Rattle.laws.proofs.Prelude.{ℕ, zero, suc, _+_, _^_, _≤_, _<_, _≡_, refl, sym, ap, _∙_, Bool, true, false, not, _&&_, and-false, List, eqb, ltb, eqb-true, eqb-false}
+use Rattle.laws.proofs.Prelude.{ltb-true, ltb-false, eq-eqb, ne-eqb, lt-ltb, le-ltb, arith, eq-or-lt-of-le, le-of-suc-le-suc, le-antisymm, and-true, bitOr, pick, split}
+use Rattle.laws.proofs.Prelude.{either, clash, bit, unionBelow, no-bit, joined, removed, setBelow, set-same, bit-joined}
 use native.Mathlib.Numerals.{add-one}
-use mathlib.Core.Bool.{and-true}
-use lib.Bits.{bitOr, or-self}
+use lib.Bits.{or-self}
 use lib.Pow.{pow-lt, pow-mono}
-use Rattle.laws.specs.Booleans.{pick, split, either, clash}
-use Rattle.laws.specs.Mask.{bit, unionBelow}
-use Rattle.laws.specs.Bits.{no-bit}
-use Rattle.laws.specs.Sets.{joined, removed, setBelow, set-same, set-outside, bit-joined, bit-removed}
+use Rattle.laws.specs.Sets.{set-outside, bit-removed}
 use Rattle.laws.specs.Unions.{or-assoc, set-grown, union-grown, union-same}
 use Rattle.slots.specs.declared.Slot.{Slot}
 use Rattle.slots.specs.Slot.{sharedAny}

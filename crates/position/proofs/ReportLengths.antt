@@ -1,8 +1,6 @@
 -- The lengths of a report and of its rows.
 -- Assumes nothing.
-use Rattle.laws.proofs.Prelude.{ℕ, _*_, _≤_, _≡_, List, length, length-append}
-use Rattle.laws.specs.Gather.{gather, length-gather}
-use Rattle.laws.specs.Little.{length-bytes}
+use Rattle.laws.proofs.Prelude.{ℕ, _*_, _≤_, _≡_, List, length, length-append, gather, length-gather, length-bytes}
 use Rattle.sheet.specs.Field.{count}
 use Rattle.readings.specs.Reported.{rowWidth}
 use Rattle.position.specs.declared.Position.{Position}

@@ -1,7 +1,6 @@
 -- A loop over the members of a set that rewrites their slots, where the others would stay: a mined block's and a bump's.
 -- Assumes nothing.
-use Rattle.laws.proofs.Prelude.{ℕ, _+_, _≤_, _≡_, refl, _∙_, List, length, set, length-set}
-use Rattle.laws.specs.Each.{rewriteFirst, rewrite-start, rewrite-again, rewrite-done}
+use Rattle.laws.proofs.Prelude.{ℕ, _+_, _≤_, _≡_, refl, _∙_, List, length, set, length-set, rewriteFirst, rewrite-start, rewrite-again, rewrite-done}
 use Rattle.sheet.specs.Field.{count}
 use Rattle.slots.specs.declared.Slot.{Slot}
 use Rattle.slots.specs.Slot.{emptySlot}

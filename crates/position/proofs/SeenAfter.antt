@@ -1,21 +1,14 @@
 -- An accepted step of each kind leaves the slots outside `changedSet` as they are, so that the view carried over it is that of the position
 -- after it.
 -- Assumes nothing.
-use Rattle.laws.proofs.Prelude.{ℕ, _+_, _/_, _^_, _≤_, _<_, _≡_, refl, sym, ap, _∙_, Bool, true, false, List, [], _∷_, _⊎_, inl, inr, eqb}
-use Rattle.laws.proofs.Prelude.{ltb, length, getD, eqb-true, eqb-false, ltb-true, ltb-false, eq-eqb, ne-eqb, lt-ltb, le-ltb, arith}
+use Rattle.laws.proofs.Prelude.{ℕ, _+_, _/_, _^_, _≤_, _<_, _≡_, refl, sym, ap, _∙_, Bool, true, false, List, [], _∷_, _⊎_, inl, inr, eqb, ltb, length, getD, eqb-true}
+use Rattle.laws.proofs.Prelude.{eqb-false, ltb-true, ltb-false, eq-eqb, ne-eqb, lt-ltb, le-ltb, arith, bitOr, or-lt, List·getD-eq-default, set-out, pick, split, either}
+use Rattle.laws.proofs.Prelude.{clash, and-parts, or-neither, bit-or, bit-above, rewriteFirst, length-rewriteFirst, every, bit, removed, set-small}
 use native.Mathlib.Nat.{div-one}
 use mathlib.Core.Path.{subst}
-use lib.Bits.{bitOr, or-lt, or-self}
+use lib.Bits.{or-self}
 use lib.Count.{trailingZeros}
-use lib.ListN.{List·getD-eq-default}
 use lib.Pow.{pow-pos, pow-lt, pow-mono}
-use lib.Seq.{set-out}
-use Rattle.laws.specs.Booleans.{pick, split, either, clash, and-parts, or-neither}
-use Rattle.laws.specs.Bits.{bit-or, bit-above}
-use Rattle.laws.specs.Each.{rewriteFirst, length-rewriteFirst}
-use Rattle.laws.specs.Gather.{every}
-use Rattle.laws.specs.Mask.{bit}
-use Rattle.laws.specs.Sets.{removed, set-small}
 use Rattle.laws.specs.Unions.{or-contains, union-contains}
 use Rattle.sheet.specs.Field.{count}
 use Rattle.sheet.specs.Checked.{Fit}

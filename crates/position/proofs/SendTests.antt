@@ -1,13 +1,7 @@
 -- The tests of kinds 3 and 4 over a view are those of the rules.
 -- Assumes nothing.
-use Rattle.laws.proofs.Prelude.{ℕ, _≤_, _<_, _≡_, refl, sym, ap, _∙_, Bool, not, List, ltb, length, ltb-false, arith}
-use mathlib.Core.Path.{ap₂}
-use lib.ListN.{List·getD-eq-default}
-use Rattle.laws.specs.Booleans.{split}
-use Rattle.laws.specs.Failing.{firstFailing}
-use Rattle.laws.specs.Mask.{bit}
-use Rattle.laws.specs.Bits.{bit-or}
-use Rattle.laws.specs.Sets.{setBelow, set-bit}
+use Rattle.laws.proofs.Prelude.{ℕ, _≤_, _<_, _≡_, refl, sym, ap, _∙_, Bool, not, List, ltb, length, ltb-false, arith, ap₂, List·getD-eq-default, split, firstFailing, bit}
+use Rattle.laws.proofs.Prelude.{bit-or, setBelow, set-bit}
 use Rattle.sheet.specs.Field.{count, parent, opening}
 use Rattle.sheet.specs.Setup.{perDay}
 use Rattle.sheet.specs.LockHeight.{lockHeight}

@@ -1,10 +1,7 @@
 -- The tests of kinds 1 and 2, as the code finds them, are those of the rules.
 -- Assumes nothing.
-use Rattle.laws.proofs.Prelude.{ℕ, zero, suc, _≡_, sym, _∙_, Bool, true, false, not, _&&_, _||_, and-false, List, eqb, ltb, eqb-true}
-use Rattle.laws.proofs.Prelude.{ltb-true, ne-eqb, arith}
-use Rattle.laws.specs.Booleans.{and-parts, or-right}
-use Rattle.laws.specs.Failing.{firstFailing}
-use Rattle.laws.specs.Mask.{bit}
+use Rattle.laws.proofs.Prelude.{ℕ, zero, suc, _≡_, sym, _∙_, Bool, true, false, not, _&&_, _||_, and-false, List, eqb, ltb, eqb-true, ltb-true, ne-eqb, arith, and-parts}
+use Rattle.laws.proofs.Prelude.{or-right, firstFailing, bit}
 use Rattle.sheet.specs.Refusal.{accepted, stepConduct}
 use Rattle.slots.specs.Destination.{alice, bob}
 use Rattle.steps.specs.Names.{lockA, lockB}

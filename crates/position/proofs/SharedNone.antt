@@ -1,8 +1,7 @@
 -- A share of no signature changes nothing.
 -- Assumes nothing.
-use Rattle.laws.proofs.Prelude.{ℕ, _≡_, refl, Bool, true, false, eqb}
+use Rattle.laws.proofs.Prelude.{ℕ, _≡_, refl, Bool, true, false, eqb, pick}
 use lib.Bits.{or-zero-r}
-use Rattle.laws.specs.Booleans.{pick}
 use Rattle.slots.specs.declared.Slot.{Slot}
 use Rattle.slots.specs.Slot.{withShared}
 

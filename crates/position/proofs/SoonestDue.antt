@@ -1,11 +1,9 @@
 -- The soonest deadline ahead of those that wait outside the block: a bump is owed where the next block is it, and an empty block leaves it.
 -- Assumes nothing.
-use Rattle.laws.proofs.Prelude.{ℕ, _+_, _≤_, _<_, _≡_, refl, sym, ap, _∙_, Bool, true, false, _&&_, List, [], _∷_, eqb, ltb, getD, eqb-true, eqb-false}
-use Rattle.laws.proofs.Prelude.{ltb-true, ltb-false, lt-ltb, le-ltb, eq-eqb, ne-eqb, not-true, arith}
-use Rattle.laws.specs.Booleans.{pick, split, clash, and-parts}
-use Rattle.laws.specs.Failing.{firstFailing, passed}
-use Rattle.laws.specs.Below.{any-found, any-some, any-none}
-use Rattle.laws.specs.Least.{least-same, least-le, least-from, least-reached}
+use Rattle.laws.proofs.Prelude.{ℕ, _+_, _≤_, _<_, _≡_, refl, sym, ap, _∙_, Bool, true, false, _&&_, List, [], _∷_, eqb, ltb, getD, eqb-true, eqb-false, ltb-true}
+use Rattle.laws.proofs.Prelude.{ltb-false, lt-ltb, le-ltb, eq-eqb, ne-eqb, not-true, arith, pick, split, clash, and-parts, firstFailing, passed, any-found, any-some}
+use Rattle.laws.proofs.Prelude.{any-none, least-same, least-le, least-from}
+use Rattle.laws.specs.Least.{least-reached}
 use Rattle.sheet.specs.Field.{count}
 use Rattle.sheet.specs.LockHeight.{never}
 use Rattle.sheet.specs.Checked.{Checked}

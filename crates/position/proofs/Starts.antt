@@ -1,10 +1,8 @@
 -- The empty journal's position, slot by slot, and its view.
 -- Assumes nothing.
-use Rattle.laws.proofs.Prelude.{ℕ, zero, suc, _≡_, refl, ap, false, List, ltb, length, replicate, ltb-true, ltb-false}
-use lib.ListN.{length-replicate, getD-replicate, List·getD-eq-default}
-use Rattle.laws.specs.Booleans.{split}
-use Rattle.laws.specs.Mask.{unionBelow}
-use Rattle.laws.specs.Sets.{none-set}
+use Rattle.laws.proofs.Prelude.{ℕ, zero, suc, _≡_, refl, ap, false, List, ltb, length, replicate, ltb-true, ltb-false, getD-replicate, List·getD-eq-default, split}
+use Rattle.laws.proofs.Prelude.{unionBelow, none-set}
+use lib.ListN.{length-replicate}
 use Rattle.slots.specs.declared.Slot.{Slot}
 use Rattle.slots.specs.Slot.{emptySlot, standing, sharedAny, sharedFor}
 use Rattle.slots.specs.Forms.Expiring.{expiringSet}

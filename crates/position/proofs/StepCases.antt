@@ -1,7 +1,6 @@
 -- The two outcomes of a step of four bytes: taken, with its fields right and its tests passed, or refused.
 -- Assumes nothing.
-use Rattle.laws.proofs.Prelude.{ℕ, _≡_, refl, sym, ap, _∙_, true, false, List, _⊎_, inl, inr, eqb, eqb-true, eq-eqb, ne-eqb}
-use Rattle.laws.specs.Booleans.{split, either, clash}
+use Rattle.laws.proofs.Prelude.{ℕ, _≡_, refl, sym, ap, _∙_, true, false, List, _⊎_, inl, inr, eqb, eqb-true, eq-eqb, ne-eqb, split, either, clash}
 use Rattle.sheet.specs.Refusal.{accepted, stepField}
 use Rattle.slots.specs.declared.Step.{Step}
 use Rattle.position.specs.declared.Position.{Position}

@@ -1,10 +1,7 @@
 -- A view made one transaction after the other.
 -- Assumes nothing.
-use Rattle.laws.proofs.Prelude.{ℕ, _+_, _≤_, _≡_, List}
-use native.Mathlib.Nat.{le-antisymm}
+use Rattle.laws.proofs.Prelude.{ℕ, _+_, _≤_, _≡_, List, le-antisymm, unionBelow, setBelow}
 use native.Mathlib.Numerals.{add-one}
-use Rattle.laws.specs.Mask.{unionBelow}
-use Rattle.laws.specs.Sets.{setBelow}
 use Rattle.slots.specs.declared.Slot.{Slot}
 use Rattle.slots.specs.Forms.Expiring.{expiringSet}
 use Rattle.position.specs.declared.Position.{Position}

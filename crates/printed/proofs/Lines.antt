@@ -1,13 +1,9 @@
 -- The lines that are printed, case by case.
 -- Assumes nothing.
-use Rattle.laws.proofs.Prelude.{ℕ, suc, _≤_, _≡_, refl, sym, ap, _∙_, true, false, List, [], _∷_, eqb, lit≤, length, getD, eq-eqb, ne-eqb}
-use Rattle.laws.proofs.Prelude.{arith}
-use Rattle.laws.specs.Gather.{length-gather}
-use Rattle.sheet.specs.Refusal.{accepted}
-use Rattle.sheet.specs.Field.{count}
+use Rattle.laws.proofs.Prelude.{ℕ, suc, _≤_, _≡_, refl, sym, ap, _∙_, true, false, List, [], _∷_, eqb, lit≤, length, getD, eq-eqb, ne-eqb, arith, length-gather}
+use Rattle.position.proofs.Rules.{accepted, count, run, printedLine}
 use Rattle.position.specs.declared.Ran.{Ran}
-use Rattle.position.specs.Play.{run}
-use Rattle.position.specs.Printed.{printedLine, printedLines, printed}
+use Rattle.position.specs.Printed.{printedLines, printed}
 use Rattle.call_run.proofs.Runs.{ran-fit}
 
 module _ (s u j : List ℕ) where

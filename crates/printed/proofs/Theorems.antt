@@ -1,12 +1,8 @@
 -- What swapreport prints after its first line: what `transaction_line` reads from a report is the rules' line.
 -- Assumes nothing.
-use Rattle.laws.proofs.Prelude.{ℕ, suc, _*_, _<_, _≡_, refl, ap, _∙_, List, [], _∷_, lit<, getD, take, eq-eqb, arith}
-use Rattle.laws.specs.Gather.{gather, gather-at}
-use Rattle.sheet.specs.Refusal.{accepted}
-use Rattle.sheet.specs.Field.{count}
-use Rattle.readings.specs.Reported.{rowWidth, reportedLine}
-use Rattle.position.specs.Play.{run}
-use Rattle.position.specs.Printed.{printedLine, printedLines, printed}
+use Rattle.laws.proofs.Prelude.{ℕ, suc, _*_, _<_, _≡_, refl, ap, _∙_, List, [], _∷_, lit<, getD, take, eq-eqb, arith, gather, gather-at}
+use Rattle.position.proofs.Rules.{accepted, count, rowWidth, reportedLine, run, printedLine}
+use Rattle.position.specs.Printed.{printedLines, printed}
 use Rattle.dated.specs.Report.{reportAnswer}
 use Rattle.dated.proofs.ReportAnswers.{countsAfter, report-run, report-buffer}
 use Rattle.step_laws.proofs.Reports.{line-read}

@@ -1,29 +1,17 @@
 -- The bytes of an actor's open steps, written from their sets, are those of the list.
 -- Assumes nothing.
-use Rattle.laws.proofs.Prelude.{ℕ, zero, suc, _+_, _*_, _/_, _%_, _≤_, _<_, _≡_, refl, sym, ap, _∙_, Bool, true, false, List, [], _∷_, _++_}
-use Rattle.laws.proofs.Prelude.{append-assoc, append-nil, eqb, length, getD, replicate, lt-ltb, le-ltb, arith}
-use native.Mathlib.Numerals.{add-one}
-use native.Mathlib.Nat.{eq-or-lt-of-le, le-of-suc-le-suc}
-use mathlib.Core.Path.{ap₂}
-use mathlib.Core.List.{flatMap}
-use Rattle.laws.specs.Booleans.{split, either, clash, and-parts}
-use Rattle.laws.specs.Each.{rewritten}
-use Rattle.laws.specs.Gather.{gather, gather-empty, gather-same, length-flat, flat-append}
-use Rattle.laws.specs.Sets.{set-bit}
-use Rattle.sheet.specs.Refusal.{accepted}
-use Rattle.slots.specs.declared.Step.{Step}
-use Rattle.slots.specs.declared.Step.the-variants.{Share, Give, SendToPool, HandToMiner, Include, Mine, Bump}
-use Rattle.slots.specs.Destination.{alice, bob, carol, miner, destinations}
-use Rattle.sheet.specs.Field.{parties, partyAt, isParty}
-use Rattle.sheet.proofs.Parties.{parties-few, party-none, at-not-miner}
-use Rattle.steps.specs.declared.Decoded.{Decoded}
-use Rattle.steps.specs.declared.Decoded.the-variants.{Read, Refused}
-use Rattle.steps.specs.Decode.{noTransaction, fieldsRight, decode, stepBytes}
-use Rattle.output.specs.Forms.Emitted.{emitted, emittedAt, opensBelow, opensLast, belowBytes, lastBytes, kindBytes, actorBytes, places}
+use Rattle.laws.proofs.Prelude.{ℕ, zero, suc, _+_, _*_, _/_, _%_, _≤_, _<_, _≡_, refl, sym, ap, _∙_, Bool, true, false, List, [], _∷_, _++_, append-assoc, append-nil}
+use Rattle.laws.proofs.Prelude.{eqb, length, getD, replicate, lt-ltb, le-ltb, arith, eq-or-lt-of-le, le-of-suc-le-suc, ap₂, flatMap, split, either, clash, and-parts}
+use Rattle.laws.proofs.Prelude.{rewritten, gather, gather-empty, gather-same, set-bit}
+use Rattle.position.proofs.Rules.{accepted, Step, Share, Give, SendToPool, HandToMiner, Include, Mine, Bump, alice, bob, carol, miner, destinations, parties, partyAt}
+use Rattle.position.proofs.Rules.{Decoded, Read, Refused, noTransaction, fieldsRight, decode, stepBytes, slotCount, stepRefusal, actorAt, kinds, ifAccepted}
 use Rattle.position.specs.declared.Position.{Position}
-use Rattle.position.specs.Position.{slotCount}
-use Rattle.position.specs.StepRefusal.{stepRefusal}
-use Rattle.position.specs.Open.{actorAt, kinds, ifAccepted, openAt, openOf, actorSteps, openSteps, listBytes}
+use Rattle.position.proofs.Rules.{openAt, openOf, actorSteps, openSteps, listBytes}
+use native.Mathlib.Numerals.{add-one}
+use Rattle.laws.specs.Gather.{length-flat, flat-append}
+use Rattle.sheet.specs.Field.{isParty}
+use Rattle.sheet.proofs.Parties.{parties-few, party-none, at-not-miner}
+use Rattle.output.specs.Forms.Emitted.{emitted, emittedAt, opensBelow, opensLast, belowBytes, lastBytes, kindBytes, actorBytes, places}
 use Rattle.queries.specs.Forms.OpenSets.{isOpenRead, isOpenStep, Opens, openSet, belowSets, lastSet}
 use Rattle.position.proofs.Decoding.{length-step, decodes}
 

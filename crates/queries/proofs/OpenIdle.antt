@@ -1,26 +1,17 @@
 -- An actor that no transaction and no signature is tested for: its sets below 255 are empty.
 -- Assumes nothing.
-use Rattle.laws.proofs.Prelude.{ℕ, _+_, _/_, _%_, _<_, _≡_, refl, sym, _∙_, Bool, true, false, not, _||_, and-false, List, eqb, replicate}
-use Rattle.laws.proofs.Prelude.{eqb-true, eqb-false, ne-eqb, not-true, arith}
+use Rattle.laws.proofs.Prelude.{ℕ, _+_, _/_, _%_, _<_, _≡_, refl, sym, _∙_, Bool, true, false, not, _||_, and-false, List, eqb, replicate, eqb-true, eqb-false, ne-eqb}
+use Rattle.laws.proofs.Prelude.{not-true, arith, getD-replicate, split, either, and-parts, or-parts, firstFailing, set-start}
+use Rattle.position.proofs.Rules.{count, signatures, stealth, Fit, alice, bob, miner, destinations, isParty, Guards, View, partyMay, mayStand, givesIn}
+use Rattle.position.specs.declared.Position.{Position}
+use Rattle.position.proofs.Rules.{viewBelow}
 use lib.Bits.{and-zero-r}
-use lib.ListN.{getD-replicate}
-use Rattle.laws.specs.Booleans.{split, either, and-parts, or-parts}
 use Rattle.laws.specs.Each.{rewrite-kept}
-use Rattle.laws.specs.Failing.{firstFailing}
-use Rattle.laws.specs.Sets.{set-start}
-use Rattle.sheet.specs.Field.{count, signatures}
-use Rattle.sheet.specs.Setup.{stealth}
-use Rattle.sheet.specs.Checked.{Fit}
-use Rattle.slots.specs.Destination.{alice, bob, miner, destinations, isParty}
-use Rattle.steps.specs.declared.Guards.{Guards}
-use Rattle.steps.specs.declared.View.{View}
 use Rattle.steps.specs.Forms.Conduct.{giveAllowedIn}
 use Rattle.steps.specs.Conduct.{aliceGivesRule, bobGivesRule}
 use Rattle.steps.specs.Tests.{conductRule}
-use Rattle.readings.specs.Forms.Context.{partyMay, mayStand, destinationSets, destinationSet, sharers, senders, turnsIn, candidatesIn, givesIn}
-use Rattle.position.specs.declared.Position.{Position}
+use Rattle.readings.specs.Forms.Context.{destinationSets, destinationSet, sharers, senders, turnsIn, candidatesIn}
 use Rattle.position.specs.Forms.Guards.{guards}
-use Rattle.position.specs.Forms.View.{viewBelow}
 use Rattle.queries.specs.Forms.OpenSets.{openSet, belowSets, isIdle, contextOf}
 use Rattle.queries.proofs.OpenListed.{give-stands}
 use Rattle.queries.proofs.OpenReach.{set-upto, set-none, set-sheet, set-given}

@@ -1,26 +1,14 @@
 -- An open step by its numbers: what its fields ask for and the tests of its kind.
 -- Assumes nothing.
-use Rattle.laws.proofs.Prelude.{ℕ, _<_, _≡_, refl, sym, _∙_, true, false, _&&_, _||_, and-false, List, eqb, leb, eqb-true, eqb-false}
-use Rattle.laws.proofs.Prelude.{ne-eqb, lt-ltb, arith}
-use mathlib.Core.Bool.{or-false}
-use Rattle.laws.specs.Booleans.{split, clash, and-parts}
-use Rattle.laws.specs.Bits.{no-bit}
-use Rattle.sheet.specs.Field.{count, signatures, place, parent, payees}
-use Rattle.sheet.proofs.Parties.{party-not-miner, party-miner}
-use Rattle.sheet.specs.Refusal.{accepted}
-use Rattle.slots.specs.declared.Slot.{Slot}
-use Rattle.slots.specs.declared.Destination.{Destination}
-use Rattle.slots.specs.declared.Destination.the-variants.{Alice, Bob, Contract, Carol}
-use Rattle.slots.specs.declared.Step.{Step}
-use Rattle.slots.specs.declared.Step.the-variants.{Share, Give, SendToPool, HandToMiner, Include, Bump}
-use Rattle.slots.specs.Destination.{miner, contract, destinations, destinationNumber, isParty, isPayee, isContract}
-use Rattle.steps.specs.declared.Decoded.the-variants.{Read}
-use Rattle.steps.specs.Decode.{noTransaction, sendsTo, sharesTo, isOther, firstShareFields, fieldsRight, ofKind, spelled, rangeChecked, decode}
-use Rattle.readings.specs.declared.Context.{Context}
-use Rattle.readings.specs.Forms.Context.{shareNewIn, refusalIn, isOpenIn, partyMay, mayStand, goesTo, refusalAs, givesIn}
+use Rattle.laws.proofs.Prelude.{ℕ, _<_, _≡_, refl, sym, _∙_, true, false, _&&_, _||_, and-false, List, eqb, leb, eqb-true, eqb-false, ne-eqb, lt-ltb, arith, or-false}
+use Rattle.laws.proofs.Prelude.{split, clash, and-parts, no-bit}
+use Rattle.position.proofs.Rules.{count, signatures, place, parent, payees, accepted, Slot, Destination, Alice, Bob, Contract, Carol, Step, Share, Give, SendToPool}
+use Rattle.position.proofs.Rules.{HandToMiner, Include, Bump, miner, contract, destinations, destinationNumber, isParty, isPayee, isContract, Read, noTransaction}
+use Rattle.position.proofs.Rules.{sendsTo, sharesTo, isOther, firstShareFields, fieldsRight, ofKind, spelled, rangeChecked, decode, Context, shareNewIn, refusalIn}
+use Rattle.position.proofs.Rules.{partyMay, mayStand, givesIn, slot, blockOf, Fit}
 use Rattle.position.specs.declared.Position.{Position}
-use Rattle.position.specs.Position.{slot, blockOf}
-use Rattle.sheet.specs.Checked.{Fit}
+use Rattle.sheet.proofs.Parties.{party-not-miner, party-miner}
+use Rattle.readings.specs.Forms.Context.{isOpenIn, goesTo, refusalAs}
 use Rattle.queries.specs.Forms.OpenSets.{isOpenStep, contextOf}
 use Rattle.queries.proofs.OpenSteps.{open-seen}
 

@@ -1,30 +1,17 @@
 -- Which transaction bytes an actor's steps of a kind and a destination can have, and the sets of the open ones.
 -- Assumes nothing.
-use Rattle.laws.proofs.Prelude.{ℕ, zero, suc, _+_, _*_, _/_, _%_, _≤_, _<_, _≡_, refl, sym, ap, _∙_, Bool, true, false, not, _&&_, _||_}
-use Rattle.laws.proofs.Prelude.{and-false, List, [], _∷_, eqb, ltb, getD, eqb-true, ltb-true, ne-eqb, lt-ltb, le-ltb, not-true, not-false}
-use Rattle.laws.proofs.Prelude.{arith}
-use native.Mathlib.Nat.{eq-or-lt-of-le, le-of-suc-le-suc}
-use mathlib.Core.Bool.{and-true}
-use Rattle.laws.specs.Booleans.{split, either, clash, and-parts, or-parts, or-right}
-use Rattle.laws.specs.Sets.{joined, setBelow, set-same}
-use Rattle.sheet.specs.Field.{count, signatures, parent}
+use Rattle.laws.proofs.Prelude.{ℕ, zero, suc, _+_, _*_, _/_, _%_, _≤_, _<_, _≡_, refl, sym, ap, _∙_, Bool, true, false, not, _&&_, _||_, and-false, List, [], _∷_, eqb}
+use Rattle.laws.proofs.Prelude.{ltb, getD, eqb-true, ltb-true, ne-eqb, lt-ltb, le-ltb, not-true, not-false, arith, eq-or-lt-of-le, le-of-suc-le-suc, and-true, split}
+use Rattle.laws.proofs.Prelude.{either, clash, and-parts, or-parts, or-right, joined, setBelow, set-same}
+use Rattle.position.proofs.Rules.{count, signatures, parent, conduct, Contract, Step, Share, Give, SendToPool, HandToMiner, Include, Mine, Bump, emptySlot, miner}
+use Rattle.position.proofs.Rules.{contract, destinations, destinationNumber, isParty, isContract, Decoded, Read, Refused, Context, noTransaction, sendsTo, sharesTo}
+use Rattle.position.proofs.Rules.{firstShareFields, fieldsRight, ofKind, decode, stepBytes, shareNewIn, refusalIn, partyMay, mayStand, givesIn, slotCount, slot}
+use Rattle.position.specs.declared.Position.{Position}
+use Rattle.position.proofs.Rules.{blockOf, Fit}
 use Rattle.sheet.proofs.Parties.{party-miner}
-use Rattle.sheet.specs.Setup.{conduct}
-use Rattle.slots.specs.declared.Destination.the-variants.{Contract}
-use Rattle.slots.specs.declared.Step.{Step}
-use Rattle.slots.specs.declared.Step.the-variants.{Share, Give, SendToPool, HandToMiner, Include, Mine, Bump}
-use Rattle.slots.specs.Slot.{emptySlot}
-use Rattle.slots.specs.Destination.{miner, contract, destinations, destinationNumber, isParty, isContract}
-use Rattle.steps.specs.declared.Decoded.{Decoded}
-use Rattle.steps.specs.declared.Decoded.the-variants.{Read, Refused}
-use Rattle.readings.specs.declared.Context.{Context}
-use Rattle.steps.specs.Decode.{noTransaction, sendsTo, sharesTo, firstShareFields, fieldsRight, ofKind, decode, stepBytes}
-use Rattle.readings.specs.Forms.Context.{shareNewIn, refusalIn, partyMay, mayStand, limit, givesIn, sharesFirst, minesIn, lastIn}
+use Rattle.readings.specs.Forms.Context.{limit, sharesFirst, minesIn, lastIn}
 use Rattle.steps.proofs.RightFields.{share-listed, give-listed, pool-listed, miner-listed, include-listed, bump-listed}
 use Rattle.output.specs.Forms.Emitted.{places}
-use Rattle.position.specs.declared.Position.{Position}
-use Rattle.position.specs.Position.{slotCount, slot, blockOf}
-use Rattle.sheet.specs.Checked.{Fit}
 use Rattle.queries.specs.Forms.OpenSets.{isOpenRead, isOpenStep, openSet, belowSets, lastSet, openSets, contextOf}
 use Rattle.position.proofs.Decoding.{decodes}
 use Rattle.queries.proofs.OpenListed.{kind-open, give-open, give-stands}

@@ -1,38 +1,19 @@
 -- The refusal of a step over what is the same for all steps of its actor is that of the rules.
 -- Assumes nothing.
-use Rattle.laws.proofs.Prelude.{ℕ, _<_, _≡_, refl, sym, ap, _∙_, Bool, true, false, not, _&&_, and-false, List, [], _∷_, eqb, getD}
-use Rattle.laws.proofs.Prelude.{eqb-true, eqb-false, not-true, not-false, arith}
-use Rattle.laws.specs.Booleans.{split, and-parts}
-use Rattle.laws.specs.Below.{any-all-false}
-use Rattle.laws.specs.Failing.{firstFailing}
-use Rattle.sheet.specs.Field.{count, parent}
-use Rattle.sheet.specs.Setup.{conduct, stealth}
-use Rattle.slots.specs.declared.Slot.{Slot}
-use Rattle.slots.specs.declared.Destination.{Destination}
-use Rattle.slots.specs.declared.Step.{Step}
-use Rattle.slots.specs.declared.Step.the-variants.{Share, Give, SendToPool, HandToMiner, Include, Mine, Bump}
-use Rattle.slots.specs.Destination.{alice, bob, destinationNumber, isParty, isPayee}
-use Rattle.steps.specs.declared.Decoded.{Decoded}
-use Rattle.steps.specs.declared.Decoded.the-variants.{Read, Refused}
-use Rattle.steps.specs.declared.View.{View}
-use Rattle.steps.specs.declared.Guards.{Guards}
-use Rattle.steps.specs.Decode.{noTransaction, fieldsRight, decode, stepBytes}
-use Rattle.steps.specs.Conduct.{maySend}
-use Rattle.steps.specs.Forms.View.{keysIn}
+use Rattle.laws.proofs.Prelude.{ℕ, _<_, _≡_, refl, sym, ap, _∙_, Bool, true, false, not, _&&_, and-false, List, [], _∷_, eqb, getD, eqb-true, eqb-false, not-true}
+use Rattle.laws.proofs.Prelude.{not-false, arith, split, and-parts, any-all-false, firstFailing}
+use Rattle.position.proofs.Rules.{count, parent, conduct, stealth, Slot, Destination, Step, Share, Give, SendToPool, HandToMiner, Include, Mine, Bump, alice, bob}
+use Rattle.position.proofs.Rules.{destinationNumber, isParty, isPayee, Decoded, Read, Refused, View, Guards, noTransaction, fieldsRight, decode, stepBytes, maySend}
+use Rattle.position.proofs.Rules.{keysIn, shareNewIn, refusalIn, slot, blockOf, keys, holds, marked, viewBelow, shareMet, shareTests, giveMet, giveTests}
+use Rattle.position.specs.declared.Position.{Position}
+use Rattle.position.proofs.Rules.{sendTests, poolTests, minerTests, bumpTests, isOpen, isCareful, phase, canPay, sendAllowed, payingPasses, payingFirst, conductAllows}
+use Rattle.position.proofs.Rules.{firstSharesMade, anyOwed, Fit, stepRefusal}
 use Rattle.steps.specs.Forms.Conduct.{sendHeldIn}
 use Rattle.steps.specs.Forms.Sharing.{shareMetIn}
-use Rattle.readings.specs.Forms.Context.{shareNewIn, refusalIn, isOpenIn}
+use Rattle.readings.specs.Forms.Context.{isOpenIn}
 use Rattle.steps.proofs.RightFields.{share-listed, pool-listed, miner-listed, include-listed, bump-listed}
-use Rattle.position.specs.declared.Position.{Position}
-use Rattle.position.specs.Position.{slot, blockOf, keys, holds, marked}
-use Rattle.position.specs.Forms.View.{viewBelow}
-use Rattle.position.specs.Tests.{shareMet, shareTests, giveMet, giveTests, sendTests, poolTests, minerTests, bumpTests}
-use Rattle.position.specs.Conduct.{isOpen, isCareful, phase, canPay, sendAllowed, payingPasses, payingFirst, conductAllows}
 use Rattle.position.specs.Forms.Guards.{guards}
-use Rattle.position.specs.FirstShares.{firstSharesMade}
-use Rattle.position.specs.Owed.{anyOwed}
-use Rattle.sheet.specs.Checked.{Fit}
-use Rattle.position.specs.StepRefusal.{tests, stepRefusal}
+use Rattle.position.specs.StepRefusal.{tests}
 use Rattle.queries.specs.Forms.OpenSets.{isOpenRead, isOpenStep, isPaying, contextOf}
 use Rattle.position.proofs.Decoding.{decodes}
 use Rattle.position.proofs.Guards.{careful-guards, share-guards, give-guards, held-guards}

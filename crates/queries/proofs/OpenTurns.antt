@@ -1,39 +1,22 @@
 -- A set of open steps from the transactions that are tested: the others cannot be open.
 -- Assumes nothing.
-use Rattle.laws.proofs.Prelude.{ℕ, _+_, _<_, _≡_, refl, sym, _∙_, Bool, true, false, _&&_, _||_, and-false, List, eqb, leb, length}
-use Rattle.laws.proofs.Prelude.{eqb-true, eqb-false, ne-eqb, arith}
-use mathlib.Core.Bool.{Bool·beq}
-use Rattle.laws.specs.Below.{allBelow, all-at}
-use Rattle.laws.specs.Bits.{bit-and, no-bit}
-use Rattle.laws.specs.Booleans.{pick, split, clash, and-parts, beq-same}
-use Rattle.laws.specs.Failing.{firstFailing}
-use Rattle.laws.specs.Mask.{bit}
-use Rattle.laws.specs.Sets.{joined, setBelow, set-bit, set-start, set-more}
-use Rattle.sheet.specs.Field.{count, parent}
-use Rattle.sheet.specs.Refusal.{accepted, stepConflict, stepParent, stepPool}
-use Rattle.sheet.specs.Setup.{perDay, stealth}
-use Rattle.slots.specs.declared.Slot.{Slot}
-use Rattle.slots.specs.Destination.{alice, bob, miner, destinations, isParty}
+use Rattle.laws.proofs.Prelude.{ℕ, _+_, _<_, _≡_, refl, sym, _∙_, Bool, true, false, _&&_, _||_, and-false, List, eqb, leb, length, eqb-true, eqb-false, ne-eqb, arith}
+use Rattle.laws.proofs.Prelude.{Bool·beq, allBelow, all-at, bit-and, no-bit, pick, split, clash, and-parts, beq-same, firstFailing, bit, joined, setBelow, set-bit}
+use Rattle.laws.proofs.Prelude.{set-start, set-more}
+use Rattle.position.proofs.Rules.{count, parent, accepted, stepConflict, stepParent, perDay, stealth, Slot, alice, bob, miner, destinations, isParty, Guards}
+use Rattle.position.proofs.Rules.{noTransaction, success, maySend, noConflict, hasParent, Context, mayStand, slot, blockOf, sinceIn, Fit}
+use Rattle.position.specs.declared.Position.{Position}
+use Rattle.sheet.specs.Refusal.{stepPool}
 use Rattle.slots.specs.Forms.Next.{Next}
-use Rattle.steps.specs.declared.Guards.{Guards}
-use Rattle.steps.specs.Decode.{noTransaction}
 use Rattle.steps.specs.Forms.Parent.{slotAbove, blockAbove}
-use Rattle.steps.specs.Names.{success}
-use Rattle.steps.specs.Conduct.{maySend, aliceSharesRule}
+use Rattle.steps.specs.Conduct.{aliceSharesRule}
 use Rattle.steps.specs.Forms.Conduct.{shareAllowedIn, sendAllowedIn, sendHeldIn}
 use Rattle.steps.specs.Tests.{conductRule, bumpRule}
-use Rattle.slots.specs.Conflict.{noConflict}
-use Rattle.slots.specs.Ancestry.{hasParent}
 use Rattle.steps.specs.Forms.View.{placedSet}
 use Rattle.steps.specs.Forms.Sending.{sendTestsIn, poolTestsIn, minerTestsIn}
 use Rattle.steps.specs.Forms.Mining.{owedIn, includeTestsIn}
 use Rattle.readings.specs.declared.DestinationSets.{DestinationSets}
-use Rattle.readings.specs.declared.Context.{Context}
-use Rattle.readings.specs.Forms.Context.{mayStand, goesTo, refusalAs, goesSet, destinationSets, destinationSet, full, sharers, senders, turnsIn, candidatesIn}
-use Rattle.position.specs.declared.Position.{Position}
-use Rattle.position.specs.Position.{slot, blockOf}
-use Rattle.position.specs.Forms.View.{sinceIn}
-use Rattle.sheet.specs.Checked.{Fit}
+use Rattle.readings.specs.Forms.Context.{goesTo, refusalAs, goesSet, destinationSets, destinationSet, full, sharers, senders, turnsIn, candidatesIn}
 use Rattle.position.proofs.SendTests.{since-parent}
 use Rattle.queries.specs.Forms.OpenSets.{isOpenStep, contextOf}
 use Rattle.queries.proofs.OpenListed.{listed-open}

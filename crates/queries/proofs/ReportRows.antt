@@ -1,24 +1,14 @@
 -- The rows of a report over a view and single slots are those of the position.
 -- Assumes nothing.
-use Rattle.laws.proofs.Prelude.{ℕ, zero, suc, _≤_, _<_, _≡_, refl, sym, _∙_, true, List, [], _∷_, length, getD, arith}
-use native.Mathlib.Nat.{not-suc-le-zero, le-of-suc-le-suc}
-use Rattle.laws.specs.Little.{bytesOf}
-use Rattle.laws.specs.Mask.{bit}
-use Rattle.laws.specs.Sets.{setBelow, set-bit}
+use Rattle.laws.proofs.Prelude.{ℕ, zero, suc, _≤_, _<_, _≡_, refl, sym, _∙_, true, List, [], _∷_, length, getD, arith, not-suc-le-zero, le-of-suc-le-suc, bytesOf, bit}
+use Rattle.laws.proofs.Prelude.{setBelow, set-bit}
+use Rattle.position.proofs.Rules.{count, parent, never, perDay, Slot, foundIn, View, slot, inPool, inBlock, blockOf, isConfirmed, confirmedTo, lockHeightIn}
+use Rattle.position.specs.declared.Position.{Position}
+use Rattle.position.proofs.Rules.{deadlineIn, viewBelow, sinceIn, status, payee, row, fullRow}
 use Rattle.output.specs.Forms.Row.{rowBytes}
-use Rattle.sheet.specs.Field.{count, parent}
-use Rattle.sheet.specs.LockHeight.{never}
-use Rattle.sheet.specs.Setup.{perDay}
-use Rattle.slots.specs.declared.Slot.{Slot}
-use Rattle.slots.specs.Forms.Conflict.{foundIn}
 use Rattle.slots.proofs.Since.{lockHeight-since, deadline-since}
 use Rattle.readings.specs.declared.Row.{Row}
-use Rattle.steps.specs.declared.View.{View}
 use Rattle.readings.specs.Forms.Report.{statusIn, payeeIn, rowIn}
-use Rattle.position.specs.declared.Position.{Position}
-use Rattle.position.specs.Position.{slot, inPool, inBlock, blockOf, isConfirmed, confirmedTo, lockHeightIn, deadlineIn}
-use Rattle.position.specs.Forms.View.{viewBelow, sinceIn}
-use Rattle.position.specs.Report.{status, payee, row, fullRow}
 use Rattle.position.proofs.BlockSets.{set-dead}
 use Rattle.position.proofs.SendTests.{since-parent}
 

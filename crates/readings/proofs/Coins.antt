@@ -1,8 +1,6 @@
 -- The coin of a transaction: its own number for an opening, its parent's coin for a spend; it stands above the transaction.
 -- Assumes nothing.
-use Rattle.laws.proofs.Prelude.{ℕ, zero, suc, _<_, _≡_, refl, sym, _∙_, true, false, List, lt-ltb, arith}
-use Rattle.laws.specs.Booleans.{pick, split}
-use Rattle.laws.specs.Climb.{climbIn, climb, climb-step}
+use Rattle.laws.proofs.Prelude.{ℕ, zero, suc, _<_, _≡_, refl, sym, _∙_, true, false, List, lt-ltb, arith, pick, split, climbIn, climb, climb-step}
 use Rattle.sheet.specs.Field.{count, parent, opening}
 use Rattle.sheet.specs.Checked.{Checked}
 use Rattle.slots.proofs.Parents.{parent-lower, parent-below, parent-has}

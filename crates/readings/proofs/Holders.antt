@@ -1,13 +1,8 @@
 -- Holders of coins: only the sheet's transactions count, and one of them ends the coin or none does.
 -- Assumes nothing.
-use Rattle.laws.proofs.Prelude.{ℕ, zero, suc, _+_, _≤_, _<_, _≡_, refl, sym, ap, _∙_, Bool, _&&_, List, _⊎_, inl, inr, eqb, ltb, arith}
-use native.Mathlib.Nat.{le-antisymm}
+use Rattle.laws.proofs.Prelude.{ℕ, zero, suc, _+_, _≤_, _<_, _≡_, refl, sym, ap, _∙_, Bool, _&&_, List, _⊎_, inl, inr, eqb, ltb, arith, le-antisymm, pick, split, either}
+use Rattle.laws.proofs.Prelude.{any-same, bit, setBelow, set-bit, climb-step}
 use native.Mathlib.Numerals.{add-one}
-use Rattle.laws.specs.Booleans.{pick, split, either}
-use Rattle.laws.specs.Below.{any-same}
-use Rattle.laws.specs.Mask.{bit}
-use Rattle.laws.specs.Sets.{setBelow, set-bit}
-use Rattle.laws.specs.Climb.{climb-step}
 use Rattle.sheet.specs.Field.{count, parent, opening}
 use Rattle.ledger.specs.Coin.{nobody}
 use Rattle.readings.specs.Holder.{confirmedChild, endsCoin, payeeBelow, holder}

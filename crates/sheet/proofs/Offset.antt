@@ -1,7 +1,6 @@
 -- The offset's three cases are document 01's difference, and small.
 -- Assumes nothing.
-use Rattle.laws.proofs.Prelude.{ℕ, _≤_, _≡_, eqb, lit≤, eqb-true, eqb-false, arith}
-use Rattle.laws.specs.Booleans.{split}
+use Rattle.laws.proofs.Prelude.{ℕ, _≤_, _≡_, eqb, lit≤, eqb-true, eqb-false, arith, split}
 use Rattle.sheet.specs.Saswap.{offset, offsetByDifference}
 
 pub offset-difference : (d : ℕ) → 1 ≤ d → offset d ≡ offsetByDifference d

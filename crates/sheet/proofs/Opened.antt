@@ -1,8 +1,6 @@
 -- One name that opens every definition of sheets and setups, for proofs by computation: `unfolding opened`.
 -- Assumes nothing.
-use Rattle.laws.specs.Below.{allBelow, anyBelow}
-use Rattle.laws.specs.Failing.{firstFailing}
-use Rattle.laws.specs.Little.{numberAt}
+use Rattle.laws.proofs.Prelude.{allBelow, anyBelow, firstFailing, numberAt}
 use Rattle.laws.specs.Same.{same}
 use Rattle.sheet.specs.Field.{parties, count, arrays, place, partyAt, isParty, startKeys, entry, lockPair, opening}
 use Rattle.sheet.specs.Check.{headRight, countRight, within, masksRight, signaturesRight, lengthRight, parentRight, entryRight, daysRight, lockRight, hasChild, childrenRight, arrayTests, sheetTests, sheetRefusal}

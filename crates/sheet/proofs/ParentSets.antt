@@ -1,14 +1,8 @@
 -- The parents of a set: those of its members below a number, and one member more; those of all transactions.
 -- Assumes nothing.
-use Rattle.laws.proofs.Prelude.{ℕ, _+_, _≤_, _<_, _≡_, refl, sym, ap, _∙_, Bool, true, false, _&&_, _||_, and-false, List, eqb, eqb-true}
-use Rattle.laws.proofs.Prelude.{eqb-false, eq-eqb, ne-eqb, arith}
-use native.Mathlib.Nat.{le-antisymm}
-use mathlib.Core.Bool.{or-false}
-use Rattle.laws.specs.Booleans.{split}
-use Rattle.laws.specs.Below.{allBelow, all-at, anyBelow, any-next, any-same}
-use Rattle.laws.specs.Bits.{no-bit}
-use Rattle.laws.specs.Mask.{bit}
-use Rattle.laws.specs.Sets.{joined, bit-joined}
+use Rattle.laws.proofs.Prelude.{ℕ, _+_, _≤_, _<_, _≡_, refl, sym, ap, _∙_, Bool, true, false, _&&_, _||_, and-false, List, eqb, eqb-true, eqb-false, eq-eqb, ne-eqb}
+use Rattle.laws.proofs.Prelude.{arith, le-antisymm, or-false, split, allBelow, all-at, anyBelow, any-same, no-bit, bit, joined, bit-joined}
+use Rattle.laws.specs.Below.{any-next}
 use Rattle.sheet.specs.Field.{count, parent}
 use Rattle.sheet.specs.Check.{hasChild}
 use Rattle.sheet.specs.Forms.Parents.{childThere, isParentBelow, Parents, ParentAdded}

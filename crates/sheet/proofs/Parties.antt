@@ -1,8 +1,7 @@
 -- Laws of parties: their number, their places and their numbers.
 -- Assumes nothing.
-use Rattle.laws.proofs.Prelude.{ℕ, _+_, _-_, _≤_, _<_, _≡_, refl, true, false, not, List, [], _∷_, eqb, ltb, lit≤, length, eqb-false}
-use Rattle.laws.proofs.Prelude.{ltb-true, ltb-false, ne-eqb, lt-ltb, le-ltb, not-true, arith}
-use Rattle.laws.specs.Booleans.{split, and-parts}
+use Rattle.laws.proofs.Prelude.{ℕ, _+_, _-_, _≤_, _<_, _≡_, refl, true, false, not, List, [], _∷_, eqb, ltb, lit≤, length, eqb-false, ltb-true, ltb-false, ne-eqb, lt-ltb}
+use Rattle.laws.proofs.Prelude.{le-ltb, not-true, arith, split, and-parts}
 use Rattle.sheet.specs.Field.{byte, parties, arrays, miner, place, partyAt, isParty, startKeys}
 
 -- two or three

@@ -1,7 +1,6 @@
 -- What each passed check of a sheet tells.
 -- Assumes nothing.
-use Rattle.laws.proofs.Prelude.{ℕ, _+_, _*_, _≤_, _<_, _≡_, true, false, _&&_, List, eqb, leb, length, eqb-true, leb-true, lt-leb, arith}
-use Rattle.laws.specs.Booleans.{and-parts}
+use Rattle.laws.proofs.Prelude.{ℕ, _+_, _*_, _≤_, _<_, _≡_, true, false, _&&_, List, eqb, leb, length, eqb-true, leb-true, lt-leb, arith, and-parts}
 use Rattle.sheet.specs.Field.{count, arrays, signatures, Sized}
 use Rattle.sheet.proofs.Parties.{arrays-head}
 use Rattle.sheet.specs.Setup.{perDay, blocksRight}

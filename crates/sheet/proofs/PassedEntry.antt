@@ -1,9 +1,7 @@
 -- What the passed checks 5 to 8 tell of one transaction.
 -- Assumes nothing.
-use Rattle.laws.proofs.Prelude.{ℕ, _^_, _≤_, _<_, _≡_, sym, _∙_, Bool, true, false, not, _&&_, List, _⊎_, inl, inr, eqb, ltb, leb, eqb-true}
-use Rattle.laws.proofs.Prelude.{eqb-false, ltb-true, leb-true, eq-eqb, ne-eqb, not-true, arith}
-use Rattle.laws.specs.Booleans.{split, either, and-parts, or-parts, beq-same}
-use Rattle.laws.specs.Below.{any-some, any-none}
+use Rattle.laws.proofs.Prelude.{ℕ, _^_, _≤_, _<_, _≡_, sym, _∙_, Bool, true, false, not, _&&_, List, _⊎_, inl, inr, eqb, ltb, leb, eqb-true, eqb-false, ltb-true}
+use Rattle.laws.proofs.Prelude.{leb-true, eq-eqb, ne-eqb, not-true, arith, split, either, and-parts, or-parts, beq-same, any-some, any-none}
 use Rattle.sheet.specs.Field.{parties, count, signatures, parent, payees, required, veil, lockType, days, opening}
 use Rattle.sheet.specs.Check.{within, parentRight, entryRight, daysRight, lockRight, hasChild, childrenRight}
 use Rattle.sheet.specs.Checked.{LockPair, none, absolute, since, Entry}

@@ -1,8 +1,6 @@
 -- A setup whose check gives 0 has everything that the crates above want.
 -- Assumes nothing.
-use Rattle.laws.proofs.Prelude.{ℕ, _≤_, _≡_, refl, true, _&&_, _||_, List, eqb, leb, leb-true, ne-eqb, arith}
-use Rattle.laws.specs.Booleans.{and-parts}
-use Rattle.laws.specs.Failing.{testOf, passed}
+use Rattle.laws.proofs.Prelude.{ℕ, _≤_, _≡_, refl, true, _&&_, _||_, List, eqb, leb, leb-true, ne-eqb, arith, and-parts, testOf, passed}
 use Rattle.laws.specs.Same.{same-equal}
 use Rattle.sheet.specs.Saswap.{saswap}
 use Rattle.sheet.specs.Setup.{perDay, conduct, stealth, isSaswap, conductRight, setupTests, setupRefusal}

@@ -1,9 +1,6 @@
 -- A sheet whose check gives 0 has everything that the crates above want.
 -- Assumes nothing.
-use Rattle.laws.proofs.Prelude.{ℕ, _^_, _<_, _≡_, refl, true, List}
-use Rattle.laws.specs.Booleans.{and-parts}
-use Rattle.laws.specs.Below.{allBelow, all-at}
-use Rattle.laws.specs.Failing.{testOf, passed}
+use Rattle.laws.proofs.Prelude.{ℕ, _^_, _<_, _≡_, refl, true, List, and-parts, allBelow, all-at, testOf, passed}
 use Rattle.sheet.specs.Field.{parties, place, isParty, count, secrets, signatures, startMask, startKeys}
 use Rattle.sheet.specs.Check.{within, masksRight, parentRight, entryRight, lockRight, childrenRight, arrayTests, sheetTests, sheetRefusal}
 use Rattle.sheet.specs.Checked.{Checked}

@@ -1,9 +1,6 @@
 -- The SASwap sheet passes the check, and a setup for it passes under every conduct.
 -- Assumes nothing.
-use Rattle.laws.proofs.Prelude.{ℕ, _≤_, _≡_, refl, true, List, eqb, length, eqb-true, eq-eqb, le-leb, arith}
-use mathlib.Core.Bool.{or-true}
-use Rattle.laws.specs.Below.{allBelow, all-at}
-use Rattle.laws.specs.Failing.{firstFailing}
+use Rattle.laws.proofs.Prelude.{ℕ, _≤_, _≡_, refl, true, List, eqb, length, eqb-true, eq-eqb, le-leb, arith, or-true, allBelow, all-at, firstFailing}
 use Rattle.laws.specs.Same.{equal-same}
 use Rattle.sheet.specs.Field.{parties, count, signatures}
 use Rattle.sheet.specs.Check.{sheetRefusal}

@@ -1,7 +1,6 @@
 -- What is proved of sheets and setups, for all sizes together.
 -- Assumes nothing.
-use Rattle.laws.proofs.Prelude.{ℕ, _+_, _*_, _≤_, _<_, _≡_, refl, List, lit<, length}
-use Rattle.laws.specs.Failing.{answer-below}
+use Rattle.laws.proofs.Prelude.{ℕ, _+_, _*_, _≤_, _<_, _≡_, refl, List, lit<, length, answer-below}
 use Rattle.sheet.specs.Field.{parties, count, signatures}
 use Rattle.sheet.specs.Check.{arrayTests, sheetTests, sheetRefusal}
 use Rattle.sheet.specs.Saswap.{offset, offsetByDifference, saswap}

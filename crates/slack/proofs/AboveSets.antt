@@ -1,15 +1,8 @@
 -- The unconfirmed strict ancestors of a transaction, and what X knows with them.
 -- Assumes nothing.
-use Rattle.laws.proofs.Prelude.{ℕ, _<_, _≡_, sym, _∙_, true, false, not, _&&_, List, eqb, not-true}
-use Rattle.laws.specs.Booleans.{either, and-parts}
-use Rattle.laws.specs.Mask.{bit, unionBelow}
-use Rattle.laws.specs.Bits.{or-bit, union-bit}
-use Rattle.laws.specs.Sets.{set-bit}
-use Rattle.sheet.specs.Field.{count}
-use Rattle.sheet.specs.Checked.{Checked}
-use Rattle.slots.specs.Ancestry.{isSelfOrAncestor}
+use Rattle.laws.proofs.Prelude.{ℕ, _<_, _≡_, sym, _∙_, true, false, not, _&&_, List, eqb, not-true, either, and-parts, bit, unionBelow, or-bit, union-bit, set-bit}
+use Rattle.position.proofs.Rules.{count, Checked, isSelfOrAncestor, isConfirmed, keys}
 use Rattle.position.specs.declared.Position.{Position}
-use Rattle.position.specs.Position.{isConfirmed, keys}
 use Rattle.attainable.specs.Attainable.{secretsOf, shownBy, knownFrom}
 use Rattle.attainable.proofs.Masks.{or-left, or-last}
 use Rattle.attainable.proofs.Parts.{known-shared, known-member, picked-bit}

@@ -1,16 +1,9 @@
 -- What X counts on in p, up to a height, it counts on in q, up to one that is no greater, where it is not gone there.
 -- Assumes nothing.
-use Rattle.laws.proofs.Prelude.{ℕ, zero, suc, _≤_, _<_, _≡_, true, false, not, _&&_, List, inl, inr, not-true, arith}
-use lib.Bits.{bitOr}
-use Rattle.laws.specs.Booleans.{split, either, clash, and-parts, fails-by}
-use Rattle.laws.specs.Mask.{bit}
-use Rattle.laws.specs.Bits.{or-bit}
-use Rattle.sheet.specs.Field.{count}
-use Rattle.sheet.specs.LockHeight.{never}
-use Rattle.sheet.specs.Checked.{Checked}
-use Rattle.slots.specs.Destination.{isContract}
+use Rattle.laws.proofs.Prelude.{ℕ, zero, suc, _≤_, _<_, _≡_, true, false, not, _&&_, List, inl, inr, not-true, arith, bitOr, split, either, clash, and-parts, fails-by}
+use Rattle.laws.proofs.Prelude.{bit, or-bit}
+use Rattle.position.proofs.Rules.{count, never, Checked, isContract, isConfirmed}
 use Rattle.position.specs.declared.Position.{Position}
-use Rattle.position.specs.Position.{isConfirmed}
 use Rattle.soonest.proofs.Bounds.{greater-left}
 use Rattle.attainable.specs.Attainable.{gone, secretsOf}
 use Rattle.attainable.proofs.Masks.{or-left, or-last}

@@ -1,17 +1,8 @@
 -- What two positions p and q have in common where X can count on as much in q as in p, and that a rival which is late or sooner in q is so in p.
 -- Assumes nothing.
-use Rattle.laws.proofs.Prelude.{ℕ, _+_, _≤_, _<_, _≡_, refl, true, false, _&&_, _||_, List}
-use Rattle.laws.specs.Booleans.{or-neither, and-parts}
-use Rattle.laws.specs.Below.{any-some, any-found}
-use Rattle.laws.specs.Mask.{bit}
-use Rattle.sheet.specs.Field.{count, parent, opening}
-use Rattle.sheet.specs.Setup.{perDay, stealth}
-use Rattle.sheet.specs.LockHeight.{never}
-use Rattle.sheet.specs.Checked.{Checked}
-use Rattle.slots.specs.Conflict.{conflict}
-use Rattle.slots.specs.Ancestry.{hasParent}
+use Rattle.laws.proofs.Prelude.{ℕ, _+_, _≤_, _<_, _≡_, refl, true, false, _&&_, _||_, List, or-neither, and-parts, any-some, any-found, bit}
+use Rattle.position.proofs.Rules.{count, parent, opening, perDay, stealth, never, Checked, conflict, hasParent, blockOf, isConfirmed, shared}
 use Rattle.position.specs.declared.Position.{Position}
-use Rattle.position.specs.Position.{blockOf, isConfirmed, shared}
 use Rattle.soonest.specs.Soonest.{greater, sinceLocked}
 use Rattle.soonest.proofs.SoonestParents.{parent-some}
 use Rattle.attainable.specs.Attainable.{gone, attainable, attainableElsewhere}

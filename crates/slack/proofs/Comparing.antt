@@ -1,18 +1,9 @@
 -- Where two positions compare, X can count on as much in the second.
 -- Assumes nothing.
-use Rattle.laws.proofs.Prelude.{ℕ, _≤_, _<_, _≡_, true, false, not, _&&_, _||_, List, eqb, eqb-true, leb-true, le-leb, not-true, arith}
-use lib.Bits.{bitOr}
-use Rattle.laws.specs.Booleans.{split, either, clash, and-parts, or-parts, or-right, fails-by}
-use Rattle.laws.specs.Mask.{bit}
-use Rattle.laws.specs.Bits.{or-bit, subset-bit}
-use Rattle.sheet.specs.Field.{count, signatures, required}
-use Rattle.sheet.specs.Setup.{stealth}
-use Rattle.sheet.specs.Checked.{Checked}
-use Rattle.slots.specs.Destination.{isPayee, isContract}
-use Rattle.slots.specs.Conflict.{conflict}
-use Rattle.slots.specs.Signatures.{signed}
+use Rattle.laws.proofs.Prelude.{ℕ, _≤_, _<_, _≡_, true, false, not, _&&_, _||_, List, eqb, eqb-true, leb-true, le-leb, not-true, arith, bitOr, split, either, clash}
+use Rattle.laws.proofs.Prelude.{and-parts, or-parts, or-right, fails-by, bit, or-bit, subset-bit}
+use Rattle.position.proofs.Rules.{count, signatures, required, stealth, Checked, isPayee, isContract, conflict, signed, isConfirmed, shared}
 use Rattle.position.specs.declared.Position.{Position}
-use Rattle.position.specs.Position.{isConfirmed, shared}
 use Rattle.soonest.proofs.Bounds.{greater-mono}
 use Rattle.attainable.specs.Attainable.{gone}
 use Rattle.attainable.proofs.Masks.{or-left, or-last, subset-from}

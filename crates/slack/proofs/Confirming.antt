@@ -1,18 +1,10 @@
 -- What a step without X confirms was in the way of what X counted on.
 -- Assumes nothing.
-use Rattle.laws.proofs.Prelude.{ℕ, _<_, _≡_, refl, sym, _∙_, true, false, not, _&&_, List, eqb, eqb-true, eq-eqb}
-use lib.Bits.{bitOr}
-use Rattle.laws.specs.Booleans.{split, either, clash, and-parts, or-right, or-neither, fails-by}
-use Rattle.laws.specs.Below.{any-found}
-use Rattle.laws.specs.Mask.{bit}
-use Rattle.sheet.specs.Field.{count}
-use Rattle.sheet.specs.Setup.{stealth}
-use Rattle.slots.specs.Destination.{destinations, isContract}
-use Rattle.slots.specs.Conflict.{conflict}
-use Rattle.slots.specs.Invalidated.{invalidated}
-use Rattle.slots.proofs.Conflicts.{conflict-self}
+use Rattle.laws.proofs.Prelude.{ℕ, _<_, _≡_, refl, sym, _∙_, true, false, not, _&&_, List, eqb, eqb-true, eq-eqb, bitOr, split, either, clash, and-parts, or-right}
+use Rattle.laws.proofs.Prelude.{or-neither, fails-by, any-found, bit}
+use Rattle.position.proofs.Rules.{count, stealth, destinations, isContract, conflict, invalidated, inPool, poolTo, inBlock, blockTo, isConfirmed, confirmedTo}
 use Rattle.position.specs.declared.Position.{Position}
-use Rattle.position.specs.Position.{inPool, poolTo, inBlock, blockTo, isConfirmed, confirmedTo}
+use Rattle.slots.proofs.Conflicts.{conflict-self}
 use Rattle.attainable.specs.Attainable.{gone, waitsFor}
 use Rattle.slack.specs.Beaten.{destinationOf, above, canCome, canComeElsewhere, pooled, stands, waitsBefore, comesBeside, beats}
 use Rattle.slack.proofs.Onward.{Onward, Forth}

@@ -1,21 +1,10 @@
 -- What is gone: confirmed, or with another rival of its line confirmed; and that what can come is not gone.
 -- Assumes nothing.
-use Rattle.laws.proofs.Prelude.{ℕ, zero, suc, _<_, _≡_, sym, _∙_, Bool, true, false, not, _&&_, List, eqb}
-use lib.Bits.{bitOr}
-use Rattle.laws.specs.Booleans.{split, clash, and-parts}
-use Rattle.laws.specs.Below.{anyBelow, any-some}
-use Rattle.laws.specs.Mask.{bit}
-use Rattle.laws.specs.Bits.{no-bit}
-use Rattle.laws.specs.Sets.{set-bit}
-use Rattle.sheet.specs.Field.{count}
-use Rattle.sheet.specs.Setup.{stealth}
-use Rattle.sheet.specs.Checked.{Checked}
-use Rattle.slots.specs.Destination.{destinations}
-use Rattle.slots.specs.Conflict.{conflict}
-use Rattle.slots.specs.Invalidated.{invalidated}
-use Rattle.slots.proofs.Ancestors.{Above, other-find, other-met}
+use Rattle.laws.proofs.Prelude.{ℕ, zero, suc, _<_, _≡_, sym, _∙_, Bool, true, false, not, _&&_, List, eqb, bitOr, split, clash, and-parts, anyBelow, any-some, bit}
+use Rattle.laws.proofs.Prelude.{no-bit, set-bit}
+use Rattle.position.proofs.Rules.{count, stealth, Checked, destinations, conflict, invalidated, isConfirmed}
 use Rattle.position.specs.declared.Position.{Position}
-use Rattle.position.specs.Position.{isConfirmed}
+use Rattle.slots.proofs.Ancestors.{Above, other-find, other-met}
 use Rattle.attainable.specs.Attainable.{gone, comes, grown, rounds, attainable}
 use Rattle.attainable.proofs.Parts.{comes-parts}
 use Rattle.slack.specs.Beaten.{above, pooled, canCome, comesBeside, beats}

@@ -1,10 +1,7 @@
 -- What X keeps up to a height, it keeps up to each lower one.
 -- Assumes nothing.
-use Rattle.laws.proofs.Prelude.{ℕ, suc, _+_, _≤_, _≡_, true, List, arith}
-use Rattle.laws.specs.Booleans.{split, either}
-use Rattle.sheet.specs.Field.{count}
-use Rattle.sheet.specs.LockHeight.{never}
-use Rattle.sheet.specs.Checked.{Checked}
+use Rattle.laws.proofs.Prelude.{ℕ, suc, _+_, _≤_, _≡_, true, List, arith, split, either}
+use Rattle.position.proofs.Rules.{count, never, Checked}
 use Rattle.position.specs.declared.Position.{Position}
 use Rattle.slack.specs.Kept.{knownAt, good, paid, keptTo, kept}
 use Rattle.slack.proofs.SamePosition.{steady-same}

@@ -1,13 +1,9 @@
 -- A transaction whose parent is confirmed, or none: the parts of that test, and that it stays so.
 -- Assumes nothing.
-use Rattle.laws.proofs.Prelude.{ℕ, _<_, _≡_, true, false, List}
-use Rattle.laws.specs.Booleans.{split, or-right, or-neither}
-use Rattle.sheet.specs.Field.{count, parent, opening}
-use Rattle.sheet.specs.Checked.{Checked}
-use Rattle.slots.specs.Ancestry.{hasParent}
-use Rattle.slots.proofs.Parents.{parent-below}
+use Rattle.laws.proofs.Prelude.{ℕ, _<_, _≡_, true, false, List, split, or-right, or-neither}
+use Rattle.position.proofs.Rules.{count, parent, opening, Checked, hasParent, blockOf, isConfirmed}
 use Rattle.position.specs.declared.Position.{Position}
-use Rattle.position.specs.Position.{blockOf, isConfirmed}
+use Rattle.slots.proofs.Parents.{parent-below}
 use Rattle.slack.specs.Beaten.{fixed}
 
 module _ (s : List ℕ) (p : Position) (t : ℕ) where

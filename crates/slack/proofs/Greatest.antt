@@ -1,8 +1,6 @@
 -- The greatest number up to a bound that passes, by what it is.
 -- Assumes nothing.
-use Rattle.laws.proofs.Prelude.{ℕ, zero, suc, _≤_, _<_, _≡_, Bool, true, arith}
-use native.Mathlib.Nat.{eq-or-lt-of-le}
-use Rattle.laws.specs.Booleans.{split, either, clash}
+use Rattle.laws.proofs.Prelude.{ℕ, zero, suc, _≤_, _<_, _≡_, Bool, true, arith, eq-or-lt-of-le, split, either, clash}
 use Rattle.laws.specs.Greatest.{greatestTo}
 
 module _ (f : ℕ → Bool) (d : ℕ) where

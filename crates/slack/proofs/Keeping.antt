@@ -1,18 +1,10 @@
 -- What X keeps up to a height, it keeps after a step without it.
 -- Assumes nothing.
-use Rattle.laws.proofs.Prelude.{ℕ, zero, suc, _≤_, _<_, _≡_, refl, true, false, not, _&&_, List, eqb, eqb-false, eq-eqb, not-true, arith}
-use Rattle.laws.specs.Booleans.{split, either, clash, and-parts, fails-by}
-use Rattle.laws.specs.Below.{any-some}
-use Rattle.laws.specs.Mask.{bit}
-use Rattle.laws.specs.Bits.{no-bit}
-use Rattle.sheet.specs.Field.{count}
-use Rattle.sheet.specs.LockHeight.{never}
-use Rattle.sheet.specs.Checked.{Checked, Fit}
-use Rattle.slots.specs.Destination.{isContract}
-use Rattle.slots.specs.Conflict.{conflict}
-use Rattle.slots.proofs.Ancestors.{here, above-le}
+use Rattle.laws.proofs.Prelude.{ℕ, zero, suc, _≤_, _<_, _≡_, refl, true, false, not, _&&_, List, eqb, eqb-false, eq-eqb, not-true, arith, split, either, clash, and-parts}
+use Rattle.laws.proofs.Prelude.{fails-by, any-some, bit, no-bit}
+use Rattle.position.proofs.Rules.{count, never, Checked, Fit, isContract, conflict, isConfirmed, confirmedTo}
 use Rattle.position.specs.declared.Position.{Position}
-use Rattle.position.specs.Position.{isConfirmed, confirmedTo}
+use Rattle.slots.proofs.Ancestors.{here, above-le}
 use Rattle.attainable.specs.Attainable.{gone}
 use Rattle.slack.specs.Beaten.{fixed, canComeElsewhere}
 use Rattle.slack.specs.Kept.{knownAt, comesForParty, goodChild, elsewhereFree, goodRounds, good, paid, keptTo}

@@ -1,20 +1,12 @@
 -- Where a free line of p answers what is confirmed in q for a t whose parent is, X counts in q on that line.
 -- Assumes nothing.
-use Rattle.laws.proofs.Prelude.{ℕ, zero, suc, _+_, _≤_, _<_, _≡_, refl, true, false, List, _⊎_, inl, inr, eq-eqb, arith}
-use native.Mathlib.Nat.{not-suc-le-zero}
-use lib.Bits.{bitOr}
-use Rattle.laws.specs.Booleans.{split, either, clash, fails-by}
-use Rattle.laws.specs.Mask.{bit}
-use Rattle.laws.specs.Bits.{no-bit, or-bit}
-use Rattle.sheet.specs.Field.{count, parent}
-use Rattle.sheet.specs.LockHeight.{never}
-use Rattle.sheet.specs.Checked.{Checked}
-use Rattle.slots.specs.Destination.{isContract}
+use Rattle.laws.proofs.Prelude.{ℕ, zero, suc, _+_, _≤_, _<_, _≡_, refl, true, false, List, _⊎_, inl, inr, eq-eqb, arith, not-suc-le-zero, bitOr, split, either, clash}
+use Rattle.laws.proofs.Prelude.{fails-by, bit, no-bit, or-bit}
+use Rattle.position.proofs.Rules.{count, parent, never, Checked, isContract, isConfirmed}
+use Rattle.position.specs.declared.Position.{Position}
 use Rattle.slots.proofs.Ancestors.{Above, here, up, above-le, above-all, holds-above, ancestor-above, above-ancestor}
 use Rattle.slots.proofs.Conflicts.{parent-member}
 use Rattle.slots.proofs.Parents.{parent-lower, parent-below, parent-has}
-use Rattle.position.specs.declared.Position.{Position}
-use Rattle.position.specs.Position.{isConfirmed}
 use Rattle.attainable.specs.Attainable.{secretsOf}
 use Rattle.slack.specs.Beaten.{above, fixed, last}
 use Rattle.slack.specs.Kept.{knownAt, goodChild, goodRounds, good, paid, keptTo}

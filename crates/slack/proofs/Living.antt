@@ -1,18 +1,10 @@
 -- What X counts on is not dead: in the same position, and in one that a step without X leads to.
 -- Assumes nothing.
-use Rattle.laws.proofs.Prelude.{ℕ, _<_, _≡_, true, false, _&&_, List, eqb, eqb-true, eqb-false, arith}
-use Rattle.laws.specs.Booleans.{split, either, clash, and-parts, fails-by}
-use Rattle.laws.specs.Below.{any-found}
-use Rattle.laws.specs.Mask.{bit}
-use Rattle.laws.specs.Bits.{no-bit}
-use Rattle.sheet.specs.Field.{count, parent, opening, payees, place}
-use Rattle.slots.specs.Destination.{isPayee, isContract, isParty}
-use Rattle.slots.specs.Conflict.{conflict}
-use Rattle.slots.specs.Ancestry.{isSelfOrAncestor}
+use Rattle.laws.proofs.Prelude.{ℕ, _<_, _≡_, true, false, _&&_, List, eqb, eqb-true, eqb-false, arith, split, either, clash, and-parts, fails-by, any-found, bit, no-bit}
+use Rattle.position.proofs.Rules.{count, parent, opening, payees, place, isPayee, isContract, isParty, conflict, isSelfOrAncestor, isConfirmed, confirmedTo}
+use Rattle.position.specs.declared.Position.{Position}
 use Rattle.slots.proofs.Conflicts.{conflict-parts}
 use Rattle.slots.proofs.Ancestors.{Above, here, up, above-le, above-all, ancestor-above, above-ancestor}
-use Rattle.position.specs.declared.Position.{Position}
-use Rattle.position.specs.Position.{isConfirmed, confirmedTo}
 use Rattle.attainable.specs.Attainable.{gone}
 use Rattle.slack.specs.Kept.{paid}
 use Rattle.slack.proofs.Onward.{Alive, Forth}

@@ -1,18 +1,15 @@
 -- The lock heights of a transaction and its rivals with the parent in its soonest block: a later one lifts them alike, one that is reached is
 -- the position's, and those of a parent that is there are small.
 -- Assumes nothing.
-use Rattle.laws.proofs.Prelude.{ℕ, _+_, _≤_, _<_, _≡_, sym, _∙_, true, false, List, _⊎_, inl, inr, eqb, eqb-true, eqb-false, eq-eqb, ne-eqb, arith}
-use native.Mathlib.Nat.{mul-le-mul}
-use Rattle.laws.specs.Booleans.{split, either, clash}
-use Rattle.sheet.specs.Field.{count, parent, opening, lockType, days}
-use Rattle.sheet.specs.Setup.{perDay}
-use Rattle.sheet.specs.LockHeight.{never, lockBlocks, sinceParent, lockHeight}
-use Rattle.sheet.specs.Checked.{Checked, SetupChecked, LockPair, none, absolute, since}
-use Rattle.slots.specs.Conflict.{conflict}
+use Rattle.laws.proofs.Prelude.{ℕ, _+_, _≤_, _<_, _≡_, sym, _∙_, true, false, List, _⊎_, inl, inr, eqb, eqb-true, eqb-false, eq-eqb, ne-eqb, arith, mul-le-mul, split}
+use Rattle.laws.proofs.Prelude.{either, clash}
+use Rattle.position.proofs.Rules.{count, parent, opening, lockType, perDay, never, lockBlocks, sinceParent, lockHeight, Checked, SetupChecked, LockPair, absolute, since}
+use Rattle.position.proofs.Rules.{conflict, blockOf, lockHeightIn}
+use Rattle.position.specs.declared.Position.{Position}
+use Rattle.sheet.specs.Field.{days}
+use Rattle.sheet.specs.Checked.{none}
 use Rattle.slots.proofs.Conflicts.{conflict-opening}
 use Rattle.slots.proofs.Parents.{parent-below}
-use Rattle.position.specs.declared.Position.{Position}
-use Rattle.position.specs.Position.{blockOf, lockHeightIn}
 use Rattle.soonest.specs.Soonest.{lockAt, sinceLocked}
 use Rattle.soonest.proofs.Locks.{Form, fixed, hangs, form, rival-lock, lock-opening, lock-reached}
 use Rattle.soonest.proofs.SoonestParents.{opening-none, parent-there}

@@ -1,22 +1,12 @@
 -- A position and one that a step without X leads to compare.
 -- Assumes nothing.
-use Rattle.laws.proofs.Prelude.{ℕ, _+_, _≤_, _<_, _≡_, true, false, not, _&&_, _||_, List, _⊎_, inl, inr, eqb, ltb, leb}
-use Rattle.laws.proofs.Prelude.{ltb-true, ltb-false, leb-true, leb-false, ne-eqb, le-leb, arith}
-use Rattle.laws.specs.Booleans.{split, either, clash, and-parts, or-parts, or-right, fails-by}
-use Rattle.laws.specs.Below.{any-some, any-found}
-use Rattle.laws.specs.Mask.{bit}
-use Rattle.sheet.specs.Field.{count, parent, opening}
-use Rattle.sheet.specs.Setup.{perDay, stealth}
-use Rattle.sheet.specs.LockHeight.{never, lockHeight}
-use Rattle.sheet.specs.Checked.{Checked, Fit}
-use Rattle.slots.specs.Destination.{destinations}
-use Rattle.slots.specs.Conflict.{conflict}
-use Rattle.slots.specs.Ancestry.{hasParent}
-use Rattle.slots.specs.Slot.{sharedFor}
+use Rattle.laws.proofs.Prelude.{ℕ, _+_, _≤_, _<_, _≡_, true, false, not, _&&_, _||_, List, _⊎_, inl, inr, eqb, ltb, leb, ltb-true, ltb-false, leb-true, leb-false, ne-eqb}
+use Rattle.laws.proofs.Prelude.{le-leb, arith, split, either, clash, and-parts, or-parts, or-right, fails-by, any-some, any-found, bit}
+use Rattle.position.proofs.Rules.{count, parent, opening, perDay, stealth, never, lockHeight, Checked, Fit, destinations, conflict, hasParent, sharedFor}
+use Rattle.position.specs.declared.Position.{Position}
+use Rattle.position.proofs.Rules.{inPool, poolTo, blockOf, isConfirmed, shared, holds, lockHeightIn, deadlineIn}
 use Rattle.slots.proofs.Conflicts.{conflict-self}
 use Rattle.slots.proofs.Parents.{parent-below}
-use Rattle.position.specs.declared.Position.{Position}
-use Rattle.position.specs.Position.{inPool, poolTo, blockOf, isConfirmed, shared, holds, lockHeightIn, deadlineIn}
 use Rattle.soonest.specs.Soonest.{greater}
 use Rattle.soonest.proofs.Bounds.{greater-left, greater-le}
 use Rattle.soonest.proofs.Deadlines.{deadline-le}

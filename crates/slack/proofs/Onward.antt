@@ -1,17 +1,9 @@
 -- What the laws of slack ask for between a position p and one that a step without X leads to, q; and what they give.
 -- Assumes nothing.
-use Rattle.laws.proofs.Prelude.{ℕ, _≤_, _<_, _≡_, true, false, List, _⊎_, eqb}
-use Rattle.laws.specs.Mask.{bit}
-use Rattle.sheet.specs.Field.{count, parent, opening}
-use Rattle.sheet.specs.Setup.{perDay, stealth}
-use Rattle.slots.specs.Destination.{destinations, isContract}
-use Rattle.slots.specs.Conflict.{conflict}
-use Rattle.slots.specs.Ancestry.{isSelfOrAncestor}
-use Rattle.slots.specs.Slot.{sharedAny}
-use Rattle.slots.specs.Signatures.{sharedSecrets}
+use Rattle.laws.proofs.Prelude.{ℕ, _≤_, _<_, _≡_, true, false, List, _⊎_, eqb, bit}
+use Rattle.position.proofs.Rules.{count, parent, opening, perDay, stealth, destinations, isContract, conflict, isSelfOrAncestor, sharedAny, sharedSecrets, slot}
 use Rattle.position.specs.declared.Position.{Position}
-use Rattle.position.specs.Position.{slot, inPool, poolTo, inBlock, blockTo, blockOf, isConfirmed, confirmedTo, shared, holds, lockHeightIn, deadlineIn}
-use Rattle.position.specs.Tests.{blockLimit}
+use Rattle.position.proofs.Rules.{inPool, poolTo, inBlock, blockTo, blockOf, isConfirmed, confirmedTo, shared, holds, lockHeightIn, deadlineIn, blockLimit}
 use Rattle.soonest.specs.Soonest.{soonestParent}
 use Rattle.attainable.specs.Attainable.{gone, secretsOf, waitsFor, attainable, attainableElsewhere}
 use Rattle.slack.specs.Beaten.{above, fixed, canComeElsewhere, stands, beats, last}

@@ -1,16 +1,9 @@
 -- What X counts on, part by part: what a good transaction passes, a free line, and a good child.
 -- Assumes nothing.
-use Rattle.laws.proofs.Prelude.{ℕ, _<_, _≡_, Bool, true, false, not, _&&_, _||_, List, _⊎_, inl, inr, eqb, eqb-true, eq-eqb, not-true}
-use lib.Bits.{bitOr}
-use Rattle.laws.specs.Booleans.{split, either, and-parts, or-parts, or-right, implied, clash}
-use Rattle.laws.specs.Below.{anyBelow, allBelow, all-at, all-from, any-some, any-none, any-found, any-all-false}
-use Rattle.laws.specs.Mask.{bit}
-use Rattle.sheet.specs.Field.{count, parent, opening}
-use Rattle.ledger.specs.Coin.{coinOf}
-use Rattle.slots.specs.Destination.{isPayee, isContract}
-use Rattle.slots.specs.Ancestry.{isSelfOrAncestor}
+use Rattle.laws.proofs.Prelude.{ℕ, _<_, _≡_, Bool, true, false, not, _&&_, _||_, List, _⊎_, inl, inr, eqb, eqb-true, eq-eqb, not-true, bitOr, split, either, and-parts}
+use Rattle.laws.proofs.Prelude.{or-parts, or-right, implied, clash, anyBelow, allBelow, all-at, all-from, any-some, any-none, any-found, any-all-false, bit}
+use Rattle.position.proofs.Rules.{count, parent, opening, coinOf, isPayee, isContract, isSelfOrAncestor, isConfirmed}
 use Rattle.position.specs.declared.Position.{Position}
-use Rattle.position.specs.Position.{isConfirmed}
 use Rattle.attainable.specs.Attainable.{gone, secretsOf}
 use Rattle.slack.specs.Beaten.{above, fixed, stands, beats, last}
 use Rattle.slack.specs.Kept.{knownAt, unbeaten, free, comesForParty, goodChild, elsewhereFree, answered, goodBy, good, paid, reached, keptTo}

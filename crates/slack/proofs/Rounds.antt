@@ -1,13 +1,7 @@
 -- The rounds of what X counts on grow: each has what the one before has.
 -- Assumes nothing.
-use Rattle.laws.proofs.Prelude.{ℕ, zero, suc, _≤_, _<_, _≡_, sym, _∙_, true, List, inl, inr, arith}
-use native.Mathlib.Nat.{eq-or-lt-of-le, le-of-suc-le-suc}
-use Rattle.laws.specs.Booleans.{either, clash}
-use Rattle.laws.specs.Mask.{bit}
-use Rattle.laws.specs.Bits.{no-bit}
-use Rattle.laws.specs.Sets.{set-bit}
-use Rattle.sheet.specs.Field.{count}
-use Rattle.sheet.specs.Checked.{Checked}
+use Rattle.laws.proofs.Prelude.{ℕ, zero, suc, _≤_, _<_, _≡_, sym, _∙_, true, List, inl, inr, arith, eq-or-lt-of-le, le-of-suc-le-suc, either, clash, bit, no-bit, set-bit}
+use Rattle.position.proofs.Rules.{count, Checked}
 use Rattle.position.specs.declared.Position.{Position}
 use Rattle.slack.specs.Beaten.{stands}
 use Rattle.slack.specs.Kept.{knownAt, goodChild, goodBy, goodRounds, good}

@@ -1,9 +1,7 @@
 -- A position compares with itself: up to a lower height X can count on as much.
 -- Assumes nothing.
-use Rattle.laws.proofs.Prelude.{ℕ, refl, List, arith}
-use Rattle.laws.specs.Booleans.{split, clash}
-use Rattle.laws.specs.Mask.{bit}
-use Rattle.sheet.specs.Checked.{Checked}
+use Rattle.laws.proofs.Prelude.{ℕ, refl, List, arith, split, clash, bit}
+use Rattle.position.proofs.Rules.{Checked}
 use Rattle.position.specs.declared.Position.{Position}
 use Rattle.attainable.proofs.Also.{attainable-also, elsewhere-also}
 use Rattle.slack.specs.Beaten.{fixed}

@@ -1,10 +1,7 @@
 -- Ancestry as a derivation, to recurse on, and what meets a conflict along it.
 -- Assumes nothing.
-use Rattle.laws.proofs.Prelude.{ℕ, zero, suc, _≤_, _<_, _≡_, refl, sym, _∙_, Bool, true, false, not, _&&_, _||_, false≢true, List, eqb, ltb}
-use Rattle.laws.proofs.Prelude.{eqb-true, ltb-true, eq-eqb, ne-eqb, lt-ltb, not-true, arith}
-use Rattle.laws.specs.Booleans.{pick, split, either, and-parts, or-right, or-neither}
-use Rattle.laws.specs.Below.{any-found}
-use Rattle.laws.specs.Climb.{climbIn, climb}
+use Rattle.laws.proofs.Prelude.{ℕ, zero, suc, _≤_, _<_, _≡_, refl, sym, _∙_, Bool, true, false, not, _&&_, _||_, false≢true, List, eqb, ltb, eqb-true, ltb-true, eq-eqb}
+use Rattle.laws.proofs.Prelude.{ne-eqb, lt-ltb, not-true, arith, pick, split, either, and-parts, or-right, or-neither, any-found, climbIn, climb}
 use Rattle.sheet.specs.Field.{count, parent}
 use Rattle.sheet.specs.Checked.{Checked}
 use Rattle.slots.specs.Conflict.{conflict, conflictIn, otherConflictIn}

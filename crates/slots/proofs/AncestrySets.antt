@@ -1,10 +1,6 @@
 -- A line, a step at a time, and against a set: only its members up to t matter.
 -- Assumes nothing.
-use Rattle.laws.proofs.Prelude.{ℕ, zero, suc, _≤_, _<_, _≡_, ap, Bool, false, _||_, List, ltb, ltb-true, arith}
-use Rattle.laws.specs.Booleans.{pick, split}
-use Rattle.laws.specs.Mask.{bit}
-use Rattle.laws.specs.Bits.{no-bit}
-use Rattle.laws.specs.Climb.{climb-step}
+use Rattle.laws.proofs.Prelude.{ℕ, zero, suc, _≤_, _<_, _≡_, ap, Bool, false, _||_, List, ltb, ltb-true, arith, pick, split, bit, no-bit, climb-step}
 use Rattle.sheet.specs.Field.{parent}
 use Rattle.slots.specs.Ancestry.{inAncestry}
 

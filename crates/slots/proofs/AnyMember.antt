@@ -1,8 +1,7 @@
 -- A test that some member of a set passes, looked for from one member to the next.
 -- Assumes nothing.
-use Rattle.laws.proofs.Prelude.{ℕ, _+_, _<_, _≡_, sym, Bool, true, false, _&&_, and-false}
-use Rattle.laws.specs.Below.{anyBelow, any-start, any-more, any-found, any-upto}
-use Rattle.laws.specs.Mask.{bit}
+use Rattle.laws.proofs.Prelude.{ℕ, _+_, _<_, _≡_, sym, Bool, true, false, _&&_, and-false, anyBelow, any-start, any-more, any-found, bit}
+use Rattle.laws.specs.Below.{any-upto}
 use Rattle.slots.specs.Forms.Next.{Next}
 
 module _ (m : ℕ) (p : ℕ → Bool) where

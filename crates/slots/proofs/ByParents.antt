@@ -1,10 +1,8 @@
 -- The rivals by their parents, of one transaction and of a whole set, are those of the rule.
 -- Assumes nothing.
-use Rattle.laws.proofs.Prelude.{ℕ, _<_, _≡_, sym, _∙_, Bool, true, false, _&&_, List, eqb, eqb-true, eq-eqb, ne-eqb, arith}
+use Rattle.laws.proofs.Prelude.{ℕ, _<_, _≡_, sym, _∙_, Bool, true, false, _&&_, List, eqb, eqb-true, eq-eqb, ne-eqb, arith, split, clash, fails-by, and-parts, any-found}
+use Rattle.laws.proofs.Prelude.{any-all-false, any-same, bit}
 use mathlib.Core.Bool.{and-comm}
-use Rattle.laws.specs.Booleans.{split, clash, fails-by, and-parts}
-use Rattle.laws.specs.Below.{any-found, any-all-false, any-same}
-use Rattle.laws.specs.Mask.{bit}
 use Rattle.sheet.specs.Field.{count, parent, opening}
 use Rattle.sheet.specs.Forms.Parents.{childThere, isParentBelow, Parents}
 use Rattle.slots.specs.Conflict.{conflict, conflictIn}

@@ -1,8 +1,7 @@
 -- A child of a transaction in a set, looked for from one member to the next, above the transaction itself.
 -- Assumes nothing.
-use Rattle.laws.proofs.Prelude.{ℕ, _+_, _<_, _≡_, refl, sym, _∙_, true, false, and-false, List, eq-eqb, ne-eqb, arith}
-use Rattle.laws.specs.Below.{any-more, any-found, any-upto, any-all-false}
-use Rattle.laws.specs.Mask.{bit}
+use Rattle.laws.proofs.Prelude.{ℕ, _+_, _<_, _≡_, refl, sym, _∙_, true, false, and-false, List, eq-eqb, ne-eqb, arith, any-more, any-found, any-all-false, bit}
+use Rattle.laws.specs.Below.{any-upto}
 use Rattle.sheet.specs.Field.{count, parent}
 use Rattle.sheet.specs.Checked.{Checked}
 use Rattle.slots.specs.Forms.Next.{Next}

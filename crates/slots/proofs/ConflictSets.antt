@@ -1,12 +1,9 @@
 -- Conflicts against a set: only the members below the count matter.
 -- Assumes nothing.
-use Rattle.laws.proofs.Prelude.{ℕ, _≤_, _<_, _≡_, refl, sym, ap, _∙_, Bool, true, false, not, _&&_, and-false, List, eqb, eqb-true, arith}
+use Rattle.laws.proofs.Prelude.{ℕ, _≤_, _<_, _≡_, refl, sym, ap, _∙_, Bool, true, false, not, _&&_, and-false, List, eqb, eqb-true, arith, split, any-same, any-all-false}
+use Rattle.laws.proofs.Prelude.{bit, no-bit, removed, setBelow, none-set}
 use mathlib.Core.Bool.{and-comm}
-use Rattle.laws.specs.Booleans.{split}
-use Rattle.laws.specs.Below.{any-same, any-all-false}
-use Rattle.laws.specs.Mask.{bit}
-use Rattle.laws.specs.Bits.{no-bit}
-use Rattle.laws.specs.Sets.{removed, bit-removed, setBelow, none-set}
+use Rattle.laws.specs.Sets.{bit-removed}
 use Rattle.sheet.specs.Field.{count}
 use Rattle.slots.specs.Conflict.{conflict, conflictIn, otherConflictIn}
 use Rattle.slots.specs.Forms.Conflict.{foundIn}

@@ -1,9 +1,7 @@
 -- Conflicts: a symmetric relation, by parents, and what the tests over a set say.
 -- Assumes nothing.
-use Rattle.laws.proofs.Prelude.{ℕ, _<_, _≡_, refl, sym, ap, _∙_, Bool, true, false, not, _&&_, List, _⊎_, inl, inr, eqb, eqb-true, eq-eqb}
-use Rattle.laws.proofs.Prelude.{ne-eqb, not-true}
-use Rattle.laws.specs.Booleans.{split, either, clash, and-parts, or-parts, or-right, fails-by}
-use Rattle.laws.specs.Below.{any-some, any-none}
+use Rattle.laws.proofs.Prelude.{ℕ, _<_, _≡_, refl, sym, ap, _∙_, Bool, true, false, not, _&&_, List, _⊎_, inl, inr, eqb, eqb-true, eq-eqb, ne-eqb, not-true, split}
+use Rattle.laws.proofs.Prelude.{either, clash, and-parts, or-parts, or-right, fails-by, any-some, any-none}
 use Rattle.sheet.specs.Field.{count, parent, opening}
 use Rattle.slots.specs.Conflict.{conflict, conflictIn, noConflict}
 use Rattle.slots.specs.Ancestry.{hasParent}

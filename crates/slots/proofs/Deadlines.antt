@@ -1,11 +1,8 @@
 -- A deadline by the parent: the rivals are its children, and an opening has none but itself. Without a lock of another rival there is none.
 -- Assumes nothing.
-use Rattle.laws.proofs.Prelude.{ℕ, _≤_, _<_, _≡_, sym, ap, _∙_, Bool, true, false, not, _&&_, List, eqb, ltb, eqb-true, ltb-true, not-false}
-use Rattle.laws.proofs.Prelude.{arith}
-use Rattle.laws.specs.Booleans.{pick, split, and-parts, fails-by}
-use Rattle.laws.specs.Least.{leastBelow, least-start, least-upto}
-use Rattle.laws.specs.Mask.{bit}
-use Rattle.laws.specs.Sets.{setBelow, set-bit, set-same}
+use Rattle.laws.proofs.Prelude.{ℕ, _≤_, _<_, _≡_, sym, ap, _∙_, Bool, true, false, not, _&&_, List, eqb, ltb, eqb-true, ltb-true, not-false, arith, pick, split}
+use Rattle.laws.proofs.Prelude.{and-parts, fails-by, leastBelow, least-start, bit, setBelow, set-bit, set-same}
+use Rattle.laws.specs.Least.{least-upto}
 use Rattle.sheet.specs.Field.{count, parent, lockType, opening}
 use Rattle.sheet.specs.LockHeight.{never, lockHeight}
 use Rattle.slots.specs.Conflict.{conflict, otherConflictIn}

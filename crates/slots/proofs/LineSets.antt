@@ -1,12 +1,8 @@
 -- The members of a line's set are those of the line.
 -- Assumes nothing.
-use Rattle.laws.proofs.Prelude.{ℕ, zero, suc, _<_, _≡_, sym, _∙_, true, List, eqb, ltb, ltb-true, arith}
-use mathlib.Core.Bool.{or-comm, or-false}
-use Rattle.laws.specs.Booleans.{pick, split}
-use Rattle.laws.specs.Climb.{climb-step}
-use Rattle.laws.specs.Mask.{bit}
-use Rattle.laws.specs.Bits.{no-bit}
-use Rattle.laws.specs.Sets.{joined, bit-joined}
+use Rattle.laws.proofs.Prelude.{ℕ, zero, suc, _<_, _≡_, sym, _∙_, true, List, eqb, ltb, ltb-true, arith, or-false, pick, split, climb-step, bit, no-bit, joined}
+use Rattle.laws.proofs.Prelude.{bit-joined}
+use mathlib.Core.Bool.{or-comm}
 use Rattle.sheet.specs.Field.{parent}
 use Rattle.slots.specs.Ancestry.{inAncestry, isSelfOrAncestor}
 use Rattle.slots.specs.Forms.Line.{lineSet}

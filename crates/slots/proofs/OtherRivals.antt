@@ -1,10 +1,7 @@
 -- Rivals but oneself: they come after the parent; and where no member of a set has one, nobody has another rival in the set.
 -- Assumes nothing.
-use Rattle.laws.proofs.Prelude.{ℕ, _+_, _≤_, _<_, _≡_, sym, _∙_, Bool, true, false, not, _&&_, and-false, List, eqb, eqb-false, eq-eqb}
-use Rattle.laws.proofs.Prelude.{ne-eqb, not-true, arith}
-use Rattle.laws.specs.Booleans.{split, clash, fails-by, and-parts}
-use Rattle.laws.specs.Below.{anyBelow, any-found, any-none, any-all-false}
-use Rattle.laws.specs.Sets.{setBelow, none-set}
+use Rattle.laws.proofs.Prelude.{ℕ, _+_, _≤_, _<_, _≡_, sym, _∙_, Bool, true, false, not, _&&_, and-false, List, eqb, eqb-false, eq-eqb, ne-eqb, not-true, arith, split}
+use Rattle.laws.proofs.Prelude.{clash, fails-by, and-parts, anyBelow, any-found, any-none, any-all-false, setBelow, none-set}
 use Rattle.sheet.specs.Field.{count, parent, opening}
 use Rattle.sheet.specs.Checked.{Checked}
 use Rattle.slots.specs.Conflict.{conflict, conflictIn, otherConflictIn}

@@ -1,7 +1,6 @@
 -- Parents on a checked sheet: what is no opening has a lower number for its parent, which is a transaction too.
 -- Assumes nothing.
-use Rattle.laws.proofs.Prelude.{ℕ, _≤_, _<_, _≡_, false, List, eqb-true, ne-eqb, arith}
-use Rattle.laws.specs.Booleans.{either, clash}
+use Rattle.laws.proofs.Prelude.{ℕ, _≤_, _<_, _≡_, false, List, eqb-true, ne-eqb, arith, either, clash}
 use Rattle.sheet.specs.Field.{count, parent, opening}
 use Rattle.sheet.specs.Checked.{Checked}
 

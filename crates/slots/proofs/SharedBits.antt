@@ -1,10 +1,7 @@
 -- The shared signatures of a slot: where one comes from, and that each stays.
 -- Assumes nothing.
-use Rattle.laws.proofs.Prelude.{ℕ, zero, suc, _<_, _≡_, refl, sym, Bool, true, false, _⊎_, inl, inr, eqb, eqb-true, arith}
-use lib.Bits.{bitOr}
-use Rattle.laws.specs.Booleans.{pick, either}
-use Rattle.laws.specs.Mask.{bit}
-use Rattle.laws.specs.Bits.{bit-or, or-bit, union-bit}
+use Rattle.laws.proofs.Prelude.{ℕ, zero, suc, _<_, _≡_, refl, sym, Bool, true, false, _⊎_, inl, inr, eqb, eqb-true, arith, bitOr, pick, either, bit, bit-or, or-bit}
+use Rattle.laws.proofs.Prelude.{union-bit}
 use Rattle.slots.specs.declared.Slot.{Slot}
 use Rattle.slots.specs.Destination.{alice, bob, carol, contract, destinations}
 use Rattle.slots.specs.Slot.{withPool, withBlock, withConfirmed, sharedFor, withShared, sharedAny, withMark}

@@ -1,8 +1,6 @@
 -- The lock height and the deadline of a transaction go by one block, its parent's.
 -- Assumes nothing.
-use Rattle.laws.proofs.Prelude.{ℕ, _≡_, ap, _∙_, _&&_, List, ltb}
-use Rattle.laws.specs.Booleans.{split}
-use Rattle.laws.specs.Least.{least-same}
+use Rattle.laws.proofs.Prelude.{ℕ, _≡_, ap, _∙_, _&&_, List, ltb, split, least-same}
 use Rattle.sheet.specs.Field.{count, parent}
 use Rattle.sheet.specs.LockHeight.{never, lockHeight}
 use Rattle.slots.specs.Conflict.{conflict}

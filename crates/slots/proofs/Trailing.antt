@@ -1,10 +1,9 @@
 -- The zeros at the low end of a mask, and the next member of a set.
 -- Assumes nothing.
-use Rattle.laws.proofs.Prelude.{ℕ, zero, suc, _+_, _-_, _/_, _%_, _^_, _≤_, _<_, _≡_, refl, sym, ap, _∙_, true, false, eqb, eq-eqb, arith}
-use native.Mathlib.Nat.{not-suc-le-zero, le-of-suc-le-suc}
+use Rattle.laws.proofs.Prelude.{ℕ, zero, suc, _+_, _-_, _/_, _%_, _^_, _≤_, _<_, _≡_, refl, sym, ap, _∙_, true, false, eqb, eq-eqb, arith, not-suc-le-zero}
+use Rattle.laws.proofs.Prelude.{le-of-suc-le-suc, bit}
 use lib.Count.{under, trailingZeros}
 use lib.Pow.{shr-shr}
-use Rattle.laws.specs.Mask.{bit}
 use Rattle.slots.specs.Forms.Next.{Next}
 use Rattle.laws.specs.Bits.{bit-half}
 use Rattle.laws.specs.Sets.{bit-first}

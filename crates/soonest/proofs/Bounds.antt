@@ -1,7 +1,6 @@
 -- The greater of two.
 -- Assumes nothing.
-use Rattle.laws.proofs.Prelude.{ℕ, _≤_, ltb, ltb-true, ltb-false, arith}
-use Rattle.laws.specs.Booleans.{split}
+use Rattle.laws.proofs.Prelude.{ℕ, _≤_, ltb, ltb-true, ltb-false, arith, split}
 use Rattle.soonest.specs.Soonest.{greater}
 
 pub greater-left : (a b : ℕ) → a ≤ greater a b

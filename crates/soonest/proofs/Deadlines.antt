@@ -1,12 +1,7 @@
 -- A deadline is at most never and each rival's lock height above one's own, and no lower than all of these.
 -- Assumes nothing.
-use Rattle.laws.proofs.Prelude.{ℕ, _≤_, _<_, _≡_, true, _&&_, List, ltb, ltb-true, lt-ltb}
-use Rattle.laws.specs.Booleans.{and-parts}
-use Rattle.laws.specs.Least.{least-top, least-le, least-from}
-use Rattle.sheet.specs.Field.{count}
-use Rattle.sheet.specs.LockHeight.{lockHeight, never}
-use Rattle.slots.specs.Conflict.{conflict}
-use Rattle.slots.specs.Deadline.{deadline}
+use Rattle.laws.proofs.Prelude.{ℕ, _≤_, _<_, _≡_, true, _&&_, List, ltb, ltb-true, lt-ltb, and-parts, least-top, least-le, least-from}
+use Rattle.position.proofs.Rules.{count, lockHeight, never, conflict, deadline}
 
 module _ (s : List ℕ) (perDay : ℕ) (block : ℕ → ℕ) (t : ℕ) where
   pub deadline-top : deadline s perDay block t ≤ never

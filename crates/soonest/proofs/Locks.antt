@@ -1,12 +1,9 @@
 -- A lock height by its kind: fixed, or so many blocks since the parent's.
 -- Assumes nothing.
-use Rattle.laws.proofs.Prelude.{ℕ, _+_, _≤_, _<_, _≡_, refl, sym, ap, _∙_, true, false, List, _⊎_, inl, inr, eq-eqb, ne-eqb, arith}
-use native.Mathlib.Nat.{mul-le-mul}
-use Rattle.laws.specs.Booleans.{clash}
-use Rattle.sheet.specs.Field.{count, parent, opening, lockType, days}
-use Rattle.sheet.specs.LockHeight.{never, lockBlocks, sinceParent, lockHeight}
-use Rattle.sheet.specs.Checked.{Checked, LockPair, none, absolute, since}
-use Rattle.slots.specs.Conflict.{conflict}
+use Rattle.laws.proofs.Prelude.{ℕ, _+_, _≤_, _<_, _≡_, refl, sym, ap, _∙_, true, false, List, _⊎_, inl, inr, eq-eqb, ne-eqb, arith, mul-le-mul, clash}
+use Rattle.position.proofs.Rules.{count, parent, opening, lockType, never, lockBlocks, sinceParent, lockHeight, Checked, LockPair, absolute, since, conflict}
+use Rattle.sheet.specs.Field.{days}
+use Rattle.sheet.specs.Checked.{none}
 use Rattle.slots.proofs.Conflicts.{conflict-parent}
 use Rattle.slots.proofs.Since.{lockHeight-since}
 use Rattle.soonest.specs.Soonest.{lockAt, sinceLocked}

@@ -1,8 +1,7 @@
 -- The recursion of the soonest block without its bound.
 -- Assumes nothing.
-use Rattle.laws.proofs.Prelude.{ℕ, _≡_, List}
-use Rattle.laws.specs.Climb.{climb-step}
-use Rattle.sheet.specs.Field.{parent}
+use Rattle.laws.proofs.Prelude.{ℕ, _≡_, List, climb-step}
+use Rattle.position.proofs.Rules.{parent}
 use Rattle.soonest.specs.Soonest.{soonestOver, soonestBlock, soonestParent}
 
 pub soonest-is : (s : List ℕ) (perDay : ℕ) (block : ℕ → ℕ) (mined t : ℕ)

@@ -1,9 +1,7 @@
 -- The soonest block of what is confirmed and of what is not, and that of a parent.
 -- Assumes nothing.
-use Rattle.laws.proofs.Prelude.{ℕ, _+_, _≤_, _<_, _≡_, _∙_, true, false, List, ltb, ltb-true, ltb-false, lt-ltb, le-ltb, arith}
-use Rattle.laws.specs.Booleans.{split, clash}
-use Rattle.sheet.specs.Field.{count, parent, opening}
-use Rattle.sheet.specs.Checked.{Checked}
+use Rattle.laws.proofs.Prelude.{ℕ, _+_, _≤_, _<_, _≡_, _∙_, true, false, List, ltb, ltb-true, ltb-false, lt-ltb, le-ltb, arith, split, clash}
+use Rattle.position.proofs.Rules.{count, parent, opening, Checked}
 use Rattle.slots.proofs.Parents.{parent-lower, parent-has}
 use Rattle.soonest.specs.Soonest.{greater, lockAt, soonestOver, soonestBlock, soonestParent}
 use Rattle.soonest.proofs.Recursion.{soonest-is}

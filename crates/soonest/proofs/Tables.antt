@@ -1,11 +1,8 @@
 -- Tables over the sheet, and what is read from them.
 -- Assumes nothing.
-use Rattle.laws.proofs.Prelude.{ℕ, _+_, _≤_, _<_, _≡_, refl, sym, _∙_, List, eqb, ltb, length, set, length-set, eqb-true, eqb-false}
-use Rattle.laws.proofs.Prelude.{ltb-true, arith}
-use native.Mathlib.Nat.{not-suc-le-zero}
-use lib.Seq.{getD-set-same, getD-set-other}
-use Rattle.laws.specs.Booleans.{split}
-use Rattle.sheet.specs.Field.{parent}
+use Rattle.laws.proofs.Prelude.{ℕ, _+_, _≤_, _<_, _≡_, refl, sym, _∙_, List, eqb, ltb, length, set, length-set, eqb-true, eqb-false, ltb-true, arith, not-suc-le-zero}
+use Rattle.laws.proofs.Prelude.{getD-set-same, getD-set-other, split}
+use Rattle.position.proofs.Rules.{parent}
 use Rattle.soonest.specs.Soonest.{mayRise, countsAt, soonestOver, soonestBlock, soonestParent, soonestDeadline}
 use Rattle.soonest.specs.Forms.Bounds.{Soon, SoonAbove}
 use Rattle.soonest.specs.Forms.Table.{Filled, tableAbove}

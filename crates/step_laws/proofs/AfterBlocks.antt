@@ -1,16 +1,10 @@
 -- Kinds 6 and 7: a mined block, and a bump.
 -- Assumes nothing.
-use Rattle.laws.proofs.Prelude.{ℕ, _+_, _≤_, _≡_, refl, fun-ext, Bool, true, false, not, _&&_, _||_, List, length}
-use Rattle.laws.specs.Booleans.{pick, split, and-parts}
-use Rattle.sheet.specs.Field.{count}
-use Rattle.slots.specs.declared.Slot.{Slot}
-use Rattle.slots.specs.Slot.{emptySlot, standing, entryTo, withPool, withBlock, withConfirmed, withShared}
-use Rattle.slots.specs.Ancestry.{isSelfOrAncestor, meetsConflict}
+use Rattle.laws.proofs.Prelude.{ℕ, _+_, _≤_, _≡_, refl, fun-ext, Bool, true, false, not, _&&_, _||_, List, length, pick, split, and-parts}
+use Rattle.position.proofs.Rules.{count, Slot, emptySlot, standing, entryTo, withPool, withBlock, withConfirmed, withShared, isSelfOrAncestor, meetsConflict}
 use Rattle.position.specs.declared.Position.{Position}
-use Rattle.position.specs.Position.{slot, inPool, poolTo, inBlock, blockTo, blockOf, confirmedTo}
-use Rattle.position.specs.Owed.{waiting, enters}
-use Rattle.steps.specs.Mined.{confirmEntry}
-use Rattle.position.specs.Effect.{leavesPool, mineSlot, withMined, afterMine, leavesBlock, bumpSlot, afterBump}
+use Rattle.position.proofs.Rules.{slot, inPool, poolTo, inBlock, blockTo, blockOf, confirmedTo, waiting, enters, confirmEntry, leavesPool, mineSlot, withMined, afterMine}
+use Rattle.position.proofs.Rules.{leavesBlock, bumpSlot, afterBump}
 use Rattle.position.proofs.Changed.{all-length, all-beyond, all-seen}
 use Rattle.step_laws.proofs.Untouched.{SamePool, SameConfirmed, all-pool, all-confirmed}
 

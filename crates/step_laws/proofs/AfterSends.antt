@@ -1,14 +1,9 @@
 -- Kinds 3, 4 and 5: one transaction more waits in the pool, or in the block being filled.
 -- Assumes nothing.
-use Rattle.laws.proofs.Prelude.{ℕ, _+_, _<_, _≡_, refl, ap, _∙_, fun-ext, Bool, true, false, _||_, List, eqb, length, eqb-true, lt-ltb}
-use Rattle.laws.proofs.Prelude.{arith}
-use Rattle.laws.specs.Booleans.{pick, split}
-use Rattle.slots.specs.declared.Slot.{Slot}
-use Rattle.slots.specs.Slot.{standing, entryFor, entryTo, withPool, withBlock, withShared}
-use Rattle.slots.specs.Signatures.{exposedMask}
+use Rattle.laws.proofs.Prelude.{ℕ, _+_, _<_, _≡_, refl, ap, _∙_, fun-ext, Bool, true, false, _||_, List, eqb, length, eqb-true, lt-ltb, arith, pick, split}
+use Rattle.position.proofs.Rules.{Slot, standing, entryFor, entryTo, withPool, withBlock, withShared, exposedMask, slot, inPool, poolTo, inBlock, blockTo}
 use Rattle.position.specs.declared.Position.{Position}
-use Rattle.position.specs.Position.{slot, inPool, poolTo, inBlock, blockTo}
-use Rattle.position.specs.Effect.{afterSend, afterHandIn, afterInclude}
+use Rattle.position.proofs.Rules.{afterSend, afterHandIn, afterInclude}
 use Rattle.position.proofs.Changed.{one-slot}
 use Rattle.step_laws.proofs.Untouched.{SamePool, SameBlock, SameConfirmed, one-pool, one-block, one-confirmed}
 

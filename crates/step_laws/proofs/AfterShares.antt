@@ -1,18 +1,9 @@
 -- Kinds 1 and 2: a share and a give leave pool, block and confirmations alone.
 -- Assumes nothing.
-use Rattle.laws.proofs.Prelude.{ℕ, _≤_, _<_, _≡_, refl, _∙_, true, false, List, [], _∷_, eqb, ltb, length, ltb-true, ne-eqb, arith}
-use Rattle.laws.specs.Booleans.{split, and-parts}
-use Rattle.laws.specs.Gather.{every}
-use Rattle.sheet.specs.Field.{count}
-use Rattle.slots.specs.declared.Slot.{Slot}
-use Rattle.slots.specs.Destination.{contract}
-use Rattle.slots.specs.Slot.{withShared, withMark}
-use Rattle.slots.specs.Signatures.{shareMask}
+use Rattle.laws.proofs.Prelude.{ℕ, _≤_, _<_, _≡_, refl, _∙_, true, false, List, [], _∷_, eqb, ltb, length, ltb-true, ne-eqb, arith, split, and-parts, every}
+use Rattle.position.proofs.Rules.{count, Slot, contract, withShared, withMark, shareMask, slot, inPool, poolTo, inBlock, blockTo, blockOf, confirmedTo, keys}
 use Rattle.position.specs.declared.Position.{Position}
-use Rattle.position.specs.Position.{slot, inPool, poolTo, inBlock, blockTo, blockOf, confirmedTo, keys}
-use Rattle.steps.specs.Decode.{noTransaction}
-use Rattle.position.specs.FirstShares.{firstShares}
-use Rattle.position.specs.Effect.{withKey, shareOne, shareEach, afterShare, afterGive}
+use Rattle.position.proofs.Rules.{noTransaction, firstShares, withKey, shareOne, shareEach, afterShare, afterGive}
 use Rattle.position.proofs.Changed.{one-length, one-mined, one-other, one-kept}
 use Rattle.step_laws.proofs.Untouched.{SamePool, SameBlock, SameConfirmed, same-pool, same-block, same-confirmed}
 

@@ -1,18 +1,11 @@
 -- Playing a list, refused steps passed over, and running its accepted steps as a journal come to the same position.
 -- Assumes nothing.
-use Rattle.laws.proofs.Prelude.{ℕ, _+_, _*_, _%_, _≤_, _≡_, refl, sym, ap, _∙_, true, false, List, [], _∷_, _++_, eqb, length, eq-eqb}
-use Rattle.laws.proofs.Prelude.{le-leb, arith}
-use native.Mathlib.Nat.{add-zero}
-use Rattle.laws.specs.Booleans.{split, clash}
-use Rattle.laws.specs.Failing.{firstFailing, passed-append}
-use Rattle.sheet.specs.Refusal.{accepted, journalLength}
-use Rattle.sheet.specs.Check.{arrayTests, sheetTests, sheetRefusal}
-use Rattle.sheet.specs.Setup.{setupTests, setupRefusal}
+use Rattle.laws.proofs.Prelude.{ℕ, _+_, _*_, _%_, _≤_, _≡_, refl, sym, ap, _∙_, true, false, List, [], _∷_, _++_, eqb, length, eq-eqb, le-leb, arith, add-zero, split}
+use Rattle.laws.proofs.Prelude.{clash, firstFailing, passed-append}
+use Rattle.position.proofs.Rules.{accepted, journalLength, arrayTests, sheetTests, sheetRefusal, setupTests, setupRefusal, start, effect, FourBytes}
 use Rattle.position.specs.declared.Position.{Position}
 use Rattle.position.specs.declared.Ran.{Ran}
-use Rattle.position.specs.Position.{start}
-use Rattle.position.specs.Effect.{effect}
-use Rattle.position.specs.Play.{FourBytes, journalSteps, journalBytes, step, runFrom, journalRight, callTests, run, play, acceptedOf}
+use Rattle.position.proofs.Rules.{journalSteps, journalBytes, step, runFrom, journalRight, callTests, run, play, acceptedOf}
 use Rattle.position.proofs.StepCases.{StepCase, taken, turned-down, step-case}
 use Rattle.position.proofs.RowSteps.{run-next, play-next}
 

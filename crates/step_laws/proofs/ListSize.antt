@@ -2,36 +2,20 @@
 -- and an inclusion or a bump outside it, P of the other kinds; for each signature P²/4 gives, as a giver holds it and a receiver does not; one
 -- block; and P first shares under conduct. Of the number of parties it is used that there are two at least.
 -- Assumes nothing.
-use Rattle.laws.proofs.Prelude.{ℕ, zero, suc, _+_, _*_, _/_, _≤_, _<_, _≡_, refl, ap, _∙_, Bool, true, false, not, _&&_, List, eqb, ltb}
-use Rattle.laws.proofs.Prelude.{length, length-append, eqb-true, eqb-false, ltb-true, ne-eqb, lt-ltb, le-ltb, arith}
+use Rattle.laws.proofs.Prelude.{ℕ, zero, suc, _+_, _*_, _/_, _≤_, _<_, _≡_, refl, ap, _∙_, Bool, true, false, not, _&&_, List, eqb, ltb, length, length-append, eqb-true}
+use Rattle.laws.proofs.Prelude.{eqb-false, ltb-true, ne-eqb, lt-ltb, le-ltb, arith, one-mul, mul-le-mul-left, and-true, pick, split, either, clash, and-parts, or-parts}
+use Rattle.laws.proofs.Prelude.{passed, gather, sumBelow, sum-bound, sum-both, sum-same, sum-swap, length-gathered}
+use Rattle.position.proofs.Rules.{accepted, parties, partyAt, count, signatures, perDay, conduct, Checked, SetupChecked, Destination, Alice, Bob, Contract, Carol, Step}
+use Rattle.position.proofs.Rules.{Share, Give, SendToPool, HandToMiner, Include, Mine, Bump, miner, contract, destinations, destinationNumber, isParty, isPayee}
+use Rattle.position.proofs.Rules.{isContract, Read, slotCount, inPool, sent, holds, noTransaction, sendsTo, sharesTo, isOther, firstShareFields, fieldsRight}
+use Rattle.position.specs.declared.Position.{Position}
+use Rattle.position.proofs.Rules.{ofKind, spelled, rangeChecked, decode, waiting, owed, giveMet, giveTests, sendTests, poolTests, includeTests, bumpTests, conductAllows}
+use Rattle.position.proofs.Rules.{stepRefusal, actorAt, actors, kinds, ifAccepted, openAt, openOf, actorSteps, openSteps}
 use native.Mathlib.Numerals.{add-one}
-use native.Mathlib.Nat.{one-mul, mul-le-mul-left}
-use mathlib.Core.Bool.{and-true}
-use Rattle.laws.specs.Booleans.{pick, split, either, clash, and-parts, or-parts}
-use Rattle.laws.specs.Failing.{passed}
-use Rattle.laws.specs.Gather.{gather}
-use Rattle.laws.specs.Sum.{sumBelow, sum-bound, sum-both, sum-same, sum-swap, length-gathered}
-use Rattle.sheet.specs.Refusal.{accepted}
-use Rattle.sheet.specs.Field.{parties, partyAt, count, signatures}
-use Rattle.sheet.specs.Setup.{perDay, conduct}
-use Rattle.sheet.specs.Checked.{Checked, SetupChecked}
 use Rattle.sheet.proofs.Parties.{parties-some, at-not-miner, party-at, party-miner}
 use Rattle.sheet.proofs.Theorems.{parties-saswap, saswap-sizes}
-use Rattle.slots.specs.declared.Destination.{Destination}
-use Rattle.slots.specs.declared.Destination.the-variants.{Alice, Bob, Contract, Carol}
-use Rattle.slots.specs.declared.Step.{Step}
-use Rattle.slots.specs.declared.Step.the-variants.{Share, Give, SendToPool, HandToMiner, Include, Mine, Bump}
-use Rattle.slots.specs.Destination.{miner, contract, destinations, destinationNumber, isParty, isPayee, isContract}
 use Rattle.slots.proofs.Conflicts.{conflict-self, no-conflict}
-use Rattle.position.specs.declared.Position.{Position}
-use Rattle.steps.specs.declared.Decoded.the-variants.{Read}
-use Rattle.position.specs.Position.{slotCount, inPool, sent, holds}
-use Rattle.steps.specs.Decode.{noTransaction, sendsTo, sharesTo, isOther, firstShareFields, fieldsRight, ofKind, spelled, rangeChecked, decode}
-use Rattle.position.specs.Owed.{waiting, owed}
-use Rattle.position.specs.Tests.{giveMet, giveTests, sendTests, poolTests, includeTests, bumpTests}
-use Rattle.position.specs.Conduct.{conductAllows}
-use Rattle.position.specs.StepRefusal.{tests, stepRefusal}
-use Rattle.position.specs.Open.{actorAt, actors, kinds, ifAccepted, openAt, openOf, actorSteps, openSteps}
+use Rattle.position.specs.StepRefusal.{tests}
 use Rattle.step_laws.specs.ListBound.{mostOpen}
 use Rattle.step_laws.proofs.Totals.{sum-le, sum-most, sum-alike, sum-one, sum-first, sum-parties, sum-tests, pairs}
 use Rattle.step_laws.proofs.Listed.{open-gathered}

@@ -1,22 +1,14 @@
 -- The open steps are the steps that decode and are accepted, and their bytes rise.
 -- Assumes nothing.
-use Rattle.laws.proofs.Prelude.{ℕ, _+_, _-_, _≤_, _<_, _≡_, refl, sym, ap, true, List, _⊎_, eqb, eqb-true, eq-eqb, lt-ltb, le-ltb, arith}
-use mathlib.Core.List.{List·Memᴰ, List·Memᴰ·head, List·Memᴰ·not-nil, List·Memᴰ·eq-of-singleton, List·Memᴰ·append-cases, Memᴰ·append-left, Memᴰ·append-right}
-use Rattle.laws.specs.Booleans.{split, either}
-use Rattle.laws.specs.Gather.{gather}
-use Rattle.laws.specs.Members.{gather-member, member-gather}
-use Rattle.sheet.specs.Refusal.{accepted}
-use Rattle.sheet.specs.Field.{parties, place, isParty, count, signatures}
-use Rattle.sheet.proofs.Parties.{place-below, at-place}
-use Rattle.slots.specs.declared.Step.{Step}
-use Rattle.slots.specs.Destination.{miner, destinations}
+use Rattle.laws.proofs.Prelude.{ℕ, _+_, _-_, _≤_, _<_, _≡_, refl, sym, ap, true, List, _⊎_, eqb, eqb-true, eq-eqb, lt-ltb, le-ltb, arith, List·Memᴰ, List·Memᴰ·head}
+use Rattle.laws.proofs.Prelude.{List·Memᴰ·not-nil, split, either, gather}
+use Rattle.position.proofs.Rules.{accepted, parties, place, count, signatures, Step, miner, destinations, Decoded, Read, Refused, slotCount, noTransaction}
 use Rattle.position.specs.declared.Position.{Position}
-use Rattle.steps.specs.declared.Decoded.{Decoded}
-use Rattle.steps.specs.declared.Decoded.the-variants.{Read, Refused}
-use Rattle.position.specs.Position.{slotCount}
-use Rattle.steps.specs.Decode.{noTransaction, decode}
-use Rattle.position.specs.StepRefusal.{stepRefusal}
-use Rattle.position.specs.Open.{actorAt, actors, kinds, ifAccepted, openAt, openOf, actorSteps, openSteps}
+use Rattle.position.proofs.Rules.{decode, stepRefusal, actorAt, actors, kinds, ifAccepted, openAt, openOf, actorSteps, openSteps}
+use mathlib.Core.List.{List·Memᴰ·eq-of-singleton, List·Memᴰ·append-cases, Memᴰ·append-left, Memᴰ·append-right}
+use Rattle.laws.specs.Members.{gather-member, member-gather}
+use Rattle.sheet.specs.Field.{isParty}
+use Rattle.sheet.proofs.Parties.{place-below, at-place}
 use Rattle.position.proofs.Decoding.{decodes, ranges}
 
 module _ (s u : List ℕ) (p : Position) where

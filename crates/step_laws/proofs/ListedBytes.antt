@@ -1,20 +1,12 @@
 -- The list's bytes, read as steps, are the bytes of the open steps.
 -- Assumes nothing.
-use Rattle.laws.proofs.Prelude.{ℕ, _≡_, refl, ap, _∙_, List, [], _∷_, _++_, eqb, eqb-true, eq-eqb, arith}
-use mathlib.Core.List.{map, flatMap, List·Memᴰ, Memᴰ·cast}
-use Rattle.laws.specs.Booleans.{split}
-use Rattle.laws.specs.Members.{Rising, map-member, member-map, rising-map}
-use Rattle.sheet.specs.Refusal.{accepted}
-use Rattle.sheet.specs.Checked.{Checked}
-use Rattle.slots.specs.declared.Step.{Step}
-use Rattle.slots.specs.declared.Step.the-variants.{Share, Give, SendToPool, HandToMiner, Include, Mine, Bump}
+use Rattle.laws.proofs.Prelude.{ℕ, _≡_, refl, ap, _∙_, List, [], _∷_, _++_, eqb, eqb-true, eq-eqb, arith, map, flatMap, List·Memᴰ, split}
+use Rattle.position.proofs.Rules.{accepted, Checked, Step, Share, Give, SendToPool, HandToMiner, Include, Mine, Bump, Decoded, Read, Refused, stepBytes}
 use Rattle.position.specs.declared.Position.{Position}
-use Rattle.steps.specs.declared.Decoded.{Decoded}
-use Rattle.steps.specs.declared.Decoded.the-variants.{Read, Refused}
-use Rattle.steps.specs.Decode.{stepBytes}
-use Rattle.position.specs.StepRefusal.{stepRefusal}
-use Rattle.position.specs.Play.{FourBytes, journalSteps, decodeBytes, takeStep, takeDecoded, step}
-use Rattle.position.specs.Open.{openSteps, listBytes, listSteps, listedBefore}
+use Rattle.position.proofs.Rules.{stepRefusal, FourBytes, journalSteps, decodeBytes, takeStep, takeDecoded, step, openSteps, listBytes, listedBefore}
+use mathlib.Core.List.{Memᴰ·cast}
+use Rattle.laws.specs.Members.{Rising, map-member, member-map, rising-map}
+use Rattle.position.specs.Open.{listSteps}
 use Rattle.position.proofs.Decoding.{decodes}
 use Rattle.step_laws.proofs.Listed.{open-listed, listed-open}
 use Rattle.step_laws.proofs.Rises.{fourOf, stepBefore, open-rises}

@@ -1,12 +1,8 @@
 -- Every accepted step, whatever its kind: where the entries, shared signatures and keys after it come from.
 -- Assumes nothing.
 use Rattle.laws.proofs.Prelude.{ℕ, _≡_, true, List}
-use Rattle.slots.specs.declared.Step.{Step}
-use Rattle.slots.specs.declared.Step.the-variants.{Share, Give, SendToPool, HandToMiner, Include, Mine, Bump}
+use Rattle.position.proofs.Rules.{Step, Share, Give, SendToPool, HandToMiner, Include, Mine, Bump, fieldsRight, stepRefusal, effect}
 use Rattle.position.specs.declared.Position.{Position}
-use Rattle.steps.specs.Decode.{fieldsRight}
-use Rattle.position.specs.StepRefusal.{stepRefusal}
-use Rattle.position.specs.Effect.{effect}
 use Rattle.step_laws.proofs.Provenance.{Moved}
 use Rattle.step_laws.proofs.MovedShare.{moved-share}
 use Rattle.step_laws.proofs.MovedGive.{moved-give}

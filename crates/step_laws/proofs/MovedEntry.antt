@@ -1,22 +1,13 @@
 -- Where entries and shared signatures come from in a send, a hand-in, an inclusion and a bump.
 -- Assumes nothing.
-use Rattle.laws.proofs.Prelude.{ℕ, _<_, _≡_, refl, sym, _∙_, true, List, _⊎_, inl, inr}
-use Rattle.laws.specs.Booleans.{either, clash}
+use Rattle.laws.proofs.Prelude.{ℕ, _<_, _≡_, refl, sym, _∙_, true, List, _⊎_, inl, inr, either, clash}
+use Rattle.position.proofs.Rules.{Slot, Destination, SendToPool, HandToMiner, destinationNumber, standing, entryFor, withPool, withBlock, withShared, exposedMask}
+use Rattle.position.proofs.Rules.{slot, inPool, shared, deadlineIn, fieldsRight, enters, stepRefusal, withSlots, changeSlot, changeSlots, afterSend}
+use Rattle.position.specs.declared.Position.{Position}
+use Rattle.position.proofs.Rules.{afterHandIn, afterInclude, leavesBlock, bumpSlot, afterBump}
 use Rattle.laws.specs.Cases.{picked}
-use Rattle.slots.specs.declared.Slot.{Slot}
-use Rattle.slots.specs.declared.Destination.{Destination}
-use Rattle.slots.specs.declared.Step.the-variants.{SendToPool, HandToMiner}
-use Rattle.slots.specs.Destination.{destinationNumber}
-use Rattle.slots.specs.Slot.{standing, entryFor, withPool, withBlock, withShared}
-use Rattle.slots.specs.Signatures.{exposedMask}
 use Rattle.slots.proofs.Entered.{Entered, pooled, after-pool, after-block, after-shared}
 use Rattle.slots.proofs.SharedBits.{shared-from, shared-kept, shared-pool, shared-block}
-use Rattle.position.specs.declared.Position.{Position}
-use Rattle.position.specs.Position.{slot, inPool, shared, deadlineIn}
-use Rattle.steps.specs.Decode.{fieldsRight}
-use Rattle.position.specs.Owed.{enters}
-use Rattle.position.specs.StepRefusal.{stepRefusal}
-use Rattle.position.specs.Effect.{withSlots, changeSlot, changeSlots, afterSend, afterHandIn, afterInclude, leavesBlock, bumpSlot, afterBump}
 use Rattle.step_laws.proofs.AfterSends.{entry-stands, entry-names}
 use Rattle.step_laws.proofs.AfterBlocks.{none-stands}
 use Rattle.step_laws.proofs.Sending.{Sent, sent-to-pool, before-deadline, handed-in}

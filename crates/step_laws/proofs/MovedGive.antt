@@ -1,23 +1,11 @@
 -- Where a key comes from in a gift.
 -- Assumes nothing.
-use Rattle.laws.proofs.Prelude.{ℕ, _^_, _<_, _≡_, refl, true, _&&_, _||_, List, _⊎_, inl, inr, ltb, ltb-true}
-use lib.Bits.{bitOr}
-use Rattle.laws.specs.Booleans.{either, and-parts}
-use Rattle.laws.specs.Bits.{bit-or, or-bit}
-use Rattle.laws.specs.Cases.{stored}
-use Rattle.laws.specs.Failing.{passed}
-use Rattle.laws.specs.Mask.{bit}
-use Rattle.sheet.specs.Field.{signatures}
-use Rattle.slots.specs.declared.Destination.{Destination}
-use Rattle.slots.specs.declared.Step.the-variants.{Give}
-use Rattle.slots.specs.Destination.{destinationNumber, isParty}
+use Rattle.laws.proofs.Prelude.{ℕ, _^_, _<_, _≡_, refl, true, _&&_, _||_, List, _⊎_, inl, inr, ltb, ltb-true, bitOr, either, and-parts, bit-or, or-bit, passed, bit}
+use Rattle.position.proofs.Rules.{signatures, Destination, Give, destinationNumber, isParty, slot, keys, holds, isOther, fieldsRight, giveMet, giveTests}
 use Rattle.position.specs.declared.Position.{Position}
-use Rattle.position.specs.Position.{slot, keys, holds}
-use Rattle.steps.specs.Decode.{isOther, fieldsRight}
-use Rattle.position.specs.Tests.{giveMet, giveTests}
-use Rattle.position.specs.Conduct.{isOpen, mayGive, conductAllows}
-use Rattle.position.specs.StepRefusal.{tests, stepRefusal}
-use Rattle.position.specs.Effect.{withKey, afterGive}
+use Rattle.position.proofs.Rules.{isOpen, mayGive, conductAllows, stepRefusal, withKey, afterGive}
+use Rattle.laws.specs.Cases.{stored}
+use Rattle.position.specs.StepRefusal.{tests}
 use Rattle.step_laws.proofs.Provenance.{given, Moved, slot-same}
 
 module _ (p : Position) (receiver j : ℕ) where

@@ -1,18 +1,11 @@
 -- Where entries and shared signatures come from in a mined block.
 -- Assumes nothing.
-use Rattle.laws.proofs.Prelude.{ℕ, _+_, _<_, _≡_, refl, sym, _∙_, Bool, true, false, false≢true, List, _⊎_, inl, inr, arith}
-use Rattle.laws.specs.Booleans.{pick, either}
-use Rattle.laws.specs.Mask.{bit}
-use Rattle.slots.specs.declared.Slot.{Slot}
-use Rattle.slots.specs.Destination.{destinations}
-use Rattle.slots.specs.Slot.{standing, entryTo, withPool, withBlock, withConfirmed, sharedFor, withShared}
-use Rattle.slots.specs.Signatures.{exposedMask}
+use Rattle.laws.proofs.Prelude.{ℕ, _+_, _<_, _≡_, refl, sym, _∙_, Bool, true, false, false≢true, List, _⊎_, inl, inr, arith, pick, either, bit}
+use Rattle.position.proofs.Rules.{Slot, destinations, standing, entryTo, withPool, withBlock, withConfirmed, sharedFor, withShared, exposedMask, slot, inBlock}
+use Rattle.position.specs.declared.Position.{Position}
+use Rattle.position.proofs.Rules.{blockTo, blockOf, shared, confirmEntry, withSlots, changeSlots, leavesPool, mineSlot, withMined, afterMine}
 use Rattle.slots.proofs.Entered.{Entered, filled, after-pool, after-confirmed, after-shared}
 use Rattle.slots.proofs.SharedBits.{shared-from, shared-kept, shared-pool, shared-block, shared-confirmed}
-use Rattle.position.specs.declared.Position.{Position}
-use Rattle.position.specs.Position.{slot, inBlock, blockTo, blockOf, shared}
-use Rattle.steps.specs.Mined.{confirmEntry}
-use Rattle.position.specs.Effect.{withSlots, changeSlots, leavesPool, mineSlot, withMined, afterMine}
 use Rattle.step_laws.proofs.Provenance.{byBlock, SlotMoved, Moved, entered-same, keys-same, each-changed}
 use Rattle.step_laws.proofs.MovedEntry.{nothing-stands, removed}
 

@@ -1,29 +1,15 @@
 -- Where entries and shared signatures come from in a share and in first shares.
 -- Assumes nothing.
-use Rattle.laws.proofs.Prelude.{ℕ, _<_, _≡_, refl, sym, _∙_, Bool, true, false, not, _&&_, _||_, List, [], _∷_, _⊎_, inl, inr, eqb, ltb}
-use Rattle.laws.proofs.Prelude.{eqb-true, eq-eqb}
-use Rattle.laws.specs.Booleans.{split, either, clash, and-parts, or-parts}
+use Rattle.laws.proofs.Prelude.{ℕ, _<_, _≡_, refl, sym, _∙_, Bool, true, false, not, _&&_, _||_, List, [], _∷_, _⊎_, inl, inr, eqb, ltb, eqb-true, eq-eqb, split, either}
+use Rattle.laws.proofs.Prelude.{clash, and-parts, or-parts, passed, every, bit}
+use Rattle.position.proofs.Rules.{count, conduct, Destination, Share, contract, destinations, destinationNumber, isParty, emptySlot, withShared, withMark, shareMask}
+use Rattle.position.proofs.Rules.{slot, shared, keys, noTransaction, sharesTo, firstShareFields, fieldsRight, firstShares, shareMet, shareTests, isOpen}
+use Rattle.position.specs.declared.Position.{Position}
+use Rattle.position.proofs.Rules.{mayShare, conductAllows, stepRefusal, withSlots, changeSlot, shareOne, shareEach, afterShare}
 use Rattle.laws.specs.Cases.{stored}
-use Rattle.laws.specs.Failing.{passed}
-use Rattle.laws.specs.Gather.{every}
-use Rattle.laws.specs.Mask.{bit}
-use Rattle.sheet.specs.Field.{count}
-use Rattle.sheet.specs.Setup.{conduct}
-use Rattle.slots.specs.declared.Destination.{Destination}
-use Rattle.slots.specs.declared.Step.the-variants.{Share}
-use Rattle.slots.specs.Destination.{contract, destinations, destinationNumber, isParty}
-use Rattle.slots.specs.Slot.{emptySlot, withShared, withMark}
-use Rattle.slots.specs.Signatures.{shareMask}
 use Rattle.slots.proofs.Entered.{after-shared, after-mark}
 use Rattle.slots.proofs.SharedBits.{shared-from, shared-kept, shared-mark}
-use Rattle.position.specs.declared.Position.{Position}
-use Rattle.position.specs.Position.{slot, shared, keys}
-use Rattle.steps.specs.Decode.{noTransaction, sharesTo, firstShareFields, fieldsRight}
-use Rattle.position.specs.FirstShares.{firstShares}
-use Rattle.position.specs.Tests.{shareMet, shareTests}
-use Rattle.position.specs.Conduct.{isOpen, mayShare, conductAllows}
-use Rattle.position.specs.StepRefusal.{tests, stepRefusal}
-use Rattle.position.specs.Effect.{withSlots, changeSlot, shareOne, shareEach, afterShare}
+use Rattle.position.specs.StepRefusal.{tests}
 use Rattle.step_laws.proofs.Provenance.{Stands, Shown, byFirstShares, byShare, Moved, entered-same, bit-same, keys-same}
 
 -- t passes every test that all of a list pass

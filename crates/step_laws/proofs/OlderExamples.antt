@@ -1,21 +1,11 @@
 -- Slip 3 on the SASwap sheet, three blocks per day, computed: sends that meet 16 and 17, one of them, a lower number or none, with the
 -- number that each got and the one that it gets.
 -- Assumes nothing.
-use Rattle.laws.proofs.Prelude.{ℕ, _≡_, refl, ap, Bool, true, false, _&&_, List, [], _∷_, _++_, _⊎_, eqb, arith}
-use mathlib.Core.Bool.{Bool·beq}
-use Rattle.laws.specs.Booleans.{either}
-use Rattle.laws.specs.Gather.{every}
-use Rattle.sheet.specs.Refusal.{stepSignatures, stepLock}
-use Rattle.sheet.specs.Saswap.{saswap}
-use Rattle.slots.specs.declared.Destination.the-variants.{Contract}
-use Rattle.slots.specs.declared.Step.{Step}
-use Rattle.slots.specs.declared.Step.the-variants.{SendToPool, HandToMiner}
-use Rattle.slots.specs.Destination.{alice, bob}
-use Rattle.steps.specs.Names.{revoke, refund2}
+use Rattle.laws.proofs.Prelude.{ℕ, _≡_, refl, ap, Bool, true, false, _&&_, List, [], _∷_, _++_, _⊎_, eqb, arith, Bool·beq, either, every}
+use Rattle.position.proofs.Rules.{stepSignatures, stepLock, saswap, Contract, Step, SendToPool, HandToMiner, alice, bob, revoke, refund2, stepRefusal, run}
 use Rattle.position.specs.declared.Position.{Position}
 use Rattle.position.specs.declared.Ran.{Ran}
-use Rattle.position.specs.StepRefusal.{tests, stepRefusal}
-use Rattle.position.specs.Play.{run}
+use Rattle.position.specs.StepRefusal.{tests}
 use Rattle.position.proofs.Opened.{opened}
 use Rattle.step_laws.specs.OlderOrder.{olderSendTests, olderPoolTests, olderMinerTests, olderPayingPasses, olderCanPay, olderPayingFirst, olderAllows}
 use Rattle.step_laws.specs.OlderOrder.{olderRefusal, meets, passesBelow, meetsBoth, olderTake, olderRunFrom, olderRun, SameRun}

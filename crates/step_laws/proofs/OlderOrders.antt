@@ -1,25 +1,13 @@
 -- Slip 3: by the older order of a send's tests conduct says the same, and the answers differ exactly where 16 and 17 are both met.
 -- Assumes nothing.
-use Rattle.laws.proofs.Prelude.{ℕ, _≡_, refl, ap, fun-ext, Bool, true, false, _&&_, List, [], _∷_, eqb, ltb, leb}
-use Rattle.laws.specs.Booleans.{split, clash}
-use Rattle.laws.specs.Below.{anyBelow}
-use Rattle.laws.specs.Failing.{firstFailing}
-use Rattle.laws.specs.Gather.{every}
-use Rattle.sheet.specs.Refusal.{stepStealth, stepConduct, stepConflict, stepParent, stepSignatures, stepLock, stepDeadline}
-use Rattle.sheet.specs.Field.{count}
-use Rattle.sheet.specs.Setup.{stealth}
-use Rattle.slots.specs.declared.Destination.{Destination}
-use Rattle.slots.specs.declared.Step.{Step}
-use Rattle.slots.specs.declared.Step.the-variants.{Share, Give, SendToPool, HandToMiner, Include, Mine, Bump}
-use Rattle.slots.specs.Destination.{destinationNumber, isPayee, isContract}
-use Rattle.slots.specs.Conflict.{noConflict}
-use Rattle.slots.specs.Ancestry.{hasParent}
-use Rattle.slots.specs.Signatures.{signed}
+use Rattle.laws.proofs.Prelude.{ℕ, _≡_, refl, ap, fun-ext, Bool, true, false, _&&_, List, [], _∷_, eqb, ltb, leb, split, clash, anyBelow, firstFailing, every}
+use Rattle.position.proofs.Rules.{stepConduct, stepConflict, stepParent, stepSignatures, stepLock, count, stealth, Destination, Step, Share, Give, SendToPool}
+use Rattle.position.proofs.Rules.{HandToMiner, Include, Mine, Bump, destinationNumber, isPayee, isContract, noConflict, hasParent, signed, sent, placed}
 use Rattle.position.specs.declared.Position.{Position}
-use Rattle.position.specs.Position.{sent, placed, senderHas, lockHeightIn, deadlineIn}
-use Rattle.position.specs.Tests.{shareTests, giveTests, sendTests, poolTests, minerTests, includeTests, mineTests, bumpTests}
-use Rattle.position.specs.Conduct.{isCareful, sendAllowed, payingPasses, canPay, payingFirst, conductAllows}
-use Rattle.position.specs.StepRefusal.{tests, stepRefusal}
+use Rattle.position.proofs.Rules.{senderHas, lockHeightIn, deadlineIn, shareTests, giveTests, sendTests, poolTests, minerTests, includeTests, mineTests, bumpTests}
+use Rattle.position.proofs.Rules.{isCareful, sendAllowed, payingPasses, canPay, payingFirst, conductAllows, stepRefusal}
+use Rattle.sheet.specs.Refusal.{stepStealth, stepDeadline}
+use Rattle.position.specs.StepRefusal.{tests}
 use Rattle.step_laws.specs.OlderOrder.{olderSendTests, olderPoolTests, olderMinerTests, olderPayingPasses, olderCanPay, olderPayingFirst, olderAllows, olderRefusal, meets, passesBelow, meetsBoth, isSend, SameButBoth}
 use Rattle.step_laws.proofs.TurnedTests.{Turned, unturned, accepts-same, turned}
 

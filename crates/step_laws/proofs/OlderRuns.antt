@@ -1,18 +1,11 @@
 -- Slip 3 over a journal: by the older order as many steps were accepted, to the same position, and the refused one got the same number or 16 for 17.
 -- Assumes nothing.
-use Rattle.laws.proofs.Prelude.{ℕ, _+_, _≡_, refl, ap, true, false, List, [], _∷_, _⊎_, inl, inr, eqb}
-use Rattle.laws.specs.Booleans.{split, either}
-use Rattle.laws.specs.Failing.{firstFailing}
-use Rattle.sheet.specs.Refusal.{accepted, stepSignatures, stepLock}
-use Rattle.slots.specs.declared.Step.{Step}
-use Rattle.steps.specs.declared.Decoded.{Decoded}
-use Rattle.steps.specs.declared.Decoded.the-variants.{Read, Refused}
+use Rattle.laws.proofs.Prelude.{ℕ, _+_, _≡_, refl, ap, true, false, List, [], _∷_, _⊎_, inl, inr, eqb, split, either, firstFailing}
+use Rattle.position.proofs.Rules.{accepted, stepSignatures, stepLock, Step, Decoded, Read, Refused, start, effect, FourBytes, journalSteps}
 use Rattle.position.specs.declared.Position.{Position}
 use Rattle.position.specs.declared.Stepped.{Stepped}
-use Rattle.position.specs.Position.{start}
+use Rattle.position.proofs.Rules.{decodeBytes, takeStep, takeDecoded, step, runFrom, callTests, run}
 use Rattle.position.specs.StepRefusal.{tests}
-use Rattle.position.specs.Effect.{effect}
-use Rattle.position.specs.Play.{FourBytes, journalSteps, decodeBytes, takeStep, takeDecoded, step, runFrom, callTests, run}
 use Rattle.step_laws.specs.OlderOrder.{meetsBoth, olderTake, olderRunFrom, olderRun, SameRun}
 use Rattle.step_laws.proofs.OlderOrders.{same-but-both}
 

@@ -1,23 +1,11 @@
 -- Where the entries, shared signatures and keys of a position come from: each was there before a step, or came with its passed tests.
 -- Assumes nothing.
-use Rattle.laws.proofs.Prelude.{ℕ, _^_, _<_, _≡_, sym, Bool, true, false, _||_, List, _⊎_, inl, eqb}
-use Rattle.laws.specs.Booleans.{either}
-use Rattle.laws.specs.Cases.{stored, rewrote}
-use Rattle.laws.specs.Each.{rewriteFirst}
-use Rattle.laws.specs.Gather.{every}
-use Rattle.laws.specs.Mask.{bit}
-use Rattle.sheet.specs.Field.{count}
-use Rattle.slots.specs.declared.Slot.{Slot}
-use Rattle.slots.specs.Destination.{contract, destinations}
-use Rattle.slots.specs.Slot.{emptySlot, sharedFor}
-use Rattle.slots.specs.Signatures.{shareMask, exposedMask}
-use Rattle.slots.proofs.Entered.{Entered}
+use Rattle.laws.proofs.Prelude.{ℕ, _^_, _<_, _≡_, sym, Bool, true, false, _||_, List, _⊎_, inl, eqb, either, rewriteFirst, every, bit}
+use Rattle.position.proofs.Rules.{count, Slot, contract, destinations, emptySlot, sharedFor, shareMask, exposedMask, slot, inPool, inBlock, blockTo, blockOf}
 use Rattle.position.specs.declared.Position.{Position}
-use Rattle.position.specs.Position.{slot, inPool, inBlock, blockTo, blockOf, shared, keys, holds, deadlineIn}
-use Rattle.steps.specs.Decode.{noTransaction, sharesTo, isOther}
-use Rattle.position.specs.FirstShares.{firstShares}
-use Rattle.position.specs.Conduct.{isOpen, mayShare, mayGive}
-use Rattle.position.specs.Effect.{withSlots, changeSlot}
+use Rattle.position.proofs.Rules.{shared, keys, holds, deadlineIn, noTransaction, sharesTo, isOther, firstShares, isOpen, mayShare, mayGive, withSlots, changeSlot}
+use Rattle.laws.specs.Cases.{stored, rewrote}
+use Rattle.slots.proofs.Entered.{Entered}
 use Rattle.step_laws.proofs.Sending.{Sent}
 
 -- an entry of t for this destination stands in pool or block, or is confirmed

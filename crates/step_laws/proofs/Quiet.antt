@@ -1,20 +1,10 @@
 -- What no step but a mined block alters: the blocks mined, the confirmations, and that a pool entry stands.
 -- Assumes nothing.
-use Rattle.laws.proofs.Prelude.{ℕ, _≤_, _≡_, refl, true, false, List, _⊎_, inl, inr, eqb, length, not-true, arith}
-use Rattle.laws.specs.Booleans.{or-right}
-use Rattle.laws.specs.Failing.{passed}
-use Rattle.sheet.specs.Field.{count}
-use Rattle.slots.specs.declared.Step.{Step}
-use Rattle.slots.specs.declared.Step.the-variants.{Share, Give, SendToPool, HandToMiner, Include, Mine, Bump}
-use Rattle.slots.specs.Destination.{destinationNumber}
-use Rattle.slots.specs.Slot.{emptySlot}
+use Rattle.laws.proofs.Prelude.{ℕ, _≤_, _≡_, refl, true, false, List, _⊎_, inl, inr, eqb, length, not-true, arith, or-right, passed}
+use Rattle.position.proofs.Rules.{count, Step, Share, Give, SendToPool, HandToMiner, Include, Mine, Bump, destinationNumber, emptySlot, slot, inPool, blockOf}
 use Rattle.position.specs.declared.Position.{Position}
-use Rattle.position.specs.Position.{slot, inPool, blockOf}
-use Rattle.steps.specs.Decode.{fieldsRight}
-use Rattle.position.specs.Owed.{anyOwed}
-use Rattle.position.specs.Tests.{mineTests}
-use Rattle.position.specs.StepRefusal.{tests, stepRefusal}
-use Rattle.position.specs.Effect.{afterSend, afterMine, effect}
+use Rattle.position.proofs.Rules.{fieldsRight, anyOwed, mineTests, stepRefusal, afterSend, afterMine, effect}
+use Rattle.position.specs.StepRefusal.{tests}
 use Rattle.step_laws.proofs.Untouched.{SamePool, SameConfirmed}
 use Rattle.step_laws.proofs.AfterShares.{share-pool, share-confirmed, give-pool, give-confirmed}
 use Rattle.step_laws.proofs.AfterSends.{send-pool, send-confirmed, hand-pool, hand-confirmed, include-pool, include-confirmed}

@@ -1,12 +1,10 @@
 -- Holders read from a report are those read from the position.
 -- Assumes nothing.
 use Rattle.laws.proofs.Prelude.{ℕ, _≡_, List}
+use Rattle.position.proofs.Rules.{isConfirmed, reportedPayee, reportedHolder, payee, reportBytes, holderIn}
 use Rattle.position.specs.declared.Position.{Position}
-use Rattle.position.specs.Position.{isConfirmed}
-use Rattle.readings.specs.Reported.{reportedPayee, reportedConfirmed, reportedHolder}
+use Rattle.readings.specs.Reported.{reportedConfirmed}
 use Rattle.readings.proofs.Holders.{holder-same}
-use Rattle.position.specs.Report.{payee, reportBytes}
-use Rattle.position.specs.Holder.{holderIn}
 use Rattle.step_laws.proofs.Reports.{payee-read, confirmed-read}
 
 pub reported-holder : (s u : List ℕ) (p : Position) (counts : List ℕ) (coin : ℕ) → reportedHolder s (reportBytes s u p counts) coin ≡ holderIn s p coin

@@ -1,19 +1,12 @@
 -- The report: what is read from its bytes is what the position says.
 -- Assumes nothing.
-use Rattle.laws.proofs.Prelude.{ℕ, _+_, _*_, _/_, _%_, _≤_, _<_, _≡_, sym, ap, _∙_, Bool, true, false, List, lit<, lit≤, getD, eq-eqb}
-use Rattle.laws.proofs.Prelude.{ne-eqb, arith}
-use native.Mathlib.Nat.{add-zero}
-use Rattle.laws.specs.Booleans.{pick}
-use Rattle.laws.specs.Gather.{gather, gather-at}
-use Rattle.laws.specs.Little.{bytesOf, numberAt, number-gather}
-use Rattle.laws.specs.Mask.{bit}
-use Rattle.sheet.specs.Field.{count}
-use Rattle.slots.specs.Invalidated.{invalidated}
+use Rattle.laws.proofs.Prelude.{ℕ, _+_, _*_, _/_, _%_, _≤_, _<_, _≡_, sym, ap, _∙_, Bool, true, false, List, lit<, lit≤, getD, eq-eqb, ne-eqb, arith, add-zero, pick}
+use Rattle.laws.proofs.Prelude.{gather, gather-at, bytesOf, numberAt, bit}
+use Rattle.position.proofs.Rules.{count, invalidated, inPool, inBlock, isConfirmed, rowWidth, reportedStatus, reportedPayee, reportedLine, status, payee, row}
 use Rattle.position.specs.declared.Position.{Position}
-use Rattle.position.specs.Position.{inPool, inBlock, isConfirmed}
-use Rattle.readings.specs.Reported.{rowWidth, reportedStatus, reportedPayee, reportedConfirmed, reportedLine, rowLine}
-use Rattle.position.specs.Report.{status, payee, row, fullRow, reportBytes}
-use Rattle.position.specs.Printed.{printedLine}
+use Rattle.position.proofs.Rules.{fullRow, reportBytes, printedLine}
+use Rattle.laws.specs.Little.{number-gather}
+use Rattle.readings.specs.Reported.{reportedConfirmed, rowLine}
 use Rattle.position.proofs.ReportLengths.{row-length}
 
 low : (b : Bool) (n : ℕ) → pick b n 0 ≤ n

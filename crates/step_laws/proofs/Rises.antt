@@ -1,24 +1,13 @@
 -- The open steps rise by actor, kind, transaction and destination.
 -- Assumes nothing.
-use Rattle.laws.proofs.Prelude.{ℕ, _+_, _<_, _≡_, refl, Bool, true, List, [], _∷_, eqb, ltb, getD, lt-ltb, arith}
-use mathlib.Core.List.{List·Memᴰ, List·Memᴰ·not-nil}
-use Rattle.laws.specs.Booleans.{split}
-use Rattle.laws.specs.Gather.{gather}
+use Rattle.laws.proofs.Prelude.{ℕ, _+_, _<_, _≡_, refl, Bool, true, List, [], _∷_, eqb, ltb, getD, lt-ltb, arith, List·Memᴰ, List·Memᴰ·not-nil, split, gather}
+use Rattle.position.proofs.Rules.{accepted, parties, partyAt, Step, miner, destinations, Decoded, Read, Refused, slotCount, noTransaction, decode, stepBytes}
+use Rattle.position.specs.declared.Position.{Position}
+use Rattle.position.proofs.Rules.{stepRefusal, FourBytes, actorAt, actors, kinds, ifAccepted, openAt, openOf, actorSteps, openSteps, listedBefore}
 use Rattle.laws.specs.Members.{member-gather, Rising, rising-append, rising-gather}
 use Rattle.laws.specs.Order.{lower, lower-here, lower-later}
-use Rattle.sheet.specs.Refusal.{accepted}
-use Rattle.sheet.specs.Field.{parties, partyAt}
 use Rattle.sheet.proofs.Parties.{place-at, at-not-miner}
-use Rattle.slots.specs.declared.Step.{Step}
-use Rattle.slots.specs.Destination.{miner, destinations}
-use Rattle.position.specs.declared.Position.{Position}
-use Rattle.steps.specs.declared.Decoded.{Decoded}
-use Rattle.steps.specs.declared.Decoded.the-variants.{Read, Refused}
-use Rattle.position.specs.Position.{slotCount}
-use Rattle.steps.specs.Decode.{noTransaction, decode, stepBytes}
-use Rattle.position.specs.StepRefusal.{stepRefusal}
-use Rattle.position.specs.Play.{FourBytes}
-use Rattle.position.specs.Open.{actorAt, actors, kinds, ifAccepted, openAt, openOf, actorSteps, openSteps, rank, listPlace, listedBefore}
+use Rattle.position.specs.Open.{rank, listPlace}
 use Rattle.position.proofs.Decoding.{decodes}
 use Rattle.step_laws.proofs.Listed.{IsOpen, alone-is, place-open, kind-open, actor-open, open-gathered}
 

@@ -1,23 +1,13 @@
 -- What the passed tests of a send tell, to the pool or to the miner.
 -- Assumes nothing.
-use Rattle.laws.proofs.Prelude.{ℕ, _≤_, _<_, _≡_, refl, Bool, true, false, _&&_, _||_, List, ltb, ltb-true, ltb-false, leb-true, arith}
-use Rattle.laws.specs.Booleans.{and-parts, or-neither}
-use Rattle.laws.specs.Bits.{subset-bit}
-use Rattle.laws.specs.Failing.{passed}
-use Rattle.laws.specs.Mask.{bit}
-use Rattle.sheet.specs.Field.{count, signatures, required}
-use Rattle.slots.specs.declared.Destination.{Destination}
-use Rattle.slots.specs.declared.Step.the-variants.{SendToPool, HandToMiner}
-use Rattle.slots.specs.Destination.{destinationNumber, isParty}
-use Rattle.slots.specs.Conflict.{conflict}
-use Rattle.slots.specs.Signatures.{signed}
-use Rattle.slots.proofs.Conflicts.{no-conflict}
+use Rattle.laws.proofs.Prelude.{ℕ, _≤_, _<_, _≡_, refl, Bool, true, false, _&&_, _||_, List, ltb, ltb-true, ltb-false, leb-true, arith, and-parts, or-neither, subset-bit}
+use Rattle.laws.proofs.Prelude.{passed, bit}
+use Rattle.position.proofs.Rules.{count, signatures, required, Destination, SendToPool, HandToMiner, destinationNumber, isParty, conflict, signed, inPool}
 use Rattle.position.specs.declared.Position.{Position}
-use Rattle.position.specs.Position.{inPool, inBlock, blockOf, isConfirmed, sent, placed, senderHas, lockHeightIn, deadlineIn}
-use Rattle.steps.specs.Decode.{sendsTo, fieldsRight}
-use Rattle.position.specs.Tests.{sendTests, poolTests, minerTests}
-use Rattle.position.specs.Conduct.{sendAllowed, payingFirst, conductAllows}
-use Rattle.position.specs.StepRefusal.{tests, stepRefusal}
+use Rattle.position.proofs.Rules.{inBlock, blockOf, isConfirmed, sent, placed, senderHas, lockHeightIn, deadlineIn, sendsTo, fieldsRight, sendTests, poolTests}
+use Rattle.position.proofs.Rules.{minerTests, sendAllowed, payingFirst, conductAllows, stepRefusal}
+use Rattle.slots.proofs.Conflicts.{no-conflict}
+use Rattle.position.specs.StepRefusal.{tests}
 
 -- a send of t by a party to a destination, "kind 3 or 4", that passes
 pub record Sent (s u : List ℕ) (p : Position) (party t to : ℕ) : Type 0 where

@@ -1,20 +1,12 @@
 -- What is proved of the open steps, of every position that steps lead to, and of the order of a send's tests.
 -- Assumes nothing.
-use Rattle.laws.proofs.Prelude.{ℕ, _≤_, _≡_, refl, List, eqb, length}
-use mathlib.Core.List.{List·Memᴰ}
-use Rattle.laws.specs.Booleans.{pick}
-use Rattle.laws.specs.Members.{Rising}
-use Rattle.sheet.specs.Refusal.{accepted}
-use Rattle.sheet.specs.Field.{parties, count, signatures}
-use Rattle.sheet.specs.Check.{sheetRefusal}
-use Rattle.sheet.specs.Setup.{conduct, setupRefusal}
-use Rattle.sheet.proofs.Theorems.{sheet-checked, setup-checked}
-use Rattle.slots.specs.declared.Step.{Step}
+use Rattle.laws.proofs.Prelude.{ℕ, _≤_, _≡_, refl, List, eqb, length, List·Memᴰ, pick}
+use Rattle.position.proofs.Rules.{accepted, parties, count, signatures, sheetRefusal, conduct, setupRefusal, Step, slotCount, start, FourBytes, step, run, play}
 use Rattle.position.specs.declared.Position.{Position}
-use Rattle.position.specs.Position.{slotCount, start}
-use Rattle.position.specs.Play.{FourBytes, step, run, play}
-use Rattle.position.specs.Open.{openSteps, listSteps, listedBefore}
-use Rattle.position.specs.Conduct.{payingFirst}
+use Rattle.position.proofs.Rules.{openSteps, listedBefore, payingFirst}
+use Rattle.laws.specs.Members.{Rising}
+use Rattle.sheet.proofs.Theorems.{sheet-checked, setup-checked}
+use Rattle.position.specs.Open.{listSteps}
 use Rattle.step_laws.specs.Wellformed.{Wellformed}
 use Rattle.step_laws.specs.ListBound.{mostOpen}
 use Rattle.step_laws.specs.OlderOrder.{olderPayingFirst, SameButBoth, olderRun, SameRun}

@@ -1,11 +1,10 @@
 -- Sums that count: bounded terms, one term, the parties of a sheet, and pairs of one that has something and one that has not.
 -- Assumes nothing.
-use Rattle.laws.proofs.Prelude.{ℕ, zero, suc, _+_, _*_, _/_, _≤_, _<_, _≡_, refl, Bool, not, _&&_, List, eqb, ltb, eqb-true, ltb-true}
-use Rattle.laws.proofs.Prelude.{eq-eqb, ne-eqb, arith}
-use native.Mathlib.Nat.{eq-or-lt-of-le, le-of-suc-le-suc, mul-le-mul-left}
-use Rattle.laws.specs.Booleans.{pick, split, either}
-use Rattle.laws.specs.Sum.{sumBelow, sum-bound, sum-both, sum-times, sum-swap}
-use Rattle.sheet.specs.Field.{parties, place, partyAt, isParty}
+use Rattle.laws.proofs.Prelude.{ℕ, zero, suc, _+_, _*_, _/_, _≤_, _<_, _≡_, refl, Bool, not, _&&_, List, eqb, ltb, eqb-true, ltb-true, eq-eqb, ne-eqb, arith}
+use Rattle.laws.proofs.Prelude.{eq-or-lt-of-le, le-of-suc-le-suc, mul-le-mul-left, pick, split, either, sumBelow, sum-bound, sum-both, sum-swap}
+use Rattle.position.proofs.Rules.{parties, place, partyAt}
+use Rattle.laws.specs.Sum.{sum-times}
+use Rattle.sheet.specs.Field.{isParty}
 use Rattle.sheet.proofs.Parties.{place-below, at-place}
 
 -- terms that are no more than others, and at most w each

@@ -1,11 +1,9 @@
 -- 16 and 17 in turned places of a numbered list, behind tests of lower numbers and before tests of higher ones.
 -- Assumes nothing.
-use Rattle.laws.proofs.Prelude.{ℕ, _≤_, _≡_, refl, Bool, true, false, not, _&&_, _||_, false≢true, List, [], _∷_, _++_, eqb, ltb, ltb-true}
-use Rattle.laws.proofs.Prelude.{ne-eqb, arith}
-use Rattle.laws.specs.Booleans.{split, clash, and-parts}
-use Rattle.laws.specs.Failing.{firstFailing, numbersBelow}
-use Rattle.laws.specs.Gather.{every}
-use Rattle.sheet.specs.Refusal.{accepted, stepSignatures, stepLock}
+use Rattle.laws.proofs.Prelude.{ℕ, _≤_, _≡_, refl, Bool, true, false, not, _&&_, _||_, false≢true, List, [], _∷_, _++_, eqb, ltb, ltb-true, ne-eqb, arith, split, clash}
+use Rattle.laws.proofs.Prelude.{and-parts, firstFailing, every}
+use Rattle.position.proofs.Rules.{accepted, stepSignatures, stepLock}
+use Rattle.laws.specs.Failing.{numbersBelow}
 use Rattle.step_laws.specs.OlderOrder.{meets, passesBelow, meetsBoth}
 
 -- the answers of the two orders, and whether both numbers were met

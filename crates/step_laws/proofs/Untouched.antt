@@ -1,11 +1,8 @@
 -- The parts of a position that a step leaves as they are: pool, block being filled, confirmations.
 -- Assumes nothing.
 use Rattle.laws.proofs.Prelude.{ℕ, _≡_, refl, ap, fun-ext, List}
-use Rattle.slots.specs.declared.Slot.{Slot}
-use Rattle.slots.specs.Slot.{standing, entryTo}
+use Rattle.position.proofs.Rules.{Slot, standing, entryTo, slot, inPool, poolTo, inBlock, blockTo, blockOf, confirmedTo, withSlots, changeSlot, changeSlots}
 use Rattle.position.specs.declared.Position.{Position}
-use Rattle.position.specs.Position.{slot, inPool, poolTo, inBlock, blockTo, blockOf, confirmedTo}
-use Rattle.position.specs.Effect.{withSlots, changeSlot, changeSlots}
 use Rattle.position.proofs.Changed.{one-kept, all-kept}
 
 pub record SamePool (p q : Position) : Type 0 where

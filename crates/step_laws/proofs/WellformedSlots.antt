@@ -1,14 +1,10 @@
 -- Each change of a slot leads from a well-formed one to a well-formed one.
 -- Assumes nothing.
-use Rattle.laws.proofs.Prelude.{ℕ, _^_, _≤_, _<_, _≡_, refl, sym, _∙_, Bool, true, List, eqb, lt-ltb, arith}
-use lib.Bits.{bitOr, or-lt}
+use Rattle.laws.proofs.Prelude.{ℕ, _^_, _≤_, _<_, _≡_, refl, sym, _∙_, Bool, true, List, eqb, lt-ltb, arith, bitOr, or-lt, pick}
+use Rattle.position.proofs.Rules.{signatures, Slot, alice, bob, carol, contract, destinations, emptySlot, standing, withPool, withBlock, withConfirmed, sharedFor}
+use Rattle.position.proofs.Rules.{withShared, marksOf, withMark}
 use lib.Pow.{pow-pos, pow-lt}
-use Rattle.laws.specs.Booleans.{pick}
 use Rattle.laws.specs.Cases.{picked-has}
-use Rattle.sheet.specs.Field.{signatures}
-use Rattle.slots.specs.declared.Slot.{Slot}
-use Rattle.slots.specs.Destination.{alice, bob, carol, contract, destinations}
-use Rattle.slots.specs.Slot.{emptySlot, standing, withPool, withBlock, withConfirmed, sharedFor, withShared, marksOf, withMark}
 use Rattle.step_laws.specs.Wellformed.{WellformedSlot}
 
 -- a mask of n bits

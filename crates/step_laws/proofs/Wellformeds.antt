@@ -1,34 +1,20 @@
 -- The empty journal's position is well formed, and every step of any four bytes keeps it so.
 -- Assumes nothing.
-use Rattle.laws.proofs.Prelude.{ℕ, zero, suc, _+_, _-_, _^_, _≤_, _<_, _≡_, refl, _∙_, true, List, [], _∷_, eqb, getD, ltb-true, arith}
-use native.Mathlib.Nat.{le-refl}
-use lib.Bits.{bitAnd, bitOr, and-le-l, or-lt}
-use lib.Pow.{pow-pos, pow-lt}
-use Rattle.laws.specs.Booleans.{split, either}
-use Rattle.laws.specs.Cases.{picked-has, stored, rewrote}
-use Rattle.laws.specs.Failing.{firstFailing, passed}
-use Rattle.laws.specs.Mask.{without}
-use Rattle.sheet.specs.Refusal.{accepted}
-use Rattle.sheet.specs.Field.{isParty, count, signatures, secrets, startKeys, required, veil}
-use Rattle.sheet.specs.Checked.{Checked}
-use Rattle.slots.specs.declared.Slot.{Slot}
-use Rattle.slots.specs.declared.Destination.{Destination}
-use Rattle.slots.specs.declared.Step.{Step}
-use Rattle.slots.specs.declared.Step.the-variants.{Share, Give, SendToPool, HandToMiner, Include, Mine, Bump}
-use Rattle.slots.specs.Destination.{alice, bob, carol, contract, destinations, destinationNumber}
-use Rattle.slots.specs.Slot.{emptySlot, standing, entryFor, entryTo, withPool, withBlock, withShared, withMark}
-use Rattle.slots.specs.Signatures.{shareMask, exposedMask}
+use Rattle.laws.proofs.Prelude.{ℕ, zero, suc, _+_, _-_, _^_, _≤_, _<_, _≡_, refl, _∙_, true, List, [], _∷_, eqb, getD, ltb-true, arith, bitAnd, bitOr, or-lt, split}
+use Rattle.laws.proofs.Prelude.{either, firstFailing, passed, without}
+use Rattle.position.proofs.Rules.{accepted, count, signatures, secrets, startKeys, required, veil, Checked, Slot, Destination, Step, Share, Give, SendToPool, HandToMiner}
+use Rattle.position.proofs.Rules.{Include, Mine, Bump, alice, bob, carol, contract, destinations, destinationNumber, emptySlot, standing, entryFor, entryTo, withPool}
+use Rattle.position.proofs.Rules.{withBlock, withShared, withMark, shareMask, exposedMask, startHeld, start, slot, inBlock, keys, noTransaction, fieldsRight}
 use Rattle.position.specs.declared.Position.{Position}
-use Rattle.position.specs.Position.{startHeld, start, slot, inBlock, keys}
-use Rattle.steps.specs.Decode.{noTransaction, fieldsRight}
-use Rattle.position.specs.FirstShares.{firstShares}
-use Rattle.position.specs.Owed.{enters}
-use Rattle.position.specs.Tests.{mineTests, blockLimit}
-use Rattle.position.specs.StepRefusal.{tests, stepRefusal}
-use Rattle.steps.specs.Mined.{confirmEntry}
-use Rattle.position.specs.Effect.{withSlots, changeSlot, changeSlots, withKey, shareOne, shareEach, afterShare, afterGive, afterSend}
-use Rattle.position.specs.Effect.{afterHandIn, afterInclude, leavesPool, mineSlot, withMined, afterMine, leavesBlock, bumpSlot, afterBump, effect}
-use Rattle.position.specs.Play.{FourBytes, journalSteps, step, runFrom, callTests, run, play}
+use Rattle.position.proofs.Rules.{firstShares, enters, mineTests, blockLimit, stepRefusal, confirmEntry, withSlots, changeSlot, changeSlots, withKey, shareOne, shareEach}
+use Rattle.position.proofs.Rules.{afterShare, afterGive, afterSend, afterHandIn, afterInclude, leavesPool, mineSlot, withMined, afterMine, leavesBlock, bumpSlot}
+use Rattle.position.proofs.Rules.{afterBump, effect, FourBytes, journalSteps, step, runFrom, callTests, run, play}
+use native.Mathlib.Nat.{le-refl}
+use lib.Bits.{and-le-l}
+use lib.Pow.{pow-pos, pow-lt}
+use Rattle.laws.specs.Cases.{picked-has, stored, rewrote}
+use Rattle.sheet.specs.Field.{isParty}
+use Rattle.position.specs.StepRefusal.{tests}
 use Rattle.step_laws.specs.Wellformed.{WellformedSlot, Wellformed}
 use Rattle.position.proofs.Changed.{one-length, all-length}
 use Rattle.position.proofs.Decoding.{destination-within}

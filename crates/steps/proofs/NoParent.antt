@@ -1,11 +1,7 @@
 -- A transaction whose parent is not there cannot be sent, by neither kind if it is nowhere.
 -- Assumes nothing.
-use Rattle.laws.proofs.Prelude.{ℕ, _≡_, refl, sym, _∙_, Bool, true, false, List, eqb, eqb-true}
-use lib.Bits.{bitOr}
-use Rattle.laws.specs.Booleans.{either, or-parts, or-right, clash, fails-by}
-use Rattle.laws.specs.Failing.{firstFailing, passed}
-use Rattle.laws.specs.Mask.{bit}
-use Rattle.laws.specs.Bits.{bit-or}
+use Rattle.laws.proofs.Prelude.{ℕ, _≡_, refl, sym, _∙_, Bool, true, false, List, eqb, eqb-true, bitOr, either, or-parts, or-right, clash, fails-by, firstFailing, passed}
+use Rattle.laws.proofs.Prelude.{bit, bit-or}
 use Rattle.sheet.specs.Refusal.{accepted}
 use Rattle.sheet.specs.Field.{parent, opening}
 use Rattle.slots.specs.declared.Slot.{Slot}

@@ -1,7 +1,6 @@
 -- Kind 3: the tests that it shares with kind 4, and the deadline behind them.
 -- Assumes nothing.
-use Rattle.laws.proofs.Prelude.{ℕ, _≡_, refl, sym, _∙_, Bool, List, [], _∷_, ltb}
-use Rattle.laws.specs.Failing.{firstFailing, failed-append, passed-append}
+use Rattle.laws.proofs.Prelude.{ℕ, _≡_, refl, sym, _∙_, Bool, List, [], _∷_, ltb, firstFailing, failed-append, passed-append}
 use Rattle.sheet.specs.Refusal.{stepDeadline}
 use Rattle.sheet.specs.Setup.{perDay}
 use Rattle.slots.specs.declared.Slot.{Slot}

@@ -1,7 +1,6 @@
 -- A height below the next block is reached.
 -- Assumes nothing.
-use Rattle.laws.proofs.Prelude.{ℕ, _+_, _≡_, ltb, leb, leb-true, leb-false, lt-ltb, le-ltb, arith}
-use Rattle.laws.specs.Booleans.{split}
+use Rattle.laws.proofs.Prelude.{ℕ, _+_, _≡_, ltb, leb, leb-true, leb-false, lt-ltb, le-ltb, arith, split}
 
 pub below-next : (h m : ℕ) → ltb h (m + 1) ≡ leb h m
 below-next h m =

@@ -1,7 +1,6 @@
 -- What right fields tell of a step of each kind, for the functions over steps.
 -- Assumes nothing.
-use Rattle.laws.proofs.Prelude.{ℕ, _≤_, _<_, _≡_, true, _&&_, List, eqb, ltb, eqb-true, ltb-true, arith}
-use Rattle.laws.specs.Booleans.{either, and-parts, or-parts}
+use Rattle.laws.proofs.Prelude.{ℕ, _≤_, _<_, _≡_, true, _&&_, List, eqb, ltb, eqb-true, ltb-true, arith, either, and-parts, or-parts}
 use Rattle.sheet.specs.Field.{count, signatures}
 use Rattle.slots.specs.declared.Destination.{Destination}
 use Rattle.slots.specs.declared.Step.{Step}

@@ -1,7 +1,6 @@
 -- A slot without an entry is not changed by taking the entry out.
 -- Assumes nothing.
-use Rattle.laws.proofs.Prelude.{_≡_, refl, ap, Bool, true, false}
-use Rattle.laws.specs.Booleans.{pick}
+use Rattle.laws.proofs.Prelude.{_≡_, refl, ap, Bool, true, false, pick}
 use Rattle.slots.specs.declared.Slot.{Slot}
 use Rattle.slots.specs.Slot.{withPool, withBlock}
 

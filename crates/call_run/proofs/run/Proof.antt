@@ -1,8 +1,7 @@
 -- The rest starts within the journal.
-use Rattle.laws.specs.Wrote.{to-end}
+use Rattle.laws.proofs.Prelude.{to-end, needs}
 use Rattle.position.specs.Answers.{runPart}
 use Rattle.call_run.proofs.Bounds.{ran-bounds}
-use borrow.Author.Needs.{needs}
 use Rattle.call_run.proofs.run.Statement.{statement}
 use Rattle.call_run.proofs.run.Tie as tie
 

@@ -1,11 +1,9 @@
 -- The counts of the transactions before t are noted.
 use Rattle.dated.specs.Dated.{firstOpen, noted}
 use Rattle.dated.proofs.OpenViews.{first-open-view, may-open, count-stays}
-use Rattle.sheet.specs.LockHeight.{never}
-use Rattle.position.specs.Position.{slot}
-use Rattle.position.specs.Forms.View.{sinceIn}
-use Rattle.laws.specs.Each.{rewriteFirst, rewrite-start, rewrite-again, rewrite-past, rewrite-done, length-of-map}
-use Rattle.laws.proofs.Prelude.{_-_, _≤_, _≡_, refl, _∙_, length, getD, needs, arith}
+use Rattle.laws.proofs.Prelude.{rewriteFirst, rewrite-start, rewrite-again, rewrite-done, length-of-map, _-_, _≤_, _≡_, refl, _∙_, length, getD, needs, arith}
+use Rattle.position.proofs.Rules.{never, slot, sinceIn}
+use Rattle.laws.specs.Each.{rewrite-past}
 use Rattle.dated.proofs.noted.Statement.{statement}
 use Rattle.dated.proofs.noted.Tie as tie
 

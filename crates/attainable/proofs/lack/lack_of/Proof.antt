@@ -1,8 +1,5 @@
 -- Case by case.
-use Rattle.laws.proofs.Prelude.{sym, _∙_, not-true, needs}
-use lib.Bits.{or-lt}
-use Rattle.laws.specs.Booleans.{held}
-use Rattle.laws.specs.Mask.{without}
+use Rattle.laws.proofs.Prelude.{sym, _∙_, not-true, needs, or-lt, held, without}
 use Rattle.attainable.proofs.Lacking.{lack-barred, lack-away, lack-own, lack-rest}
 use Rattle.attainable.proofs.lack.lack_of.Statement.{statement}
 use Rattle.attainable.proofs.lack.lack_of.Tie as tie

@@ -1,9 +1,6 @@
 -- Those below t.
-use Rattle.laws.proofs.Prelude.{_-_, _≤_, refl, needs, arith}
-use lib.Bits.{bitOr}
-use Rattle.laws.specs.Mask.{bit}
-use Rattle.slots.specs.Slot.{sharedFor}
-use Rattle.position.specs.Position.{slot}
+use Rattle.laws.proofs.Prelude.{_-_, _≤_, refl, needs, arith, bitOr, bit}
+use Rattle.position.proofs.Rules.{sharedFor, slot}
 use Rattle.soonest.specs.Forms.Table.{Filled}
 use Rattle.soonest.proofs.Tables.{filled-start, filled-more, filled-done}
 use Rattle.attainable.specs.Forms.Others.{Lacks}

@@ -1,8 +1,6 @@
 -- Those below t.
-use Rattle.laws.proofs.Prelude.{_-_, _≤_, _≡_, _||_, needs}
-use Rattle.laws.specs.Sets.{setBelow, set-start, set-more, set-done}
-use Rattle.laws.specs.Mask.{bit}
-use Rattle.readings.specs.Forms.Report.{deadIn}
+use Rattle.laws.proofs.Prelude.{_-_, _≤_, _≡_, _||_, needs, setBelow, set-start, set-more, set-done, bit}
+use Rattle.position.proofs.Rules.{deadIn}
 use Rattle.attainable.proofs.read.gone.Statement.{statement}
 use Rattle.attainable.proofs.read.gone.Tie as tie
 

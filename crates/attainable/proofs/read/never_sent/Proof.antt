@@ -1,6 +1,5 @@
 -- Without stealth, by the deadline.
-use Rattle.laws.specs.Booleans.{tests}
-use borrow.Author.Needs.{needs}
+use Rattle.laws.proofs.Prelude.{tests, needs}
 use Rattle.attainable.specs.Attainable.{neverSent}
 use Rattle.attainable.proofs.read.never_sent.Statement.{statement}
 use Rattle.attainable.proofs.read.never_sent.Tie as tie

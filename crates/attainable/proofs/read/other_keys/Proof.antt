@@ -1,6 +1,5 @@
 -- None for X.
-use Rattle.laws.specs.Booleans.{tests}
-use borrow.Author.Needs.{needs}
+use Rattle.laws.proofs.Prelude.{tests, needs}
 use Rattle.attainable.proofs.read.other_keys.Statement.{statement}
 use Rattle.attainable.proofs.read.other_keys.Tie as tie
 

@@ -1,9 +1,6 @@
 -- The keys of the parties below k.
-use Rattle.laws.proofs.Prelude.{_-_, _≤_, _≡_, eqb, needs}
-use Rattle.laws.specs.Booleans.{pick}
-use Rattle.laws.specs.Mask.{unionBelow}
-use Rattle.sheet.specs.Field.{partyAt}
-use Rattle.steps.specs.Forms.View.{keysIn}
+use Rattle.laws.proofs.Prelude.{_-_, _≤_, _≡_, eqb, needs, pick, unionBelow}
+use Rattle.position.proofs.Rules.{partyAt, keysIn}
 use Rattle.attainable.proofs.Masks.{union-start, union-more, union-done}
 use Rattle.attainable.proofs.read.others_keys.Statement.{statement}
 use Rattle.attainable.proofs.read.others_keys.Tie as tie

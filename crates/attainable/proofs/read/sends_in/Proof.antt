@@ -1,6 +1,5 @@
 -- A contract transaction for the contract, a paying one for the party.
-use Rattle.laws.specs.Booleans.{tests}
-use borrow.Author.Needs.{needs}
+use Rattle.laws.proofs.Prelude.{tests, needs}
 use Rattle.attainable.specs.Forms.Others.{sendsIn}
 use Rattle.attainable.proofs.read.sends_in.Statement.{statement}
 use Rattle.attainable.proofs.read.sends_in.Tie as tie

@@ -1,7 +1,6 @@
 -- Those below t.
-use Rattle.laws.proofs.Prelude.{_-_, _≤_, _≡_, needs}
-use Rattle.laws.specs.Sets.{setBelow, set-start, set-more, set-done}
-use Rattle.position.specs.Position.{slot}
+use Rattle.laws.proofs.Prelude.{_-_, _≤_, _≡_, needs, setBelow, set-start, set-more, set-done}
+use Rattle.position.proofs.Rules.{slot}
 use Rattle.attainable.specs.Forms.Others.{waitsIn}
 use Rattle.attainable.proofs.read.waits.Statement.{statement}
 use Rattle.attainable.proofs.read.waits.Tie as tie

@@ -1,6 +1,5 @@
 -- Those below t, each over its parent.
-use Rattle.laws.proofs.Prelude.{_-_, _≤_, _≡_, needs, arith}
-use Rattle.laws.specs.Sets.{setBelow, set-start, set-more, set-done}
+use Rattle.laws.proofs.Prelude.{_-_, _≤_, _≡_, needs, arith, setBelow, set-start, set-more, set-done}
 use Rattle.attainable.specs.Forms.Round.{reachIn, reachSet}
 use Rattle.attainable.proofs.Reaching.{reach-turn}
 use Rattle.attainable.proofs.round.reach.Statement.{statement}

@@ -1,6 +1,5 @@
 -- The secrets of the members below t.
-use Rattle.laws.proofs.Prelude.{_-_, _≤_, _≡_, needs}
-use Rattle.laws.specs.Mask.{unionBelow}
+use Rattle.laws.proofs.Prelude.{_-_, _≤_, _≡_, needs, unionBelow}
 use Rattle.attainable.specs.Forms.Round.{shownAt, shownIn}
 use Rattle.attainable.proofs.Masks.{union-start, union-more, union-done}
 use Rattle.attainable.proofs.round.shown.Statement.{statement}

@@ -1,6 +1,5 @@
 -- Refused, or four bytes over the part after the journal.
-use Rattle.laws.proofs.Prelude.{refl, sym, _∙_, length-drop, needs, arith}
-use Rattle.laws.specs.Wrote.{to-end}
+use Rattle.laws.proofs.Prelude.{refl, sym, _∙_, length-drop, needs, arith, to-end}
 use Rattle.call_ask.proofs.Commits.{part-written, answer-no, answer-yes, pass}
 use Rattle.call_ask.proofs.commit.commit.Statement.{statement}
 use Rattle.call_ask.proofs.commit.commit.Tie as tie

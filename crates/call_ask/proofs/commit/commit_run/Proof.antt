@@ -1,6 +1,5 @@
 -- Beyond the buffer, or its first n bytes.
-use lib.Seq.{length-take-le}
-use Rattle.laws.proofs.Prelude.{sym, needs}
+use Rattle.laws.proofs.Prelude.{length-take-le, sym, needs}
 use Rattle.call_ask.proofs.Commits.{run-beyond, run-within}
 use Rattle.call_ask.proofs.commit.commit_run.Statement.{statement}
 use Rattle.call_ask.proofs.commit.commit_run.Tie as tie

@@ -1,7 +1,6 @@
 -- Below the count, and to its destination.
-use Rattle.laws.specs.Booleans.{tests}
+use Rattle.laws.proofs.Prelude.{tests, needs}
 use Rattle.call_blocks.specs.BlockList.{entryNamed}
-use borrow.Author.Needs.{needs}
 use Rattle.call_blocks.proofs.block_list.entry_named.Statement.{statement}
 use Rattle.call_blocks.proofs.block_list.entry_named.Tie as tie
 

@@ -1,9 +1,7 @@
 -- 29, then 30, then 31.
-use Rattle.laws.specs.Booleans.{held}
-use Rattle.laws.specs.Failing.{fails, passes, none-left}
+use Rattle.laws.proofs.Prelude.{held, fails, passes, none-left, needs}
 use Rattle.call_blocks.specs.BlockList.{listTests}
 use Rattle.call_blocks.proofs.Tested.{ledger-by}
-use borrow.Author.Needs.{needs}
 use Rattle.call_blocks.proofs.block_list.list_refusal.Statement.{statement}
 use Rattle.call_blocks.proofs.block_list.list_refusal.Tie as tie
 

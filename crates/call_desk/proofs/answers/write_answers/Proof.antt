@@ -1,6 +1,5 @@
 -- The answers of the swaps before i; the journal of swap i starts at `start`.
-use Rattle.laws.proofs.Prelude.{_-_, _≡_, needs, arith}
-use Rattle.laws.specs.Wrote.{Turns, turns-start}
+use Rattle.laws.proofs.Prelude.{_-_, _≡_, needs, arith, Turns, turns-start}
 use Rattle.call_desk.specs.Bundle.{startOf}
 use Rattle.call_desk.specs.Desk.{swapBytes}
 use Rattle.call_desk.proofs.Bundles.{arrays, arrays-some, stands, start-first, start-next}

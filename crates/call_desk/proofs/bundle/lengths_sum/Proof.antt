@@ -1,6 +1,5 @@
 -- The sum of the lengths before i.
-use Rattle.laws.proofs.Prelude.{_-_, _*_, _≤_, _≡_, needs, arith}
-use Rattle.laws.specs.Sum.{sumBelow, sum-start, sum-more, sum-done}
+use Rattle.laws.proofs.Prelude.{_-_, _*_, _≤_, _≡_, needs, arith, sumBelow, sum-start, sum-more, sum-done}
 use Rattle.call_desk.specs.Bundle.{lengthOf}
 use Rattle.call_desk.proofs.Bundles.{arrays-some}
 use Rattle.call_desk.proofs.bundle.lengths_sum.Statement.{statement}

@@ -1,6 +1,5 @@
 -- The planned ones before t.
-use Rattle.laws.proofs.Prelude.{_-_, _≤_, _≡_, needs, arith}
-use Rattle.laws.specs.Sets.{setBelow, set-start, set-more, set-done}
+use Rattle.laws.proofs.Prelude.{_-_, _≤_, _≡_, needs, arith, setBelow, set-start, set-more, set-done}
 use Rattle.endings.specs.Plan.{planned}
 use Rattle.call_earliest.specs.Forms.Table.{members}
 use Rattle.call_earliest.proofs.members.members.Statement.{statement}

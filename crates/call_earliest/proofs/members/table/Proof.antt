@@ -1,6 +1,5 @@
 -- The blocks of the transactions before t.
-use Rattle.laws.proofs.Prelude.{_-_, _≤_, _≡_, replicate, needs, arith}
-use Rattle.laws.specs.Each.{rewriteFirst, rewrite-start, rewrite-again, rewrite-done}
+use Rattle.laws.proofs.Prelude.{_-_, _≤_, _≡_, replicate, needs, arith, rewriteFirst, rewrite-start, rewrite-again, rewrite-done}
 use Rattle.call_earliest.specs.Forms.Table.{blockIn, table}
 use Rattle.call_earliest.proofs.members.table.Statement.{statement}
 use Rattle.call_earliest.proofs.members.table.Tie as tie

@@ -1,7 +1,6 @@
 -- Alice's steps and Bob's, then Carol's and the miner's.
-use Rattle.laws.proofs.Prelude.{ℕ, _+_, _-_, _≤_, List, _++_, length, needs, arith}
+use Rattle.laws.proofs.Prelude.{ℕ, _+_, _-_, _≤_, List, _++_, length, needs, arith, Wrote, wrote-first, wrote-room, wrote-more, front-fits}
 use borrow.Rule.Slice.PartMut.{putMid}
-use Rattle.laws.specs.Wrote.{Wrote, wrote-first, wrote-room, wrote-more, front-fits}
 use Rattle.call_list.specs.Forms.SetsBytes.{twoBytes, setsBytes}
 use Rattle.call_list.proofs.listing.write_all.Statement.{statement}
 use Rattle.call_list.proofs.listing.write_all.Tie as tie

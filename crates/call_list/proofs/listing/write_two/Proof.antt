@@ -1,7 +1,6 @@
 -- One actor's steps, then the other's.
-use Rattle.laws.proofs.Prelude.{ℕ, _+_, _-_, _≤_, List, _++_, length, needs, arith}
+use Rattle.laws.proofs.Prelude.{ℕ, _+_, _-_, _≤_, List, _++_, length, needs, arith, Wrote, wrote-first, wrote-room, wrote-more, front-fits}
 use borrow.Rule.Slice.PartMut.{putMid}
-use Rattle.laws.specs.Wrote.{Wrote, wrote-first, wrote-room, wrote-more, front-fits}
 use Rattle.output.specs.Forms.Emitted.{actorBytes}
 use Rattle.call_list.specs.Forms.SetsBytes.{twoBytes}
 use Rattle.call_list.proofs.listing.write_two.Statement.{statement}

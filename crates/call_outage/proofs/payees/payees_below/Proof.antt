@@ -1,10 +1,8 @@
 -- The payees of those below k.
 use Rattle.call_outage.specs.Forms.Row.{payeesIn}
 use Rattle.laws.specs.Unions.{union-start, union-more, union-done}
-use Rattle.sheet.specs.Field.{payees}
-use Rattle.laws.specs.Booleans.{pick}
-use Rattle.laws.specs.Mask.{bit, unionBelow}
-use Rattle.laws.proofs.Prelude.{_-_, _≤_, _≡_, getD, needs}
+use Rattle.laws.proofs.Prelude.{pick, bit, unionBelow, _-_, _≤_, _≡_, getD, needs}
+use Rattle.position.proofs.Rules.{payees}
 use Rattle.call_outage.proofs.payees.payees_below.Statement.{statement}
 use Rattle.call_outage.proofs.payees.payees_below.Tie as tie
 

@@ -1,9 +1,7 @@
 -- Two stores, then two numbers after them.
-use Rattle.laws.specs.Little.{bytesOf, length-pair}
-use Rattle.laws.specs.Over.{stores-over}
-use Rattle.laws.specs.Wrote.{Wrote, wrote-first, wrote-room, wrote-more}
+use Rattle.laws.proofs.Prelude.{bytesOf, length-pair, stores-over, Wrote, wrote-first, wrote-room, wrote-more, ℕ, _-_, _≤_, _≡_, refl, sym, List, [], _∷_, _++_, length}
+use Rattle.laws.proofs.Prelude.{set, length-set, needs, arith}
 use borrow.Rule.Slice.PartMut.{putMid}
-use Rattle.laws.proofs.Prelude.{ℕ, _-_, _≤_, _≡_, refl, sym, List, [], _∷_, _++_, length, set, length-set, needs, arith}
 use Rattle.call_outage.proofs.row.write_row.Statement.{statement}
 use Rattle.call_outage.proofs.row.write_row.Tie as tie
 

@@ -2,12 +2,8 @@
 use Rattle.call_outage.proofs.RowLengths.{row-length, rows-room}
 use Rattle.call_outage.proofs.RowViews.{above-small, row-right}
 use Rattle.call_outage.specs.Verdict.{outageRow, outageBytes}
-use Rattle.position.specs.Position.{slot}
-use Rattle.position.specs.Forms.View.{sinceIn}
-use Rattle.laws.specs.Each.{length-of-map}
-use Rattle.laws.specs.Wrote.{Turns, turns-start, turn-room, turn-end, turn-more, turns-done}
-use Rattle.laws.proofs.Prelude.{_-_, _<_, _≡_, sym, length, needs, arith}
-use Rattle.sheet.specs.Field.{count}
+use Rattle.laws.proofs.Prelude.{length-of-map, Turns, turns-start, turn-room, turn-end, turn-more, turns-done, _-_, _<_, _≡_, sym, length, needs, arith}
+use Rattle.position.proofs.Rules.{slot, sinceIn, count}
 use Rattle.call_outage.proofs.rows.write_rows.Statement.{statement}
 use Rattle.call_outage.proofs.rows.write_rows.Tie as tie
 

@@ -1,7 +1,6 @@
 -- In the tests' order.
 use Rattle.call_outage.specs.Verdict.{isCovered}
-use Rattle.laws.specs.Booleans.{tests}
-use Rattle.laws.proofs.Prelude.{not-true, not-false, needs}
+use Rattle.laws.proofs.Prelude.{tests, not-true, not-false, needs}
 use Rattle.call_outage.proofs.verdict.covered.Statement.{statement}
 use Rattle.call_outage.proofs.verdict.covered.Tie as tie
 

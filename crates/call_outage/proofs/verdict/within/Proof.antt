@@ -1,6 +1,5 @@
 -- No later than the blocks mined, or by what is left.
-use Rattle.laws.proofs.Prelude.{_+_, _-_, sym, leb, leb-true, leb-false, le-leb, lt-leb, needs, arith}
-use Rattle.laws.specs.Booleans.{split}
+use Rattle.laws.proofs.Prelude.{_+_, _-_, sym, leb, leb-true, leb-false, le-leb, lt-leb, needs, arith, split}
 use Rattle.call_outage.proofs.verdict.within.Statement.{statement}
 use Rattle.call_outage.proofs.verdict.within.Tie as tie
 

@@ -1,9 +1,8 @@
 -- The columns before k; then the end of the line.
-use Rattle.laws.proofs.Prelude.{_+_, _-_, _≤_, _≡_, [], _∷_, _++_, length, needs, arith}
+use Rattle.laws.proofs.Prelude.{_+_, _-_, _≤_, _≡_, [], _∷_, _++_, length, needs, arith, gather, Wrote, Turns, turns-start, turn-room, turn-end, turn-more, turns-done}
+use Rattle.laws.proofs.Prelude.{wrote-room, wrote-more}
+use Rattle.position.proofs.Rules.{reportedLine}
 use borrow.Rule.Slice.PartMut.{putMid}
-use Rattle.laws.specs.Gather.{gather}
-use Rattle.laws.specs.Wrote.{Wrote, Turns, turns-start, turn-room, turn-end, turn-more, turns-done, wrote-room, wrote-more}
-use Rattle.readings.specs.Reported.{reportedLine}
 use Rattle.call_page.specs.Line.{lineFeed, column, line}
 use Rattle.call_page.specs.Page.{lineTexts}
 use Rattle.call_page.specs.Forms.Cell.{cell}

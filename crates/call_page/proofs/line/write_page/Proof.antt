@@ -1,7 +1,6 @@
 -- The lines before i.
-use Rattle.laws.proofs.Prelude.{suc, _-_, _<_, _≡_, sym, length, needs, arith}
-use Rattle.laws.specs.Wrote.{Turns, turns-start, turn-room, turn-end, turn-more, turns-done}
-use Rattle.readings.specs.Reported.{reportedLine}
+use Rattle.laws.proofs.Prelude.{suc, _-_, _<_, _≡_, sym, length, needs, arith, Turns, turns-start, turn-room, turn-end, turn-more, turns-done}
+use Rattle.position.proofs.Rules.{reportedLine}
 use Rattle.call_page.specs.Line.{line}
 use Rattle.call_page.specs.Page.{lineTexts, pageOf}
 use Rattle.call_page.proofs.Lines.{bytes-readable, line-length, page-room}

@@ -1,14 +1,9 @@
 -- What is left to do from each step on is the whole, and the view is the position's.
-use Rattle.laws.proofs.Prelude.{_-_, _*_, _≤_, _≡_, refl, sym, _∙_, needs, arith}
-use denote.Ref.{now}
-use Rattle.laws.specs.Booleans.{either}
-use Rattle.sheet.specs.Field.{count}
-use Rattle.steps.proofs.RightFields.{give-listed, pool-listed, miner-listed, include-listed, bump-listed}
+use Rattle.laws.proofs.Prelude.{_-_, _*_, _≤_, _≡_, refl, sym, _∙_, needs, arith, either}
+use Rattle.position.proofs.Rules.{count, journalSteps, decodeBytes, step, slot, viewBelow, stepAt}
 use Rattle.position.specs.declared.Stepped.{Stepped}
-use Rattle.position.specs.Play.{journalSteps, decodeBytes, step}
-use Rattle.position.specs.Position.{slot}
-use Rattle.position.specs.Forms.View.{viewBelow}
-use Rattle.position.specs.Forms.Journal.{stepAt}
+use denote.Ref.{now}
+use Rattle.steps.proofs.RightFields.{give-listed, pool-listed, miner-listed, include-listed, bump-listed}
 use Rattle.position.specs.Forms.Owed.{DueKnown}
 use Rattle.position.proofs.Decoding.{decodes}
 use Rattle.position.proofs.Fields.{share-fields}

@@ -1,6 +1,5 @@
 -- A twin, or the position of the row that is lost.
-use Rattle.laws.proofs.Prelude.{refl, inl, inr, not-false, needs}
-use Rattle.laws.specs.Booleans.{clash}
+use Rattle.laws.proofs.Prelude.{refl, inl, inr, not-false, needs, clash}
 use Rattle.call_shrink.proofs.LostRows.{meets-found}
 use Rattle.call_shrink.proofs.round.stays.Statement.{statement}
 use Rattle.call_shrink.proofs.round.stays.Tie as tie

@@ -1,6 +1,5 @@
 -- The blocks mined, the keys and the slots.
-use Rattle.laws.proofs.Prelude.{refl, not-false, needs}
-use Rattle.laws.specs.Booleans.{clash}
+use Rattle.laws.proofs.Prelude.{refl, not-false, needs, clash}
 use Rattle.call_shrink.proofs.SameParts.{positions-same}
 use Rattle.call_shrink.proofs.same.same.Statement.{statement}
 use Rattle.call_shrink.proofs.same.same.Tie as tie

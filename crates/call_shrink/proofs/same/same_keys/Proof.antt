@@ -1,6 +1,5 @@
 -- The same below k.
-use Rattle.laws.proofs.Prelude.{_-_, _≤_, refl, needs}
-use Rattle.laws.specs.Booleans.{clash}
+use Rattle.laws.proofs.Prelude.{_-_, _≤_, refl, needs, clash}
 use Rattle.call_shrink.proofs.SameParts.{Agree, agree-start, agree-more, agree-all}
 use Rattle.call_shrink.proofs.same.same_keys.Statement.{statement}
 use Rattle.call_shrink.proofs.same.same_keys.Tie as tie

@@ -1,6 +1,5 @@
 -- All parts are the same.
-use Rattle.laws.proofs.Prelude.{refl, eqb-true}
-use Rattle.laws.specs.Booleans.{clash}
+use Rattle.laws.proofs.Prelude.{refl, eqb-true, clash}
 use Rattle.call_shrink.proofs.SameParts.{slots-same}
 use Rattle.call_shrink.proofs.same.same_slot.Statement.{statement}
 use Rattle.call_shrink.proofs.same.same_slot.Tie as tie

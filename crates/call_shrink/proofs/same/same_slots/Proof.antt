@@ -1,8 +1,6 @@
 -- The same below k.
-use Rattle.laws.proofs.Prelude.{_-_, _≤_, refl, not-false, needs}
-use Rattle.laws.specs.Booleans.{clash}
-use Rattle.laws.specs.Each.{length-of-map}
-use Rattle.slots.specs.Slot.{emptySlot}
+use Rattle.laws.proofs.Prelude.{_-_, _≤_, refl, not-false, needs, clash, length-of-map}
+use Rattle.position.proofs.Rules.{emptySlot}
 use Rattle.call_shrink.proofs.SameParts.{Agree, agree-start, agree-more, agree-all}
 use Rattle.call_shrink.proofs.same.same_slots.Statement.{statement}
 use Rattle.call_shrink.proofs.same.same_slots.Tie as tie

@@ -1,8 +1,7 @@
 -- By the lock type; the sum stays below the threshold.
 use Rattle.call_timelocks.proofs.Within.{absolute-within}
 use Rattle.call_timelocks.specs.Fields.{nLockTime}
-use Rattle.laws.specs.Booleans.{tests}
-use Rattle.laws.proofs.Prelude.{sym, _∙_, needs, arith}
+use Rattle.laws.proofs.Prelude.{tests, sym, _∙_, needs, arith}
 use Rattle.call_timelocks.proofs.fields.lock_time.Statement.{statement}
 use Rattle.call_timelocks.proofs.fields.lock_time.Tie as tie
 

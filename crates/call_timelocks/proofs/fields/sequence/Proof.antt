@@ -1,7 +1,6 @@
 -- By the lock type.
 use Rattle.call_timelocks.specs.Fields.{nSequence}
-use Rattle.laws.specs.Booleans.{tests}
-use borrow.Author.Needs.{needs}
+use Rattle.laws.proofs.Prelude.{tests, needs}
 use Rattle.call_timelocks.proofs.fields.sequence.Statement.{statement}
 use Rattle.call_timelocks.proofs.fields.sequence.Tie as tie
 

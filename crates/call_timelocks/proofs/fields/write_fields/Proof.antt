@@ -2,10 +2,7 @@
 use Rattle.call_timelocks.proofs.Lengths.{field-length, fields-room}
 use Rattle.call_timelocks.specs.Fields.{nLockTime, nSequence, fieldBytes, timelockBytes}
 use Rattle.call_timelocks.specs.Limits.{absoluteRight}
-use Rattle.laws.specs.Below.{all-at}
-use Rattle.laws.specs.Little.{bytesOf}
-use Rattle.laws.specs.Wrote.{Turns, turns-start, turn-room, turn-end, turn-more, turns-done}
-use Rattle.laws.proofs.Prelude.{ℕ, _-_, _<_, _≡_, sym, List, _++_, needs, arith}
+use Rattle.laws.proofs.Prelude.{all-at, bytesOf, Turns, turns-start, turn-room, turn-end, turn-more, turns-done, ℕ, _-_, _<_, _≡_, sym, List, _++_, needs, arith}
 use Rattle.sheet.specs.Field.{count}
 use Rattle.call_timelocks.proofs.fields.write_fields.Statement.{statement}
 use Rattle.call_timelocks.proofs.fields.write_fields.Tie as tie

@@ -1,8 +1,7 @@
 -- By the lock type; the sum cannot wrap.
 use Rattle.call_timelocks.specs.Fields.{nLockTime}
 use Rattle.call_timelocks.specs.Limits.{absoluteRight}
-use Rattle.laws.specs.Booleans.{tests}
-use borrow.Author.Needs.{needs}
+use Rattle.laws.proofs.Prelude.{tests, needs}
 use Rattle.call_timelocks.proofs.limits.absolute_right.Statement.{statement}
 use Rattle.call_timelocks.proofs.limits.absolute_right.Tie as tie
 

@@ -1,8 +1,7 @@
 -- 26, then 27.
 use Rattle.call_timelocks.specs.Limits.{limitTests}
 use Rattle.call_timelocks.specs.Forms.Limits.{limitRule}
-use Rattle.laws.specs.Failing.{none-left, fails, passes}
-use borrow.Author.Needs.{needs}
+use Rattle.laws.proofs.Prelude.{none-left, fails, passes, needs}
 use Rattle.call_timelocks.proofs.limits.limit_refusal.Statement.{statement}
 use Rattle.call_timelocks.proofs.limits.limit_refusal.Tie as tie
 

@@ -1,7 +1,6 @@
 -- A rule by its number.
 use Rattle.call_timelocks.specs.Forms.Limits.{limitRule}
-use Rattle.laws.specs.Booleans.{tests}
-use borrow.Author.Needs.{needs}
+use Rattle.laws.proofs.Prelude.{tests, needs}
 use Rattle.call_timelocks.proofs.limits.limit_rule.Statement.{statement}
 use Rattle.call_timelocks.proofs.limits.limit_rule.Tie as tie
 

@@ -1,7 +1,6 @@
 -- By the lock type.
 use Rattle.call_timelocks.specs.Limits.{relativeRight}
-use Rattle.laws.specs.Booleans.{tests}
-use borrow.Author.Needs.{needs}
+use Rattle.laws.proofs.Prelude.{tests, needs}
 use Rattle.call_timelocks.proofs.limits.relative_right.Statement.{statement}
 use Rattle.call_timelocks.proofs.limits.relative_right.Tie as tie
 

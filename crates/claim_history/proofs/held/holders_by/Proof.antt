@@ -1,7 +1,6 @@
 -- The holders of the coins before this one.
-use Rattle.laws.proofs.Prelude.{_-_, _≤_, _≡_, replicate, needs, arith}
-use Rattle.laws.specs.Each.{rewriteFirst, rewrite-start, rewrite-again, rewrite-done}
-use Rattle.readings.specs.Reported.{reportedHolder}
+use Rattle.laws.proofs.Prelude.{_-_, _≤_, _≡_, replicate, needs, arith, rewriteFirst, rewrite-start, rewrite-again, rewrite-done}
+use Rattle.position.proofs.Rules.{reportedHolder}
 use Rattle.claim_history.specs.Promise.{holders}
 use Rattle.claim_history.proofs.held.holders_by.Statement.{statement}
 use Rattle.claim_history.proofs.held.holders_by.Tie as tie

@@ -1,7 +1,6 @@
 -- The holders of the coins before this one.
-use Rattle.laws.proofs.Prelude.{_-_, _≤_, _≡_, replicate, needs, arith}
-use Rattle.laws.specs.Each.{rewriteFirst, rewrite-start, rewrite-again, rewrite-done}
-use Rattle.position.specs.Holder.{holderIn}
+use Rattle.laws.proofs.Prelude.{_-_, _≤_, _≡_, replicate, needs, arith, rewriteFirst, rewrite-start, rewrite-again, rewrite-done}
+use Rattle.position.proofs.Rules.{holderIn}
 use Rattle.claim_history.specs.Promise.{holders}
 use Rattle.claim_history.proofs.held.holders_in.Statement.{statement}
 use Rattle.claim_history.proofs.held.holders_in.Tie as tie

@@ -1,7 +1,5 @@
 -- By the report's answer.
-use Rattle.laws.proofs.Prelude.{_*_, sym, needs, arith}
-use lib.Seq.{length-take-le}
-use Rattle.laws.specs.Booleans.{tests}
+use Rattle.laws.proofs.Prelude.{_*_, sym, needs, arith, length-take-le, tests}
 use Rattle.claim_history.specs.Promise.{reportedHolders}
 use Rattle.claim_history.proofs.held.reported_holders.Statement.{statement}
 use Rattle.claim_history.proofs.held.reported_holders.Tie as tie

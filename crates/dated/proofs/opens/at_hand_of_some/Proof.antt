@@ -1,10 +1,7 @@
 -- None before this one.
 use Rattle.dated.specs.Forms.Opens.{atHandIn}
-use Rattle.sheet.specs.Field.{parties, partyAt}
-use Rattle.laws.specs.Below.{anyBelow, any-start, any-more, any-found, any-done}
-use Rattle.laws.proofs.Prelude.{ℕ, _-_, _≤_, _≡_, sym, _∙_, Bool, false, List, needs}
-use Rattle.slots.specs.declared.Slot.{Slot}
-use Rattle.steps.specs.declared.View.{View}
+use Rattle.laws.proofs.Prelude.{anyBelow, any-start, any-more, any-found, any-done, ℕ, _-_, _≤_, _≡_, sym, _∙_, Bool, false, List, needs}
+use Rattle.position.proofs.Rules.{parties, partyAt, Slot, View}
 use Rattle.dated.proofs.opens.at_hand_of_some.Statement.{statement}
 use Rattle.dated.proofs.opens.at_hand_of_some.Tie as tie
 

@@ -1,7 +1,6 @@
 -- Each transaction below x is apart from all.
-use Rattle.laws.proofs.Prelude.{_-_, _≤_, _≡_, sym, _∙_, true, not-true, not-false, needs, arith}
-use Rattle.laws.specs.Below.{allBelow, all-start, all-more, all-broken, all-done}
-use Rattle.sheet.specs.Field.{count}
+use Rattle.laws.proofs.Prelude.{_-_, _≤_, _≡_, sym, _∙_, true, not-true, not-false, needs, arith, allBelow, all-start, all-more, all-broken, all-done}
+use Rattle.position.proofs.Rules.{count}
 use Rattle.endings.specs.Ending.{coinsApart}
 use Rattle.endings.proofs.ending.all_apart.Statement.{statement}
 use Rattle.endings.proofs.ending.all_apart.Tie as tie

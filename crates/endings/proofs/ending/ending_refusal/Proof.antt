@@ -1,8 +1,7 @@
 -- 33, then 34.
-use Rattle.laws.specs.Failing.{fails, passes, none-left}
+use Rattle.laws.proofs.Prelude.{fails, passes, none-left, needs}
 use Rattle.endings.specs.Ending.{endingTests}
 use Rattle.endings.proofs.Naming.{possible-by}
-use borrow.Author.Needs.{needs}
 use Rattle.endings.proofs.ending.ending_refusal.Statement.{statement}
 use Rattle.endings.proofs.ending.ending_refusal.Tie as tie
 

@@ -1,6 +1,5 @@
 -- Below the power of two; all 32 bits are.
-use Rattle.laws.proofs.Prelude.{_≡_, sym, ap, _∙_, ltb, lt-ltb, needs, arith}
-use native.Mathlib.Nat.{one-mul}
+use Rattle.laws.proofs.Prelude.{_≡_, sym, ap, _∙_, ltb, lt-ltb, needs, arith, one-mul}
 use lib.Pow.{shl-exact}
 use Rattle.endings.proofs.ending.mask_within.Statement.{statement}
 use Rattle.endings.proofs.ending.mask_within.Tie as tie

@@ -1,8 +1,5 @@
 -- The sum over the bits below t.
-use Rattle.laws.proofs.Prelude.{_-_, _≤_, _≡_, needs, arith}
-use Rattle.laws.specs.Booleans.{pick}
-use Rattle.laws.specs.Mask.{bit}
-use Rattle.laws.specs.Sum.{sumBelow, bitsBelow, sum-start, sum-more, sum-done}
+use Rattle.laws.proofs.Prelude.{_-_, _≤_, _≡_, needs, arith, pick, bit, sumBelow, bitsBelow, sum-start, sum-more, sum-done}
 use Rattle.endings.proofs.ending.ones_below.Statement.{statement}
 use Rattle.endings.proofs.ending.ones_below.Tie as tie
 

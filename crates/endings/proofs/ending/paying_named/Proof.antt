@@ -1,9 +1,8 @@
 -- Not in the mask, or with a payee in its place of the list.
-use Rattle.laws.specs.Booleans.{held}
+use Rattle.laws.proofs.Prelude.{held, needs}
 use Rattle.endings.specs.Ending.{destinationOf}
 use Rattle.endings.proofs.Counting.{ones-room}
 use Rattle.endings.proofs.Naming.{named-out, named-in}
-use borrow.Author.Needs.{needs}
 use Rattle.endings.proofs.ending.paying_named.Statement.{statement}
 use Rattle.endings.proofs.ending.paying_named.Tie as tie
 

@@ -1,8 +1,6 @@
 -- None below x leads to t.
-use Rattle.laws.proofs.Prelude.{_-_, _≤_, _≡_, sym, _∙_, false, _&&_, needs}
-use Rattle.laws.specs.Below.{anyBelow, any-start, any-more, any-found, any-done}
-use Rattle.laws.specs.Mask.{bit}
-use Rattle.slots.specs.Ancestry.{isSelfOrAncestor}
+use Rattle.laws.proofs.Prelude.{_-_, _≤_, _≡_, sym, _∙_, false, _&&_, needs, anyBelow, any-start, any-more, any-found, any-done, bit}
+use Rattle.position.proofs.Rules.{isSelfOrAncestor}
 use Rattle.endings.specs.Plan.{planned}
 use Rattle.endings.proofs.planned.is_planned.Statement.{statement}
 use Rattle.endings.proofs.planned.is_planned.Tie as tie

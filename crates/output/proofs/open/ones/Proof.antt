@@ -1,9 +1,7 @@
 -- At most 32.
 use lib.Count.{ones-le}
 use Rattle.laws.specs.Ones.{ones-bits}
-use Rattle.laws.specs.Mask.{bit}
-use Rattle.laws.specs.Sum.{sumBelow, bitsBelow}
-use Rattle.laws.proofs.Prelude.{refl, needs}
+use Rattle.laws.proofs.Prelude.{bit, sumBelow, bitsBelow, refl, needs}
 use Rattle.output.proofs.open.ones.Statement.{statement}
 use Rattle.output.proofs.open.ones.Tie as tie
 

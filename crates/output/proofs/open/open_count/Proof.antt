@@ -1,10 +1,8 @@
 -- The sum over the sets before i.
 use Rattle.output.specs.Forms.Emitted.{openCount}
 use Rattle.output.proofs.Lengths.{count-bound}
-use Rattle.laws.specs.Sum.{sumBelow, bitsBelow, sum-start, sum-more, sum-done}
+use Rattle.laws.proofs.Prelude.{sumBelow, bitsBelow, sum-start, sum-more, sum-done, ℕ, _+_, _-_, _*_, _≤_, _≡_, _∙_, getD, needs, arith, ap₂}
 use Rattle.laws.specs.Ones.{bits-short, bits-low}
-use Rattle.laws.proofs.Prelude.{ℕ, _+_, _-_, _*_, _≤_, _≡_, _∙_, getD, needs, arith}
-use mathlib.Core.Path.{ap₂}
 use native.Mathlib.Nat.{mod-lt}
 use Rattle.output.proofs.open.open_count.Statement.{statement}
 use Rattle.output.proofs.open.open_count.Tie as tie

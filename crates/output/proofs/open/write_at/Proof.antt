@@ -1,7 +1,6 @@
 -- The steps of the destinations before d.
 use Rattle.output.specs.Forms.Emitted.{emitted, emittedAt, opens}
-use Rattle.laws.specs.Wrote.{Turns, turns-start, turn-room, turn-end, turn-more, turns-done}
-use Rattle.laws.proofs.Prelude.{ℕ, _-_, Bool, List, needs, arith}
+use Rattle.laws.proofs.Prelude.{Turns, turns-start, turn-room, turn-end, turn-more, turns-done, ℕ, _-_, Bool, List, needs, arith}
 use Rattle.output.proofs.open.write_at.Statement.{statement}
 use Rattle.output.proofs.open.write_at.Tie as tie
 

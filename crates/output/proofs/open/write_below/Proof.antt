@@ -1,9 +1,7 @@
 -- None, or the steps on the transactions before t.
 use Rattle.output.specs.Forms.Emitted.{emittedAt, opensFor}
 use Rattle.output.proofs.Four.{four-below, none-below}
-use Rattle.laws.specs.Over.{over-none}
-use Rattle.laws.specs.Wrote.{Turns, turns-start, turn-room, turn-end, turn-more, turns-done}
-use Rattle.laws.proofs.Prelude.{_-_, refl, needs, arith}
+use Rattle.laws.proofs.Prelude.{over-none, Turns, turns-start, turn-room, turn-end, turn-more, turns-done, _-_, refl, needs, arith}
 use Rattle.output.proofs.open.write_below.Statement.{statement}
 use Rattle.output.proofs.open.write_below.Tie as tie
 

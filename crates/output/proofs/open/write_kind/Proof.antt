@@ -1,9 +1,7 @@
 -- The steps on the transactions, then those of byte 255.
 use Rattle.output.specs.Forms.Emitted.{belowBytes, lastBytes, kindBytes}
-use Rattle.laws.specs.Gather.{gather}
-use Rattle.laws.specs.Wrote.{Wrote, wrote-first, wrote-room, wrote-more, front-fits}
+use Rattle.laws.proofs.Prelude.{gather, Wrote, wrote-first, wrote-room, wrote-more, front-fits, ℕ, _+_, _-_, _≤_, List, _++_, length, needs, arith}
 use borrow.Rule.Slice.PartMut.{putMid}
-use Rattle.laws.proofs.Prelude.{ℕ, _+_, _-_, _≤_, List, _++_, length, needs, arith}
 use Rattle.output.proofs.open.write_kind.Statement.{statement}
 use Rattle.output.proofs.open.write_kind.Tie as tie
 

@@ -1,7 +1,6 @@
 -- The four bits of byte 255.
 use Rattle.output.proofs.Four.{four-last, none-last}
-use Rattle.laws.specs.Over.{over-none}
-use Rattle.laws.proofs.Prelude.{refl, needs}
+use Rattle.laws.proofs.Prelude.{over-none, refl, needs}
 use Rattle.output.proofs.open.write_last.Statement.{statement}
 use Rattle.output.proofs.open.write_last.Tie as tie
 

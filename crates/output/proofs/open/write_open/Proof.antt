@@ -1,7 +1,6 @@
 -- The steps of the kinds before k + 1.
 use Rattle.output.specs.Forms.Emitted.{kindBytes, actorBytes}
-use Rattle.laws.specs.Wrote.{Turns, turns-start, turn-room, turn-end, turn-more, turns-done}
-use Rattle.laws.proofs.Prelude.{_-_, needs, arith}
+use Rattle.laws.proofs.Prelude.{Turns, turns-start, turn-room, turn-end, turn-more, turns-done, _-_, needs, arith}
 use Rattle.output.proofs.open.write_open.Statement.{statement}
 use Rattle.output.proofs.open.write_open.Tie as tie
 

@@ -1,8 +1,7 @@
 -- Four stores, or none.
 use Rattle.output.specs.Forms.Emitted.{emitted}
 use Rattle.output.proofs.Lengths.{four-fit}
-use Rattle.laws.specs.Over.{over-none, stores-over}
-use Rattle.laws.proofs.Prelude.{refl, [], _∷_, length-set, arith}
+use Rattle.laws.proofs.Prelude.{over-none, stores-over, refl, [], _∷_, length-set, arith}
 use Rattle.output.proofs.open.write_step.Statement.{statement}
 use Rattle.output.proofs.open.write_step.Tie as tie
 

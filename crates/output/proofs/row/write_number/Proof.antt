@@ -1,7 +1,5 @@
 -- Four stores.
-use Rattle.laws.specs.Little.{bytesOf}
-use Rattle.laws.specs.Over.{stores-over}
-use Rattle.laws.proofs.Prelude.{length-set, needs, arith}
+use Rattle.laws.proofs.Prelude.{bytesOf, stores-over, length-set, needs, arith}
 use Rattle.output.proofs.row.write_number.Statement.{statement}
 use Rattle.output.proofs.row.write_number.Tie as tie
 

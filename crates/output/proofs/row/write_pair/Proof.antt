@@ -1,8 +1,7 @@
 -- A number over the front, then one over the part after it.
-use Rattle.laws.specs.Little.{bytesOf, length-bytes}
-use Rattle.laws.specs.Wrote.{Wrote, wrote-first, wrote-room, wrote-more, front-fits}
+use Rattle.laws.proofs.Prelude.{bytesOf, length-bytes, Wrote, wrote-first, wrote-room, wrote-more, front-fits, ℕ, _-_, _≤_, sym, List, _++_, length, length-append, needs}
+use Rattle.laws.proofs.Prelude.{arith}
 use borrow.Rule.Slice.PartMut.{putMid}
-use Rattle.laws.proofs.Prelude.{ℕ, _-_, _≤_, sym, List, _++_, length, length-append, needs, arith}
 use Rattle.output.proofs.row.write_pair.Statement.{statement}
 use Rattle.output.proofs.row.write_pair.Tie as tie
 

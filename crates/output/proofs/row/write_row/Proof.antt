@@ -1,10 +1,8 @@
 -- Two stores, then two numbers and two more, each pair after what is written.
 use Rattle.output.specs.Forms.Row.{rowBytes}
-use Rattle.laws.specs.Little.{bytesOf, length-pair}
-use Rattle.laws.specs.Over.{stores-over}
-use Rattle.laws.specs.Wrote.{Wrote, wrote-first, wrote-room, wrote-more, front-fits}
+use Rattle.laws.proofs.Prelude.{bytesOf, length-pair, stores-over, Wrote, wrote-first, wrote-room, wrote-more, front-fits, ℕ, _-_, _≤_, _≡_, refl, sym, ap, List, [], _∷_}
+use Rattle.laws.proofs.Prelude.{_++_, append-assoc, length, set, length-set, needs, arith}
 use borrow.Rule.Slice.PartMut.{putMid}
-use Rattle.laws.proofs.Prelude.{ℕ, _-_, _≤_, _≡_, refl, sym, ap, List, [], _∷_, _++_, append-assoc, length, set, length-set, needs, arith}
 use Rattle.output.proofs.row.write_row.Statement.{statement}
 use Rattle.output.proofs.row.write_row.Tie as tie
 

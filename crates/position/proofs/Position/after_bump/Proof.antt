@@ -5,8 +5,7 @@ use Rattle.position.proofs.NoEntries.{bumped-outside}
 use Rattle.position.specs.Effect.{withSlots, changeSlots, afterBump}
 use Rattle.position.specs.Position.{slot}
 use Rattle.steps.specs.Forms.Blocks.{bumpedSlot}
-use Rattle.laws.specs.Each.{length-of-map}
-use Rattle.laws.proofs.Prelude.{_-_, _≤_, _≡_, refl, _∙_, length, needs}
+use Rattle.laws.proofs.Prelude.{length-of-map, _-_, _≤_, _≡_, refl, _∙_, length, needs}
 use denote.Ref.{now}
 use Rattle.position.proofs.Position.after_bump.Statement.{statement}
 use Rattle.position.proofs.Position.after_bump.Tie as tie

@@ -5,8 +5,7 @@ use Rattle.position.proofs.NoEntries.{mined-outside}
 use Rattle.position.specs.Effect.{withSlots, changeSlots, withMined, afterMine}
 use Rattle.position.specs.Position.{slot}
 use Rattle.steps.specs.Forms.Blocks.{minedSlot}
-use Rattle.laws.specs.Each.{length-of-map}
-use Rattle.laws.proofs.Prelude.{_+_, _-_, _≤_, _≡_, refl, ap, _∙_, length, needs}
+use Rattle.laws.proofs.Prelude.{length-of-map, _+_, _-_, _≤_, _≡_, refl, ap, _∙_, length, needs}
 use denote.Ref.{now}
 use Rattle.position.proofs.Position.after_entries.Statement.{statement}
 use Rattle.position.proofs.Position.after_entries.Tie as tie

@@ -3,9 +3,7 @@ use Rattle.position.proofs.Due.{due-first, due-next, due-found}
 use Rattle.position.specs.Forms.Owed.{dueIn}
 use Rattle.position.specs.Forms.View.{sinceIn}
 use Rattle.position.specs.Position.{slot}
-use Rattle.laws.specs.Below.{anyBelow, any-done}
-use Rattle.laws.specs.Mask.{bit}
-use Rattle.laws.proofs.Prelude.{_-_, _≤_, _<_, _≡_, true, false, needs}
+use Rattle.laws.proofs.Prelude.{anyBelow, any-done, bit, _-_, _≤_, _<_, _≡_, true, false, needs}
 use Rattle.position.proofs.Position.any_due.Statement.{statement}
 use Rattle.position.proofs.Position.any_due.Tie as tie
 

@@ -1,7 +1,6 @@
 -- None where the set is empty.
 use Rattle.position.proofs.Due.{any-due-owed, none-owed}
-use Rattle.laws.specs.Each.{length-of-map}
-use borrow.Author.Needs.{needs}
+use Rattle.laws.proofs.Prelude.{length-of-map, needs}
 use Rattle.position.proofs.Position.any_owed.Statement.{statement}
 use Rattle.position.proofs.Position.any_owed.Tie as tie
 

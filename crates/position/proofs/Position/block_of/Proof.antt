@@ -2,9 +2,7 @@
 use Rattle.position.specs.Position.{slot, blockOf}
 use Rattle.slots.specs.Slot.{emptySlot}
 use Rattle.slots.specs.declared.Slot.{Slot}
-use Rattle.laws.proofs.Prelude.{_≡_, refl, sym, ap, length, needs, arith}
-use lib.ListN.{List·getD-eq-default}
-use Rattle.laws.specs.Each.{length-of-map}
+use Rattle.laws.proofs.Prelude.{_≡_, refl, sym, ap, length, needs, arith, List·getD-eq-default, length-of-map}
 use Rattle.position.proofs.Position.block_of.Statement.{statement}
 use Rattle.position.proofs.Position.block_of.Tie as tie
 

@@ -1,9 +1,7 @@
 -- Some transaction pays. None below t does.
 use Rattle.position.specs.Position.{slot}
 use Rattle.position.proofs.Guards.{paysAt, pays-turn, pays-found, pays-none}
-use Rattle.laws.specs.Below.{anyBelow, any-start, any-more}
-use Rattle.laws.specs.Each.{length-of-map}
-use Rattle.laws.proofs.Prelude.{_-_, _≤_, _≡_, sym, _∙_, false, length, needs}
+use Rattle.laws.proofs.Prelude.{anyBelow, any-start, any-more, length-of-map, _-_, _≤_, _≡_, sym, _∙_, false, length, needs}
 use Rattle.position.proofs.Position.can_pay.Statement.{statement}
 use Rattle.position.proofs.Position.can_pay.Tie as tie
 

@@ -2,8 +2,7 @@
 use Rattle.position.proofs.FirstSets.{madeFrom, made-start, made-broken, made-more, made-done}
 use Rattle.position.specs.FirstShares.{firstSharesMade}
 use Rattle.position.specs.Position.{slot, marked}
-use Rattle.laws.specs.Mask.{bit}
-use Rattle.laws.proofs.Prelude.{_-_, _≤_, _<_, _≡_, sym, _∙_, true, not-true, not-false, needs}
+use Rattle.laws.proofs.Prelude.{bit, _-_, _≤_, _<_, _≡_, sym, _∙_, true, not-true, not-false, needs}
 use Rattle.position.proofs.Position.first_shares_made.Statement.{statement}
 use Rattle.position.proofs.Position.first_shares_made.Tie as tie
 

@@ -1,8 +1,7 @@
 -- What conduct allows, the test, and the keys that are stored.
 use Rattle.position.proofs.Outcomes.{keys-read, any-open, give-outcome}
 use Rattle.position.proofs.ShareTests.{give-answer}
-use Rattle.laws.specs.Booleans.{either}
-use Rattle.laws.proofs.Prelude.{refl, sym, _∙_, eq-eqb, needs}
+use Rattle.laws.proofs.Prelude.{either, refl, sym, _∙_, eq-eqb, needs}
 use Rattle.position.proofs.Position.give.Statement.{statement}
 use Rattle.position.proofs.Position.give.Tie as tie
 

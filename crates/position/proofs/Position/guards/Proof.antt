@@ -3,8 +3,7 @@ use Rattle.position.specs.Position.{slot}
 use Rattle.position.specs.Conduct.{isOpen}
 use Rattle.position.specs.Forms.Guards.{openGuards, guards}
 use Rattle.position.proofs.Guards.{success-there, guards-made}
-use Rattle.laws.proofs.Prelude.{sym, ap, _∙_, eq-eqb, needs}
-use Rattle.laws.specs.Mask.{bit}
+use Rattle.laws.proofs.Prelude.{sym, ap, _∙_, eq-eqb, needs, bit}
 use Rattle.position.proofs.Position.guards.Statement.{statement}
 use Rattle.position.proofs.Position.guards.Tie as tie
 

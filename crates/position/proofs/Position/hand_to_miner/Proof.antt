@@ -4,9 +4,7 @@ use Rattle.position.proofs.Guards.{not-held, held-if-paid, send-held}
 use Rattle.position.proofs.SendTests.{miner-answer}
 use Rattle.position.specs.Position.{slot}
 use Rattle.position.specs.Effect.{withSlots}
-use Rattle.laws.specs.Booleans.{either}
-use Rattle.laws.proofs.Prelude.{_<_, _≡_, refl, sym, _∙_, length, eq-eqb, needs, arith}
-use Rattle.laws.specs.Each.{length-of-map}
+use Rattle.laws.proofs.Prelude.{either, _<_, _≡_, refl, sym, _∙_, length, eq-eqb, needs, arith, length-of-map}
 use Rattle.position.proofs.Position.hand_to_miner.Statement.{statement}
 use Rattle.position.proofs.Position.hand_to_miner.Tie as tie
 

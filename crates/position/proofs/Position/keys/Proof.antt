@@ -1,7 +1,5 @@
 -- A byte of the keys, 0 past them.
-use Rattle.laws.proofs.Prelude.{_≡_, sym, length, needs, arith}
-use lib.ListN.{List·getD-eq-default}
-use Rattle.laws.specs.Each.{length-of-map}
+use Rattle.laws.proofs.Prelude.{_≡_, sym, length, needs, arith, List·getD-eq-default, length-of-map}
 use Rattle.position.specs.Position.{keys}
 use Rattle.position.proofs.Position.keys.Statement.{statement}
 use Rattle.position.proofs.Position.keys.Tie as tie

@@ -5,8 +5,7 @@ use Rattle.position.proofs.EmptyBlocks.{answer-empty}
 use Rattle.position.specs.Tests.{mineTests}
 use Rattle.position.specs.StepRefusal.{tests, stepRefusal}
 use Rattle.position.specs.Effect.{withMined, effect}
-use Rattle.laws.specs.Failing.{passed}
-use Rattle.laws.proofs.Prelude.{refl, sym, _∙_, ltb-true, needs}
+use Rattle.laws.proofs.Prelude.{passed, refl, sym, _∙_, ltb-true, needs}
 use Rattle.position.proofs.Position.mine.Statement.{statement}
 use Rattle.position.proofs.Position.mine.Tie as tie
 

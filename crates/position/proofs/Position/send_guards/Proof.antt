@@ -1,8 +1,7 @@
 -- Made of its parts.
 use Rattle.position.specs.Position.{slot}
 use Rattle.position.proofs.Guards.{send-guards-made}
-use Rattle.laws.proofs.Prelude.{ap, _∙_, needs}
-use Rattle.laws.specs.Mask.{bit}
+use Rattle.laws.proofs.Prelude.{ap, _∙_, needs, bit}
 use Rattle.position.proofs.Position.send_guards.Statement.{statement}
 use Rattle.position.proofs.Position.send_guards.Tie as tie
 

@@ -4,8 +4,7 @@ use Rattle.position.proofs.ShareTests.{one-met, share-answer}
 use Rattle.position.proofs.Fields.{share-one-fits}
 use Rattle.position.specs.Position.{slot}
 use Rattle.position.specs.Effect.{withSlots}
-use Rattle.laws.specs.Booleans.{either}
-use Rattle.laws.proofs.Prelude.{_<_, refl, sym, _∙_, eq-eqb, needs, arith}
+use Rattle.laws.proofs.Prelude.{either, _<_, refl, sym, _∙_, eq-eqb, needs, arith}
 use Rattle.position.proofs.Position.share.Statement.{statement}
 use Rattle.position.proofs.Position.share.Tie as tie
 

@@ -3,8 +3,7 @@ use Rattle.position.proofs.FirstSets.{membersFrom, first-low, share-sta
 use Rattle.position.specs.FirstShares.{firstShares}
 use Rattle.position.specs.Effect.{shareEach, withSlots}
 use Rattle.position.specs.Position.{slot, keys}
-use Rattle.laws.specs.Mask.{bit}
-use Rattle.laws.proofs.Prelude.{_-_, _≤_, _<_, _≡_, true, needs}
+use Rattle.laws.proofs.Prelude.{bit, _-_, _≤_, _<_, _≡_, true, needs}
 use Rattle.position.proofs.Position.share_first.Statement.{statement}
 use Rattle.position.proofs.Position.share_first.Tie as tie
 

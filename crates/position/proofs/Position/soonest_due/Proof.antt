@@ -1,8 +1,7 @@
 -- What is known; else the least of the set.
 use Rattle.position.proofs.Due.{soonest-all, none-soonest}
 use Rattle.position.specs.Forms.Owed.{dueBefore}
-use Rattle.laws.specs.Each.{length-of-map}
-use Rattle.laws.proofs.Prelude.{refl, eq-eqb, ne-eqb, needs}
+use Rattle.laws.proofs.Prelude.{length-of-map, refl, eq-eqb, ne-eqb, needs}
 use Rattle.position.proofs.Position.soonest_due.Statement.{statement}
 use Rattle.position.proofs.Position.soonest_due.Tie as tie
 

@@ -3,9 +3,7 @@ use Rattle.position.proofs.Due.{soonestBelow, soonest-first, soonest-ne
 use Rattle.position.specs.Forms.Owed.{soonestIn}
 use Rattle.position.specs.Forms.View.{sinceIn}
 use Rattle.position.specs.Position.{slot}
-use Rattle.laws.specs.Least.{least-done}
-use Rattle.laws.specs.Mask.{bit}
-use Rattle.laws.proofs.Prelude.{_-_, _≤_, _<_, _≡_, true, needs}
+use Rattle.laws.proofs.Prelude.{least-done, bit, _-_, _≤_, _<_, _≡_, true, needs}
 use Rattle.position.proofs.Position.soonest_in.Statement.{statement}
 use Rattle.position.proofs.Position.soonest_in.Tie as tie
 

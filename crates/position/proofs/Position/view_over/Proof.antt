@@ -2,8 +2,7 @@
 use Rattle.position.proofs.Renewed.{joined-start, joined-more, joined-done}
 use Rattle.position.specs.Forms.Seen.{viewKept, viewJoined}
 use Rattle.position.specs.Position.{slot}
-use Rattle.laws.specs.Mask.{bit}
-use Rattle.laws.proofs.Prelude.{_-_, _≤_, _<_, _≡_, refl, true, needs}
+use Rattle.laws.proofs.Prelude.{bit, _-_, _≤_, _<_, _≡_, refl, true, needs}
 use Rattle.position.proofs.Position.view_over.Statement.{statement}
 use Rattle.position.proofs.Position.view_over.Tie as tie
 

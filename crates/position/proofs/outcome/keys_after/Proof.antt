@@ -1,8 +1,6 @@
 -- One more key, or the same.
-use native.Mathlib.Nat.{one-mul}
-use Rattle.laws.proofs.Prelude.{eq-eqb, needs, arith}
+use Rattle.laws.proofs.Prelude.{one-mul, eq-eqb, needs, arith, tests}
 use lib.Pow.{shl-exact}
-use Rattle.laws.specs.Booleans.{tests}
 use Rattle.position.proofs.outcome.keys_after.Statement.{statement}
 use Rattle.position.proofs.outcome.keys_after.Tie as tie
 

@@ -1,6 +1,5 @@
 -- One more, or as many.
-use Rattle.laws.specs.Booleans.{tests}
-use borrow.Author.Needs.{needs}
+use Rattle.laws.proofs.Prelude.{tests, needs}
 use Rattle.position.proofs.outcome.mined_after.Statement.{statement}
 use Rattle.position.proofs.outcome.mined_after.Tie as tie
 

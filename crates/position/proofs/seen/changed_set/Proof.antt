@@ -1,9 +1,7 @@
 -- By the kind, and by the transaction byte.
-use Rattle.laws.specs.Booleans.{tests}
+use Rattle.laws.proofs.Prelude.{tests, _∙_, eq-eqb, ne-eqb, lt-ltb, le-ltb, needs, arith, one-mul}
 use Rattle.position.specs.Forms.Seen.{changedSet}
-use Rattle.laws.proofs.Prelude.{_∙_, eq-eqb, ne-eqb, lt-ltb, le-ltb, needs, arith}
 use lib.Pow.{shl-exact}
-use native.Mathlib.Nat.{one-mul}
 use Rattle.position.proofs.seen.changed_set.Statement.{statement}
 use Rattle.position.proofs.seen.changed_set.Tie as tie
 

@@ -1,8 +1,7 @@
 -- The zeros at the low end, unless all are zeros.
-use Rattle.laws.specs.Booleans.{tests}
+use Rattle.laws.proofs.Prelude.{tests, needs}
 use Rattle.position.specs.Forms.Seen.{lowest}
 use lib.Count.{trailing-le}
-use borrow.Author.Needs.{needs}
 use Rattle.position.proofs.seen.lowest.Statement.{statement}
 use Rattle.position.proofs.seen.lowest.Tie as tie
 

@@ -1,12 +1,8 @@
 -- The payee of the transaction that ends the coin.
 use Rattle.queries.proofs.ReportRows.{payee-right}
 use Rattle.readings.proofs.Holders.{held-by, held-none}
-use Rattle.steps.specs.declared.View.{View}
-use Rattle.position.specs.Position.{slot, isConfirmed}
-use Rattle.position.specs.Forms.View.{viewBelow}
-use Rattle.position.specs.Report.{payee}
-use Rattle.position.specs.Holder.{holderIn}
 use Rattle.laws.proofs.Prelude.{ap, _∙_, needs}
+use Rattle.position.proofs.Rules.{View, slot, isConfirmed, viewBelow, payee, holderIn}
 use denote.Ref.{now}
 use Rattle.queries.proofs.holder.holder_in.Statement.{statement}
 use Rattle.queries.proofs.holder.holder_in.Tie as tie

@@ -1,7 +1,6 @@
 -- The sets at the places below i.
 use Rattle.queries.specs.Forms.OpenSets.{openSet, belowSets}
-use Rattle.laws.specs.Each.{rewriteFirst, rewrite-start, rewrite-again, rewrite-done}
-use Rattle.laws.proofs.Prelude.{_+_, _-_, _/_, _%_, _≤_, _≡_, length, replicate, needs}
+use Rattle.laws.proofs.Prelude.{rewriteFirst, rewrite-start, rewrite-again, rewrite-done, _+_, _-_, _/_, _%_, _≤_, _≡_, length, replicate, needs}
 use Rattle.queries.proofs.open.below_sets.Statement.{statement}
 use Rattle.queries.proofs.open.below_sets.Tie as tie
 

@@ -1,11 +1,8 @@
 -- The set of those below t, which is the next that is tested.
-use Rattle.position.specs.Position.{slot}
+use Rattle.laws.proofs.Prelude.{bit, setBelow, set-done, length-of-map, _-_, _≤_, _<_, _≡_, true, length, needs, arith}
+use Rattle.position.proofs.Rules.{slot}
 use Rattle.queries.specs.Forms.OpenSets.{isOpenStep}
 use Rattle.queries.proofs.OpenTurns.{turn-open, first-turn, next-turn}
-use Rattle.laws.specs.Mask.{bit}
-use Rattle.laws.specs.Sets.{setBelow, set-done}
-use Rattle.laws.specs.Each.{length-of-map}
-use Rattle.laws.proofs.Prelude.{_-_, _≤_, _<_, _≡_, true, length, needs, arith}
 use Rattle.queries.proofs.open.sheet_set.Statement.{statement}
 use Rattle.queries.proofs.open.sheet_set.Tie as tie
 

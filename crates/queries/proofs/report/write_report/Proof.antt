@@ -1,15 +1,9 @@
 -- The rows of the transactions before t.
 use Rattle.position.proofs.ReportLengths.{row-length, rows-room}
 use Rattle.queries.proofs.ReportRows.{row-written}
-use Rattle.readings.specs.Reported.{rowWidth}
-use Rattle.position.specs.Report.{fullRow, reportBytes}
-use Rattle.position.specs.Position.{slot}
-use Rattle.position.specs.Forms.View.{sinceIn}
+use Rattle.laws.proofs.Prelude.{bytesOf, length-of-map, Turns, turns-start, turn-room, turn-end, turn-more, turns-done, _-_, _≡_, refl, sym, length, getD, needs, arith}
+use Rattle.position.proofs.Rules.{rowWidth, fullRow, reportBytes, slot, sinceIn}
 use Rattle.output.specs.Forms.Row.{rowBytes}
-use Rattle.laws.specs.Little.{bytesOf}
-use Rattle.laws.specs.Each.{length-of-map}
-use Rattle.laws.specs.Wrote.{Turns, turns-start, turn-room, turn-end, turn-more, turns-done}
-use Rattle.laws.proofs.Prelude.{_-_, _≡_, refl, sym, length, getD, needs, arith}
 use Rattle.queries.proofs.report.write_report.Statement.{statement}
 use Rattle.queries.proofs.report.write_report.Tie as tie
 

@@ -1,7 +1,6 @@
 -- The opening, or that of its parent, which is a lower number.
 use Rattle.readings.proofs.Holders.{coin-step}
-use Rattle.laws.specs.Booleans.{tests}
-use Rattle.laws.proofs.Prelude.{ℕ, _<_, needs}
+use Rattle.laws.proofs.Prelude.{tests, ℕ, _<_, needs}
 use borrow.Fn.Kinds.{In}
 use borrow.Fn.PlainCycle.{Measures, is, falls, and}
 use Rattle.readings.proofs.holder.coin_from.Reads as coin-from

@@ -1,6 +1,5 @@
 -- A child of t, and a member of the set.
-use Rattle.laws.specs.Booleans.{tests}
-use borrow.Author.Needs.{needs}
+use Rattle.laws.proofs.Prelude.{tests, needs}
 use Rattle.readings.proofs.holder.child_there.Statement.{statement}
 use Rattle.readings.proofs.holder.child_there.Tie as tie
 

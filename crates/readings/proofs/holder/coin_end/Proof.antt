@@ -2,8 +2,7 @@
 use Rattle.readings.proofs.Holders.{end-start, end-more, end-done}
 use Rattle.readings.specs.Holder.{endsCoin, payeeBelow, holder}
 use Rattle.readings.specs.Forms.Holder.{coinEnd}
-use Rattle.laws.specs.Mask.{bit}
-use Rattle.laws.proofs.Prelude.{_-_, _≤_, _≡_, needs}
+use Rattle.laws.proofs.Prelude.{bit, _-_, _≤_, _≡_, needs}
 use Rattle.readings.proofs.holder.coin_end.Statement.{statement}
 use Rattle.readings.proofs.holder.coin_end.Tie as tie
 

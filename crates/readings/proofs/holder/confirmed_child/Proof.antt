@@ -1,9 +1,7 @@
 -- Some child of t is in the set. None below k is.
 use Rattle.readings.specs.Holder.{confirmedChild}
-use Rattle.laws.specs.Below.{anyBelow, any-start, any-more, any-found, any-done}
-use Rattle.laws.specs.Mask.{bit}
+use Rattle.laws.proofs.Prelude.{anyBelow, any-start, any-more, any-found, any-done, bit, _-_, _≤_, _≡_, sym, _∙_, false, _&&_, eqb, needs}
 use Rattle.sheet.specs.Field.{parent}
-use Rattle.laws.proofs.Prelude.{_-_, _≤_, _≡_, sym, _∙_, false, _&&_, eqb, needs}
 use Rattle.readings.proofs.holder.confirmed_child.Statement.{statement}
 use Rattle.readings.proofs.holder.confirmed_child.Tie as tie
 

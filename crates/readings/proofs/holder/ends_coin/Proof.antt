@@ -1,7 +1,6 @@
 -- Of the coin, confirmed, and without a confirmed child.
 use Rattle.readings.specs.Holder.{endsCoin}
-use Rattle.laws.specs.Booleans.{tests}
-use Rattle.laws.proofs.Prelude.{not-true, not-false, needs}
+use Rattle.laws.proofs.Prelude.{tests, not-true, not-false, needs}
 use Rattle.readings.proofs.holder.ends_coin.Statement.{statement}
 use Rattle.readings.proofs.holder.ends_coin.Tie as tie
 

@@ -1,7 +1,6 @@
 -- The confirmation's destination, or 255.
 use Rattle.readings.specs.Forms.Report.{payeeIn}
-use Rattle.laws.specs.Booleans.{tests}
-use borrow.Author.Needs.{needs}
+use Rattle.laws.proofs.Prelude.{tests, needs}
 use Rattle.readings.proofs.report.payee_of.Statement.{statement}
 use Rattle.readings.proofs.report.payee_of.Tie as tie
 

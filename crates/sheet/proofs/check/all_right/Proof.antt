@@ -1,7 +1,6 @@
 -- A rule for all transactions. Each transaction below t passes.
 use Rattle.sheet.specs.Forms.Check.{arrayRule}
-use Rattle.laws.specs.Below.{allBelow, all-start, all-more, all-broken, all-done}
-use Rattle.laws.proofs.Prelude.{_-_, _≤_, _≡_, sym, _∙_, true, not-true, not-false, needs}
+use Rattle.laws.proofs.Prelude.{allBelow, all-start, all-more, all-broken, all-done, _-_, _≤_, _≡_, sym, _∙_, true, not-true, not-false, needs}
 use Rattle.sheet.proofs.check.all_right.Statement.{statement}
 use Rattle.sheet.proofs.check.all_right.Tie as tie
 

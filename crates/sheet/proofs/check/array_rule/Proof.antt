@@ -1,7 +1,6 @@
 -- A rule by its number.
 use Rattle.sheet.specs.Forms.Check.{arrayRule}
-use Rattle.laws.specs.Booleans.{tests}
-use borrow.Author.Needs.{needs}
+use Rattle.laws.proofs.Prelude.{tests, needs}
 use Rattle.sheet.proofs.check.array_rule.Statement.{statement}
 use Rattle.sheet.proofs.check.array_rule.Tie as tie
 

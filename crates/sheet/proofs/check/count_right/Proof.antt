@@ -1,7 +1,6 @@
 -- 1 to 32 transactions: check 2.
 use Rattle.sheet.specs.Check.{countRight}
-use Rattle.laws.specs.Booleans.{tests}
-use borrow.Author.Needs.{needs}
+use Rattle.laws.proofs.Prelude.{tests, needs}
 use Rattle.sheet.proofs.check.count_right.Statement.{statement}
 use Rattle.sheet.proofs.check.count_right.Tie as tie
 

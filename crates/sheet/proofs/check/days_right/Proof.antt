@@ -1,8 +1,6 @@
 -- The days of a lock; a byte is at most 255.
-use Rattle.laws.proofs.Prelude.{le-leb, needs}
-use mathlib.Core.Bool.{and-true}
+use Rattle.laws.proofs.Prelude.{le-leb, needs, and-true, tests}
 use Rattle.sheet.specs.Check.{daysRight}
-use Rattle.laws.specs.Booleans.{tests}
 use Rattle.sheet.proofs.check.days_right.Statement.{statement}
 use Rattle.sheet.proofs.check.days_right.Tie as tie
 

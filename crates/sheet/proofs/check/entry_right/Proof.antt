@@ -1,7 +1,6 @@
 -- Payees, required signatures and veil are in range: check 6.
-use Rattle.laws.specs.Booleans.{tests}
+use Rattle.laws.proofs.Prelude.{tests, not-true, not-false, needs}
 use Rattle.sheet.specs.Check.{entryRight}
-use Rattle.laws.proofs.Prelude.{not-true, not-false, needs}
 use Rattle.sheet.proofs.check.entry_right.Statement.{statement}
 use Rattle.sheet.proofs.check.entry_right.Tie as tie
 

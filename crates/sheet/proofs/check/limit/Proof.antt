@@ -1,6 +1,5 @@
 -- A shift of 1 is a power of two.
-use Rattle.laws.proofs.Prelude.{_∙_, needs, arith}
-use native.Mathlib.Nat.{one-mul}
+use Rattle.laws.proofs.Prelude.{_∙_, needs, arith, one-mul}
 use lib.Pow.{shl-exact}
 use Rattle.sheet.proofs.check.limit.Statement.{statement}
 use Rattle.sheet.proofs.check.limit.Tie as tie

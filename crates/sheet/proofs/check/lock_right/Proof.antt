@@ -1,7 +1,6 @@
 -- The lock pair is in range, and type 2 has a parent: check 7.
 use Rattle.sheet.specs.Check.{lockRight}
-use Rattle.laws.specs.Booleans.{tests}
-use Rattle.laws.proofs.Prelude.{not-true, not-false, needs}
+use Rattle.laws.proofs.Prelude.{tests, not-true, not-false, needs}
 use Rattle.sheet.proofs.check.lock_right.Statement.{statement}
 use Rattle.sheet.proofs.check.lock_right.Tie as tie
 

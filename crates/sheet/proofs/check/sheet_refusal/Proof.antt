@@ -1,9 +1,7 @@
 -- The first of the checks 1 to 8 that fails.
 use Rattle.sheet.proofs.Passed.{head-there, arrays-there, count-few, signatures-few, sized}
 use Rattle.sheet.specs.Check.{sheetTests, sheetRefusal}
-use Rattle.laws.specs.Failing.{fails, passes}
-use Rattle.laws.specs.Booleans.{held}
-use borrow.Author.Needs.{needs}
+use Rattle.laws.proofs.Prelude.{fails, passes, held, needs}
 use Rattle.sheet.proofs.check.sheet_refusal.Statement.{statement}
 use Rattle.sheet.proofs.check.sheet_refusal.Tie as tie
 

@@ -1,7 +1,6 @@
 -- 1 to 8 signatures, and the masks of the head: check 3.
 use Rattle.sheet.specs.Check.{signaturesRight}
-use Rattle.laws.specs.Booleans.{tests}
-use borrow.Author.Needs.{needs}
+use Rattle.laws.proofs.Prelude.{tests, needs}
 use Rattle.sheet.proofs.check.signatures_right.Statement.{statement}
 use Rattle.sheet.proofs.check.signatures_right.Tie as tie
 

@@ -1,8 +1,7 @@
 -- Each start mask below k is right.
-use Rattle.laws.proofs.Prelude.{_-_, _≤_, _≡_, sym, true, not-true, not-false, needs}
+use Rattle.laws.proofs.Prelude.{_-_, _≤_, _≡_, sym, true, not-true, not-false, needs, allBelow, all-start, all-more, all-broken, all-done}
 use Rattle.sheet.specs.Field.{parties, startMask}
 use Rattle.sheet.specs.Check.{within}
-use Rattle.laws.specs.Below.{allBelow, all-start, all-more, all-broken, all-done}
 use Rattle.sheet.proofs.check.starts_right.Statement.{statement}
 use Rattle.sheet.proofs.check.starts_right.Tie as tie
 

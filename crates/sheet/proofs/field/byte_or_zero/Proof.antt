@@ -1,7 +1,6 @@
 -- Past the end the byte is 0.
 use denote.Ref.{now}
-use Rattle.laws.proofs.Prelude.{sym, needs}
-use lib.ListN.{List·getD-eq-default}
+use Rattle.laws.proofs.Prelude.{sym, needs, List·getD-eq-default}
 use Rattle.sheet.proofs.field.byte_or_zero.Statement.{statement}
 use Rattle.sheet.proofs.field.byte_or_zero.Tie as tie
 

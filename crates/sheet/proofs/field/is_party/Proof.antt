@@ -1,7 +1,6 @@
 -- Not the miner, and in a place of the sheet.
-use Rattle.laws.specs.Booleans.{tests}
+use Rattle.laws.proofs.Prelude.{tests, needs}
 use Rattle.sheet.specs.Field.{isParty}
-use borrow.Author.Needs.{needs}
 use Rattle.sheet.proofs.field.is_party.Statement.{statement}
 use Rattle.sheet.proofs.field.is_party.Tie as tie
 

@@ -1,7 +1,6 @@
 -- By the first byte.
-use Rattle.laws.specs.Booleans.{tests}
+use Rattle.laws.proofs.Prelude.{tests, needs}
 use Rattle.sheet.specs.Field.{parties}
-use borrow.Author.Needs.{needs}
 use Rattle.sheet.proofs.field.parties.Statement.{statement}
 use Rattle.sheet.proofs.field.parties.Tie as tie
 

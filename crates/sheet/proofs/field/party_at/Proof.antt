@@ -1,7 +1,6 @@
 -- By the place.
-use Rattle.laws.specs.Booleans.{tests}
+use Rattle.laws.proofs.Prelude.{tests, needs}
 use Rattle.sheet.specs.Field.{partyAt}
-use borrow.Author.Needs.{needs}
 use Rattle.sheet.proofs.field.party_at.Statement.{statement}
 use Rattle.sheet.proofs.field.party_at.Tie as tie
 

@@ -1,7 +1,6 @@
 -- By the number.
-use Rattle.laws.specs.Booleans.{tests}
+use Rattle.laws.proofs.Prelude.{tests, needs}
 use Rattle.sheet.specs.Field.{place}
-use borrow.Author.Needs.{needs}
 use Rattle.sheet.proofs.field.place.Statement.{statement}
 use Rattle.sheet.proofs.field.place.Tie as tie
 

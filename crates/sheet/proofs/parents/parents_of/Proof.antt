@@ -1,8 +1,7 @@
 -- The parents of the members below k.
 use Rattle.sheet.proofs.ParentSets.{parents-start, parents-more, parents-done}
 use Rattle.sheet.specs.Forms.Parents.{Parents}
-use Rattle.laws.specs.Mask.{bit}
-use Rattle.laws.proofs.Prelude.{_-_, _≤_, needs}
+use Rattle.laws.proofs.Prelude.{bit, _-_, _≤_, needs}
 use Rattle.sheet.proofs.parents.parents_of.Statement.{statement}
 use Rattle.sheet.proofs.parents.parents_of.Tie as tie
 

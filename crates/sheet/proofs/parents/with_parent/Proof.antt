@@ -1,7 +1,6 @@
 -- A member's parent, where a set can have it.
 use Rattle.sheet.proofs.ParentSets.{added-none, added-far, added-one}
-use Rattle.laws.specs.Sets.{joined}
-use Rattle.laws.proofs.Prelude.{sym, ap, _∙_, true, not-true, not-false, needs, arith}
+use Rattle.laws.proofs.Prelude.{joined, sym, ap, _∙_, true, not-true, not-false, needs, arith}
 use Rattle.sheet.proofs.parents.with_parent.Statement.{statement}
 use Rattle.sheet.proofs.parents.with_parent.Tie as tie
 

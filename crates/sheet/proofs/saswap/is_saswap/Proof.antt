@@ -3,8 +3,7 @@ use Rattle.sheet.proofs.SaswapLength.{saswap-length}
 use Rattle.sheet.specs.Setup.{isSaswap}
 use Rattle.sheet.specs.Field.{byte}
 use Rattle.laws.specs.Same.{same}
-use Rattle.laws.specs.Below.{allBelow, all-start, all-more, all-broken, all-done}
-use Rattle.laws.proofs.Prelude.{_-_, _≤_, _≡_, sym, true, eqb, eq-eqb, ne-eqb, needs}
+use Rattle.laws.proofs.Prelude.{allBelow, all-start, all-more, all-broken, all-done, _-_, _≤_, _≡_, sym, true, eqb, eq-eqb, ne-eqb, needs}
 use Rattle.sheet.proofs.saswap.is_saswap.Statement.{statement}
 use Rattle.sheet.proofs.saswap.is_saswap.Tie as tie
 

@@ -1,7 +1,5 @@
 -- The bit at t, shifted down.
-use Rattle.laws.specs.Mask.{bit}
-use Rattle.laws.proofs.Prelude.{_/_, _^_, ap, eqb, needs}
-use lib.Bits.{and-mask}
+use Rattle.laws.proofs.Prelude.{bit, _/_, _^_, ap, eqb, needs, and-mask}
 use Rattle.sheet.proofs.set.has.Statement.{statement}
 use Rattle.sheet.proofs.set.has.Tie as tie
 

@@ -1,9 +1,6 @@
 -- With the bit at t, or as it was.
-use Rattle.laws.specs.Sets.{joined}
-use Rattle.laws.proofs.Prelude.{ap, _∙_, needs, arith}
+use Rattle.laws.proofs.Prelude.{joined, ap, _∙_, needs, arith, bitOr, one-mul}
 use lib.Pow.{shl-exact}
-use lib.Bits.{bitOr}
-use native.Mathlib.Nat.{one-mul}
 use Rattle.sheet.proofs.set.join.Statement.{statement}
 use Rattle.sheet.proofs.set.join.Tie as tie
 

@@ -1,9 +1,6 @@
 -- Without the bit at t.
-use Rattle.laws.specs.Sets.{removed}
-use Rattle.laws.proofs.Prelude.{_-_, ap, _∙_, needs, arith}
+use Rattle.laws.proofs.Prelude.{removed, _-_, ap, _∙_, needs, arith, bitAnd, one-mul}
 use lib.Pow.{shl-exact}
-use lib.Bits.{bitAnd}
-use native.Mathlib.Nat.{one-mul}
 use Rattle.sheet.proofs.set.remove.Statement.{statement}
 use Rattle.sheet.proofs.set.remove.Tie as tie
 

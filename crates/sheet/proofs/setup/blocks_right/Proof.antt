@@ -1,7 +1,6 @@
 -- Four bytes, and 1 to 1,000 blocks per day: check 9.
 use Rattle.sheet.specs.Setup.{blocksRight}
-use Rattle.laws.specs.Booleans.{tests}
-use borrow.Author.Needs.{needs}
+use Rattle.laws.proofs.Prelude.{tests, needs}
 use Rattle.sheet.proofs.setup.blocks_right.Statement.{statement}
 use Rattle.sheet.proofs.setup.blocks_right.Tie as tie
 

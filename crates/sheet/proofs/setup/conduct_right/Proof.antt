@@ -1,7 +1,6 @@
 -- Conduct and stealth are in range, and the sheet fits the conduct: check 10.
 use Rattle.sheet.specs.Setup.{conductRight}
-use Rattle.laws.specs.Booleans.{tests}
-use borrow.Author.Needs.{needs}
+use Rattle.laws.proofs.Prelude.{tests, needs}
 use Rattle.sheet.proofs.setup.conduct_right.Statement.{statement}
 use Rattle.sheet.proofs.setup.conduct_right.Tie as tie
 

@@ -1,6 +1,5 @@
 -- A sheet of two has any conduct; one of three neither 1 nor 2: check 32.
-use Rattle.laws.proofs.Prelude.{not-true, not-false, needs}
-use Rattle.laws.specs.Booleans.{tests}
+use Rattle.laws.proofs.Prelude.{not-true, not-false, needs, tests}
 use Rattle.sheet.specs.Setup.{partiesRight}
 use Rattle.sheet.proofs.setup.parties_right.Statement.{statement}
 use Rattle.sheet.proofs.setup.parties_right.Tie as tie

@@ -1,9 +1,7 @@
 -- The first of the checks 9, 32 and 10 that fails.
-use Rattle.laws.specs.Booleans.{held}
-use Rattle.laws.specs.Failing.{none-left, fails, passes}
+use Rattle.laws.proofs.Prelude.{held, none-left, fails, passes, needs}
 use Rattle.sheet.specs.Setup.{setupTests, setupRefusal}
 use Rattle.sheet.proofs.Passed.{setup-four}
-use borrow.Author.Needs.{needs}
 use Rattle.sheet.proofs.setup.setup_refusal.Statement.{statement}
 use Rattle.sheet.proofs.setup.setup_refusal.Tie as tie
 

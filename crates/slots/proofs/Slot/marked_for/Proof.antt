@@ -1,7 +1,6 @@
 -- The bit of the party's marks.
 use Rattle.slots.specs.Slot.{markedFor}
-use Rattle.laws.specs.Mask.{bit}
-use Rattle.laws.proofs.Prelude.{ap, _∙_, needs}
+use Rattle.laws.proofs.Prelude.{bit, ap, _∙_, needs}
 use Rattle.slots.proofs.Slot.marked_for.Statement.{statement}
 use Rattle.slots.proofs.Slot.marked_for.Tie as tie
 

@@ -1,8 +1,6 @@
 -- One more mark, by party number; the other fields stay.
-use native.Mathlib.Nat.{one-mul}
-use Rattle.laws.proofs.Prelude.{needs, arith}
+use Rattle.laws.proofs.Prelude.{one-mul, needs, arith, tests}
 use lib.Pow.{shl-exact}
-use Rattle.laws.specs.Booleans.{tests}
 use Rattle.slots.specs.Slot.{withMark}
 use Rattle.slots.proofs.Slot.with_mark.Statement.{statement}
 use Rattle.slots.proofs.Slot.with_mark.Tie as tie

@@ -1,7 +1,6 @@
 -- A transaction's line: itself, and the line of its parent, which is a lower number.
-use Rattle.laws.specs.Booleans.{tests}
+use Rattle.laws.proofs.Prelude.{tests, ℕ, _<_, needs}
 use Rattle.slots.proofs.LineSets.{lineSet-step}
-use Rattle.laws.proofs.Prelude.{ℕ, _<_, needs}
 use borrow.Fn.Kinds.{In}
 use borrow.Fn.PlainCycle.{Measures, is, falls, and}
 use Rattle.slots.proofs.ancestry.line_of.Reads as line-of

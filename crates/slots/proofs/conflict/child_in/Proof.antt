@@ -1,9 +1,7 @@
 -- None below k, the next of the set, is a child.
 use Rattle.slots.proofs.Children.{child-first, child-next, child-found}
 use Rattle.sheet.specs.Forms.Parents.{isParentBelow}
-use Rattle.laws.specs.Below.{any-done}
-use Rattle.laws.specs.Mask.{bit}
-use Rattle.laws.proofs.Prelude.{_-_, _≤_, _<_, _≡_, true, false, needs}
+use Rattle.laws.proofs.Prelude.{any-done, bit, _-_, _≤_, _<_, _≡_, true, false, needs}
 use Rattle.slots.proofs.conflict.child_in.Statement.{statement}
 use Rattle.slots.proofs.conflict.child_in.Tie as tie
 

@@ -1,9 +1,7 @@
 -- None where the set is empty; else the set of those below t.
 use Rattle.slots.proofs.ConflictSets.{conflicts-none}
 use Rattle.slots.specs.Forms.Conflict.{foundIn}
-use Rattle.laws.specs.Sets.{setBelow, set-start, set-more, set-done}
-use Rattle.laws.specs.Mask.{bit}
-use Rattle.laws.proofs.Prelude.{_-_, _≤_, _≡_, needs}
+use Rattle.laws.proofs.Prelude.{setBelow, set-start, set-more, set-done, bit, _-_, _≤_, _≡_, needs}
 use Rattle.slots.proofs.conflict.conflicts_of.Statement.{statement}
 use Rattle.slots.proofs.conflict.conflicts_of.Tie as tie
 

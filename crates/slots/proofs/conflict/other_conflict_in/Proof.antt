@@ -1,8 +1,7 @@
 -- A rival in the set without t.
 use Rattle.slots.proofs.ConflictSets.{conflictIn-removed}
 use Rattle.slots.specs.Conflict.{conflictIn}
-use Rattle.laws.specs.Mask.{bit}
-use Rattle.laws.proofs.Prelude.{ap, _∙_, needs}
+use Rattle.laws.proofs.Prelude.{bit, ap, _∙_, needs}
 use denote.Ref.{now}
 use Rattle.slots.proofs.conflict.other_conflict_in.Statement.{statement}
 use Rattle.slots.proofs.conflict.other_conflict_in.Tie as tie

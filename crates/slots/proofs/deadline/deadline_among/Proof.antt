@@ -3,8 +3,7 @@ use Rattle.slots.proofs.Deadlines.{rival-turn}
 use Rattle.slots.specs.Deadline.{deadline}
 use Rattle.slots.specs.Conflict.{conflict}
 use Rattle.sheet.specs.LockHeight.{never, lockHeight}
-use Rattle.laws.specs.Least.{leastBelow, least-start, least-more, least-done}
-use Rattle.laws.proofs.Prelude.{_-_, _≤_, _≡_, _&&_, ltb, needs, arith}
+use Rattle.laws.proofs.Prelude.{leastBelow, least-start, least-more, least-done, _-_, _≤_, _≡_, _&&_, ltb, needs, arith}
 use native.Mathlib.Nat.{min-le-left}
 use Rattle.slots.proofs.deadline.deadline_among.Statement.{statement}
 use Rattle.slots.proofs.deadline.deadline_among.Tie as tie

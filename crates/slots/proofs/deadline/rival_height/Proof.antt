@@ -1,6 +1,5 @@
 -- A child of `up` with a higher lock gives its lock height, any other never.
-use Rattle.laws.specs.Booleans.{tests}
-use Rattle.laws.proofs.Prelude.{sym, _∙_, eq-eqb, ne-eqb, needs}
+use Rattle.laws.proofs.Prelude.{tests, sym, _∙_, eq-eqb, ne-eqb, needs}
 use Rattle.slots.proofs.deadline.rival_height.Statement.{statement}
 use Rattle.slots.proofs.deadline.rival_height.Tie as tie
 

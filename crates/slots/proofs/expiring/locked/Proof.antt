@@ -1,7 +1,6 @@
 -- The set of those below k.
 use Rattle.slots.specs.Forms.Expiring.{hasLock}
-use Rattle.laws.specs.Sets.{setBelow, set-start, set-more, set-done}
-use Rattle.laws.proofs.Prelude.{_-_, _≤_, _≡_, needs}
+use Rattle.laws.proofs.Prelude.{setBelow, set-start, set-more, set-done, _-_, _≤_, _≡_, needs}
 use Rattle.slots.proofs.expiring.locked.Statement.{statement}
 use Rattle.slots.proofs.expiring.locked.Tie as tie
 

@@ -2,9 +2,7 @@
 use Rattle.slots.proofs.AnyMember.{any-first, any-next-member, any-member}
 use Rattle.slots.specs.Conflict.{otherConflictIn}
 use Rattle.slots.specs.Forms.HasConflicts.{hasConflictsIn}
-use Rattle.laws.specs.Below.{anyBelow, any-done}
-use Rattle.laws.specs.Mask.{bit}
-use Rattle.laws.proofs.Prelude.{_-_, _≤_, _<_, _≡_, sym, _∙_, true, false, _&&_, needs}
+use Rattle.laws.proofs.Prelude.{anyBelow, any-done, bit, _-_, _≤_, _<_, _≡_, sym, _∙_, true, false, _&&_, needs}
 use Rattle.slots.proofs.has_conflicts.has_conflicts.Statement.{statement}
 use Rattle.slots.proofs.has_conflicts.has_conflicts.Tie as tie
 

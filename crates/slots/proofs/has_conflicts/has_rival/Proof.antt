@@ -1,7 +1,6 @@
 -- None below k is a rival of t but itself.
 use Rattle.slots.proofs.OtherRivals.{otherRival, other-itself, other-stranger, other-found, none-before, none-after}
-use Rattle.laws.specs.Below.{anyBelow, any-more}
-use Rattle.laws.proofs.Prelude.{_-_, _<_, _≡_, false, needs}
+use Rattle.laws.proofs.Prelude.{anyBelow, any-more, _-_, _<_, _≡_, false, needs}
 use Rattle.slots.proofs.has_conflicts.has_rival.Statement.{statement}
 use Rattle.slots.proofs.has_conflicts.has_rival.Tie as tie
 

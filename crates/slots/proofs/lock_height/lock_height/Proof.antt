@@ -1,7 +1,6 @@
 -- By the lock type.
 use Rattle.sheet.specs.LockHeight.{lockHeight}
-use Rattle.laws.specs.Booleans.{tests}
-use Rattle.laws.proofs.Prelude.{needs, arith}
+use Rattle.laws.proofs.Prelude.{tests, needs, arith}
 use Rattle.slots.proofs.lock_height.lock_height.Statement.{statement}
 use Rattle.slots.proofs.lock_height.lock_height.Tie as tie
 

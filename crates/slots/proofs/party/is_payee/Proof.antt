@@ -1,7 +1,6 @@
 -- The bit of the party's place among the payees.
 use denote.Ref.{now}
-use Rattle.laws.specs.Booleans.{held}
-use Rattle.laws.proofs.Prelude.{not-true, not-false, needs, arith}
+use Rattle.laws.proofs.Prelude.{held, not-true, not-false, needs, arith}
 use Rattle.sheet.specs.Field.{place}
 use Rattle.sheet.proofs.Parties.{parties-few, place-below}
 use Rattle.slots.specs.Destination.{isPayee}

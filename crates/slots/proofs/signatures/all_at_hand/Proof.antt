@@ -1,7 +1,6 @@
 -- Each signature that is needed is at hand: the subset test of both masks, shifted, is what is left of it.
-use Rattle.laws.specs.Mask.{subset}
+use Rattle.laws.proofs.Prelude.{subset, _<_, _≡_, refl, sym, _∙_, not-true, not-false, needs, arith}
 use Rattle.laws.specs.Bits.{subset-none, subset-shift}
-use Rattle.laws.proofs.Prelude.{_<_, _≡_, refl, sym, _∙_, not-true, not-false, needs, arith}
 use Rattle.slots.proofs.signatures.all_at_hand.Statement.{statement}
 use Rattle.slots.proofs.signatures.all_at_hand.Tie as tie
 

@@ -1,7 +1,6 @@
 -- None if veiled, else the required ones.
 use Rattle.slots.specs.Signatures.{exposedMask}
-use Rattle.laws.specs.Booleans.{tests}
-use borrow.Author.Needs.{needs}
+use Rattle.laws.proofs.Prelude.{tests, needs}
 use Rattle.slots.proofs.signatures.exposed_mask.Statement.{statement}
 use Rattle.slots.proofs.signatures.exposed_mask.Tie as tie
 

@@ -1,7 +1,6 @@
 -- Held and required, without the secrets.
 use Rattle.slots.specs.Signatures.{shareMask}
-use Rattle.laws.specs.Mask.{without}
-use borrow.Author.Needs.{needs}
+use Rattle.laws.proofs.Prelude.{without, needs}
 use Rattle.slots.proofs.signatures.share_mask.Statement.{statement}
 use Rattle.slots.proofs.signatures.share_mask.Tie as tie
 

@@ -1,8 +1,7 @@
 -- A confirmed one by its block, any other by the greatest of three.
-use Rattle.laws.proofs.Prelude.{_+_, _*_, needs, arith}
+use Rattle.laws.proofs.Prelude.{_+_, _*_, needs, arith, tests}
 use Rattle.soonest.specs.Soonest.{soonestOver}
 use Rattle.soonest.proofs.Bounds.{greater-le}
-use Rattle.laws.specs.Booleans.{tests}
 use Rattle.soonest.proofs.block.soonest_over.Statement.{statement}
 use Rattle.soonest.proofs.block.soonest_over.Tie as tie
 

@@ -1,7 +1,6 @@
 -- By the two lock heights.
 use Rattle.soonest.specs.Soonest.{countsAt}
-use Rattle.laws.specs.Booleans.{tests}
-use Rattle.laws.proofs.Prelude.{needs, arith}
+use Rattle.laws.proofs.Prelude.{tests, needs, arith}
 use Rattle.soonest.proofs.deadline.counts_at.Statement.{statement}
 use Rattle.soonest.proofs.deadline.counts_at.Tie as tie
 

@@ -1,7 +1,6 @@
 -- The parent is unconfirmed, the one lock is not since it, the other is.
 use Rattle.soonest.specs.Soonest.{mayRise}
-use Rattle.laws.specs.Booleans.{tests}
-use borrow.Author.Needs.{needs}
+use Rattle.laws.proofs.Prelude.{tests, needs}
 use Rattle.soonest.proofs.deadline.may_rise.Statement.{statement}
 use Rattle.soonest.proofs.deadline.may_rise.Tie as tie
 

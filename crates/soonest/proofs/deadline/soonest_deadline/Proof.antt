@@ -1,10 +1,8 @@
 -- The least of what counts at the rivals. The best of those below k.
 use Rattle.soonest.specs.Soonest.{countsAt}
 use Rattle.soonest.specs.Forms.Deadline.{deadlineOver}
-use Rattle.slots.specs.Conflict.{conflict}
-use Rattle.sheet.specs.LockHeight.{never}
-use Rattle.laws.specs.Least.{leastBelow, least-start, least-more, least-done}
-use Rattle.laws.proofs.Prelude.{_-_, _≤_, _≡_, needs}
+use Rattle.laws.proofs.Prelude.{leastBelow, least-start, least-more, least-done, _-_, _≤_, _≡_, needs}
+use Rattle.position.proofs.Rules.{conflict, never}
 use Rattle.soonest.proofs.deadline.soonest_deadline.Statement.{statement}
 use Rattle.soonest.proofs.deadline.soonest_deadline.Tie as tie
 

@@ -1,8 +1,7 @@
 -- By the lock type.
 use Rattle.soonest.specs.Soonest.{lockAt}
-use Rattle.sheet.specs.LockHeight.{lockHeight}
-use Rattle.laws.specs.Booleans.{tests}
-use Rattle.laws.proofs.Prelude.{needs, arith}
+use Rattle.laws.proofs.Prelude.{tests, needs, arith}
+use Rattle.position.proofs.Rules.{lockHeight}
 use Rattle.soonest.proofs.lock.lock_at.Statement.{statement}
 use Rattle.soonest.proofs.lock.lock_at.Tie as tie
 

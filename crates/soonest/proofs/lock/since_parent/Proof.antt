@@ -1,7 +1,6 @@
 -- Never, or the sum.
-use Rattle.sheet.specs.LockHeight.{sinceParent}
-use Rattle.laws.specs.Booleans.{tests}
-use Rattle.laws.proofs.Prelude.{needs, arith}
+use Rattle.laws.proofs.Prelude.{tests, needs, arith}
+use Rattle.position.proofs.Rules.{sinceParent}
 use Rattle.soonest.proofs.lock.since_parent.Statement.{statement}
 use Rattle.soonest.proofs.lock.since_parent.Tie as tie
 

@@ -1,7 +1,6 @@
 -- Itself, or another child of the same parent.
-use Rattle.slots.specs.Conflict.{conflict}
-use Rattle.laws.specs.Booleans.{tests}
-use borrow.Author.Needs.{needs}
+use Rattle.laws.proofs.Prelude.{tests, needs}
+use Rattle.position.proofs.Rules.{conflict}
 use Rattle.soonest.proofs.rival.conflict.Statement.{statement}
 use Rattle.soonest.proofs.rival.conflict.Tie as tie
 

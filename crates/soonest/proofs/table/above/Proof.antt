@@ -1,7 +1,6 @@
 -- By the parent's number.
-use Rattle.laws.specs.Booleans.{tests}
+use Rattle.laws.proofs.Prelude.{tests, needs}
 use Rattle.soonest.specs.Forms.Table.{tableAbove}
-use borrow.Author.Needs.{needs}
 use Rattle.soonest.proofs.table.above.Statement.{statement}
 use Rattle.soonest.proofs.table.above.Tie as tie
 

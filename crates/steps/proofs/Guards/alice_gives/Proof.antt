@@ -1,6 +1,5 @@
 -- Phase, signature, what Alice holds, and the time.
-use borrow.Author.Tests.{eq-eqb}
-use Rattle.laws.specs.Booleans.{tests}
+use Rattle.laws.proofs.Prelude.{eq-eqb, tests}
 use Rattle.steps.specs.Conduct.{aliceGivesRule}
 use Rattle.steps.proofs.Guards.alice_gives.Statement.{statement}
 use Rattle.steps.proofs.Guards.alice_gives.Tie as tie

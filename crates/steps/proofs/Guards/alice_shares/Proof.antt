@@ -1,6 +1,5 @@
 -- Phase, transaction, refund_1, and the time.
-use borrow.Author.Tests.{eq-eqb, not-true, not-false}
-use Rattle.laws.specs.Booleans.{tests}
+use Rattle.laws.proofs.Prelude.{eq-eqb, not-true, not-false, tests}
 use Rattle.steps.specs.Conduct.{aliceSharesRule}
 use Rattle.steps.proofs.Guards.alice_shares.Statement.{statement}
 use Rattle.steps.proofs.Guards.alice_shares.Tie as tie

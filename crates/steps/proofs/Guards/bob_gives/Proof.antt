@@ -1,7 +1,6 @@
 -- Phase, signature, what Bob has for success, and the time.
-use Rattle.laws.specs.Booleans.{tests}
+use Rattle.laws.proofs.Prelude.{tests, not-true, not-false, needs}
 use Rattle.steps.specs.Conduct.{bobGivesRule}
-use Rattle.laws.proofs.Prelude.{not-true, not-false, needs}
 use Rattle.steps.proofs.Guards.bob_gives.Statement.{statement}
 use Rattle.steps.proofs.Guards.bob_gives.Tie as tie
 

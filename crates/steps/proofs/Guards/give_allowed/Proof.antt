@@ -1,8 +1,6 @@
 -- Open, or Alice's gift, or Bob's.
-use Rattle.laws.specs.Booleans.{tests}
+use Rattle.laws.proofs.Prelude.{tests, or-false, needs}
 use Rattle.steps.specs.Forms.Conduct.{giveAllowedIn}
-use mathlib.Core.Bool.{or-false}
-use borrow.Author.Needs.{needs}
 use Rattle.steps.proofs.Guards.give_allowed.Statement.{statement}
 use Rattle.steps.proofs.Guards.give_allowed.Tie as tie
 

@@ -1,7 +1,6 @@
 -- Not Alice, or refund_1, or the others.
-use Rattle.laws.specs.Booleans.{tests}
+use Rattle.laws.proofs.Prelude.{tests, needs}
 use Rattle.steps.specs.Conduct.{safeToSendRule}
-use borrow.Author.Needs.{needs}
 use Rattle.steps.proofs.Guards.safe_to_send.Statement.{statement}
 use Rattle.steps.proofs.Guards.safe_to_send.Tie as tie
 

@@ -1,7 +1,6 @@
 -- Open, or the first shares, or Alice's share.
-use Rattle.laws.specs.Booleans.{tests}
+use Rattle.laws.proofs.Prelude.{tests, needs}
 use Rattle.steps.specs.Forms.Conduct.{shareAllowedIn}
-use borrow.Author.Needs.{needs}
 use Rattle.steps.proofs.Guards.share_allowed.Statement.{statement}
 use Rattle.steps.proofs.Guards.share_allowed.Tie as tie
 

@@ -1,7 +1,5 @@
 -- A byte of the keys, 0 past them.
-use Rattle.laws.specs.Each.{length-of-map}
-use Rattle.laws.proofs.Prelude.{_≡_, sym, length, needs, arith}
-use lib.ListN.{List·getD-eq-default}
+use Rattle.laws.proofs.Prelude.{length-of-map, _≡_, sym, length, needs, arith, List·getD-eq-default}
 use Rattle.steps.specs.Forms.View.{keysIn}
 use Rattle.steps.proofs.View.keys.Statement.{statement}
 use Rattle.steps.proofs.View.keys.Tie as tie

@@ -1,10 +1,9 @@
 -- In, out, or as it was.
 use Rattle.steps.specs.Forms.Blocks.{bumpedSlot}
 use Rattle.steps.proofs.Unmoved.{block-out}
-use Rattle.laws.specs.Mask.{bit}
+use Rattle.laws.proofs.Prelude.{bit, needs}
 use Rattle.slots.specs.Ancestry.{inAncestry}
 use denote.Ref.{now}
-use borrow.Author.Needs.{needs}
 use Rattle.steps.proofs.bumped.bumped_slot.Statement.{statement}
 use Rattle.steps.proofs.bumped.bumped_slot.Tie as tie
 

@@ -1,7 +1,6 @@
 -- The set of those below k.
 use Rattle.steps.specs.Forms.Blocks.{entersIn}
-use Rattle.laws.specs.Sets.{setBelow, set-start, set-more, set-done}
-use Rattle.laws.proofs.Prelude.{_-_, _≤_, _≡_, needs}
+use Rattle.laws.proofs.Prelude.{setBelow, set-start, set-more, set-done, _-_, _≤_, _≡_, needs}
 use Rattle.steps.proofs.bumped.entering.Statement.{statement}
 use Rattle.steps.proofs.bumped.entering.Tie as tie
 

@@ -1,7 +1,6 @@
 -- Both hold, or 13.
 use Rattle.steps.specs.Tests.{conductRule}
-use Rattle.laws.specs.Failing.{firstFailing}
-use borrow.Author.Tests.{not-true, not-false}
+use Rattle.laws.proofs.Prelude.{firstFailing, not-true, not-false}
 use Rattle.steps.proofs.conduct.conduct_refusal.Statement.{statement}
 use Rattle.steps.proofs.conduct.conduct_refusal.Tie as tie
 

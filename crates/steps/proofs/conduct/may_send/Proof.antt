@@ -1,7 +1,6 @@
 -- By the party, then by the phase.
-use Rattle.laws.specs.Booleans.{tests}
+use Rattle.laws.proofs.Prelude.{tests, or-false}
 use Rattle.steps.specs.Conduct.{maySend}
-use mathlib.Core.Bool.{or-false}
 use Rattle.steps.proofs.conduct.may_send.Statement.{statement}
 use Rattle.steps.proofs.conduct.may_send.Tie as tie
 

@@ -1,7 +1,6 @@
 -- Transaction 255, conduct 1 or 2, destination 2.
 use Rattle.steps.specs.Decode.{firstShareFields}
-use Rattle.laws.specs.Booleans.{tests}
-use borrow.Author.Needs.{needs}
+use Rattle.laws.proofs.Prelude.{tests, needs}
 use Rattle.steps.proofs.decode.first_share_fields.Statement.{statement}
 use Rattle.steps.proofs.decode.first_share_fields.Tie as tie
 

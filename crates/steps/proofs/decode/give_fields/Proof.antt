@@ -1,6 +1,5 @@
 -- The fields of kind 2.
-use Rattle.laws.specs.Booleans.{tests}
-use Rattle.laws.proofs.Prelude.{not-true, not-false, needs}
+use Rattle.laws.proofs.Prelude.{tests, not-true, not-false, needs}
 use Rattle.steps.proofs.decode.give_fields.Statement.{statement}
 use Rattle.steps.proofs.decode.give_fields.Tie as tie
 

@@ -1,7 +1,6 @@
 -- A party of the sheet, and not the giver.
-use Rattle.laws.specs.Booleans.{tests}
+use Rattle.laws.proofs.Prelude.{tests, needs}
 use Rattle.steps.specs.Decode.{isOther}
-use borrow.Author.Needs.{needs}
 use Rattle.steps.proofs.decode.is_other.Statement.{statement}
 use Rattle.steps.proofs.decode.is_other.Tie as tie
 

@@ -1,6 +1,5 @@
 -- The miner, a transaction of the sheet, destination 2.
-use Rattle.laws.specs.Booleans.{tests}
-use borrow.Author.Needs.{needs}
+use Rattle.laws.proofs.Prelude.{tests, needs}
 use Rattle.steps.proofs.decode.miner_fields.Statement.{statement}
 use Rattle.steps.proofs.decode.miner_fields.Tie as tie
 

@@ -1,7 +1,6 @@
 -- A contract transaction goes to the contract, a paying one to the sender.
 use Rattle.steps.specs.Decode.{sendsTo}
-use Rattle.laws.specs.Booleans.{tests}
-use borrow.Author.Needs.{needs}
+use Rattle.laws.proofs.Prelude.{tests, needs}
 use Rattle.steps.proofs.decode.sends_to.Statement.{statement}
 use Rattle.steps.proofs.decode.sends_to.Tie as tie
 

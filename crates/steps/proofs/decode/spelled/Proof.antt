@@ -1,7 +1,6 @@
 -- By the destination.
-use Rattle.laws.specs.Booleans.{tests}
+use Rattle.laws.proofs.Prelude.{tests, needs}
 use Rattle.steps.specs.Decode.{spelled}
-use borrow.Author.Needs.{needs}
 use Rattle.steps.proofs.decode.spelled.Statement.{statement}
 use Rattle.steps.proofs.decode.spelled.Tie as tie
 

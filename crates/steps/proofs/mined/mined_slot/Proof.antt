@@ -1,11 +1,9 @@
 -- Confirmed, and out of the pool where the line meets the set.
 use Rattle.steps.specs.Forms.Blocks.{minedSlot}
 use Rattle.steps.proofs.Unmoved.{pool-out}
-use Rattle.laws.specs.Mask.{bit}
-use mathlib.Core.Bool.{_||_, or-true}
+use Rattle.laws.proofs.Prelude.{bit, _||_, or-true, needs}
 use Rattle.slots.specs.Ancestry.{inAncestry}
 use denote.Ref.{now}
-use borrow.Author.Needs.{needs}
 use Rattle.steps.proofs.mined.mined_slot.Statement.{statement}
 use Rattle.steps.proofs.mined.mined_slot.Tie as tie
 

@@ -1,6 +1,5 @@
 -- An entry in the block, or transaction 0 confirmed.
-use Rattle.laws.specs.Booleans.{tests}
-use borrow.Author.Needs.{needs}
+use Rattle.laws.proofs.Prelude.{tests, needs}
 use Rattle.steps.proofs.mining.block_met.Statement.{statement}
 use Rattle.steps.proofs.mining.block_met.Tie as tie
 

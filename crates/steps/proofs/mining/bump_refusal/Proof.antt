@@ -1,7 +1,6 @@
 -- Owed, or 21.
 use Rattle.steps.specs.Tests.{bumpRule}
-use Rattle.laws.specs.Failing.{none-left, fails, passes}
-use mathlib.Core.Path.{refl}
+use Rattle.laws.proofs.Prelude.{none-left, fails, passes, refl}
 use Rattle.steps.proofs.mining.bump_refusal.Statement.{statement}
 use Rattle.steps.proofs.mining.bump_refusal.Tie as tie
 

@@ -1,8 +1,7 @@
 -- The tests in their order.
-use Rattle.laws.proofs.Prelude.{refl, [], ltb, lt-ltb, le-ltb, needs}
+use Rattle.laws.proofs.Prelude.{refl, [], ltb, lt-ltb, le-ltb, needs, none-left, fails, passes, fails-not, passes-not}
 use Rattle.sheet.specs.Refusal.{stepBlocks}
 use Rattle.steps.specs.Forms.Mining.{mineTestsIn}
-use Rattle.laws.specs.Failing.{none-left, fails, passes, fails-not, passes-not}
 use Rattle.steps.proofs.mining.mine_refusal.Statement.{statement}
 use Rattle.steps.proofs.mining.mine_refusal.Tie as tie
 

@@ -1,7 +1,6 @@
 -- The height at that place, or 0.
-use Rattle.laws.specs.Booleans.{tests}
+use Rattle.laws.proofs.Prelude.{tests, needs}
 use Rattle.steps.specs.Forms.Parent.{blockAbove}
-use borrow.Author.Needs.{needs}
 use Rattle.steps.proofs.parent.block_above.Statement.{statement}
 use Rattle.steps.proofs.parent.block_above.Tie as tie
 

@@ -1,7 +1,6 @@
 -- None to ask for, or a member of the set.
 use Rattle.slots.specs.Ancestry.{hasParent}
-use Rattle.laws.specs.Bits.{bit-above}
-use Rattle.laws.proofs.Prelude.{sym, needs}
+use Rattle.laws.proofs.Prelude.{bit-above, sym, needs}
 use Rattle.steps.proofs.parent.parent_there.Statement.{statement}
 use Rattle.steps.proofs.parent.parent_there.Tie as tie
 

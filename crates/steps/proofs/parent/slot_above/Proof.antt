@@ -1,7 +1,6 @@
 -- The parent's number, or 0.
-use Rattle.laws.specs.Booleans.{tests}
+use Rattle.laws.proofs.Prelude.{tests, needs}
 use Rattle.steps.specs.Forms.Parent.{slotAbove}
-use borrow.Author.Needs.{needs}
 use Rattle.steps.proofs.parent.slot_above.Statement.{statement}
 use Rattle.steps.proofs.parent.slot_above.Tie as tie
 

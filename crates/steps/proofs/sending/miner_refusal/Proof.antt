@@ -1,8 +1,6 @@
 -- Stealth, then the tests that both kinds share.
 use Rattle.steps.specs.Forms.Sending.{minerTestsIn}
-use Rattle.laws.specs.Failing.{firstFailing}
-use Rattle.laws.specs.Booleans.{tests}
-use borrow.Author.Needs.{needs}
+use Rattle.laws.proofs.Prelude.{firstFailing, tests, needs}
 use Rattle.steps.proofs.sending.miner_refusal.Statement.{statement}
 use Rattle.steps.proofs.sending.miner_refusal.Tie as tie
 

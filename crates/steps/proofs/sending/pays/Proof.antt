@@ -1,8 +1,7 @@
 -- A payee, whose parent is somewhere, and by kind 3 or by kind 4.
 use Rattle.steps.specs.Forms.Sending.{paysIn}
 use Rattle.steps.proofs.NoParent.{pays-none}
-use Rattle.laws.specs.Booleans.{tests}
-use Rattle.laws.proofs.Prelude.{sym, _∙_, not-true, not-false, needs}
+use Rattle.laws.proofs.Prelude.{tests, sym, _∙_, not-true, not-false, needs}
 use Rattle.steps.proofs.sending.pays.Statement.{statement}
 use Rattle.steps.proofs.sending.pays.Tie as tie
 

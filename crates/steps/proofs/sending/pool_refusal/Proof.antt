@@ -1,7 +1,6 @@
 -- The tests that both kinds share, then the deadline.
 use Rattle.steps.proofs.PoolTests.{pool-failed, pool-passed}
-use Rattle.laws.specs.Failing.{none-left, fails, passes}
-use borrow.Author.Needs.{needs}
+use Rattle.laws.proofs.Prelude.{none-left, fails, passes, needs}
 use Rattle.steps.proofs.sending.pool_refusal.Statement.{statement}
 use Rattle.steps.proofs.sending.pool_refusal.Tie as tie
 
