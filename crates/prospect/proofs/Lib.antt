@@ -6,3 +6,6 @@ pub mod Coming
 pub mod Tells
 pub mod Lasting
 pub mod Heights
+pub mod Entries
+pub mod LockHeights
+pub mod Meets

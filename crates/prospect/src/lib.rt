@@ -1,5 +1,16 @@
 // What is read once for a position and a party, from which is told what the party keeps.
+pub mod coins;
+pub mod come;
+pub mod kinds;
+pub mod knows;
+pub mod lines;
+pub mod locks;
+pub mod mask;
+pub mod paid;
+pub mod parents;
+pub mod pool;
 pub mod rival;
+pub mod rivals;
 pub mod table;
 pub mod threshold;
 pub mod until;

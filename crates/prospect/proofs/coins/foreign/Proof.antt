@@ -1,0 +1,32 @@
+-- Those below t.
+use Rattle.laws.proofs.Prelude.{_-_, _≤_, _≡_, refl, not, eqb, needs, arith}
+use Rattle.soonest.specs.Forms.Table.{Filled}
+use Rattle.soonest.proofs.Tables.{filled-start, filled-more, filled-done}
+use Rattle.laws.specs.Sets.{setBelow}
+use Rattle.sheet.specs.Field.{count}
+use Rattle.ledger.specs.Coin.{coinOf}
+use Rattle.prospect.proofs.Entries.{foreign-is}
+use Rattle.prospect.proofs.coins.foreign.Statement.{statement}
+use Rattle.prospect.proofs.coins.foreign.Tie as tie
+
+abbrev Inv-loop : tie.InvT-loop
+Inv-loop sheet n coins table₀ t₀ table t = (t ≤ n) × Filled (λ j v. v ≡ setBelow (count sheet) (λ k. not (eqb (coinOf sheet k) (coinOf sheet j)))) t table
+
+abbrev μ-loop : tie.MeasureT-loop
+μ-loop sheet n coins table₀ t₀ table t = n - t
+
+loop-holds : tie.Need-loop-holds Inv-loop μ-loop
+loop-holds c = (search needs, filled-start _ _ refl)
+
+loop-again : tie.Need-loop-again Inv-loop μ-loop
+loop-again c = (search needs, filled-more _ _ _ _ (c .before .before .loop .inv .1) (search needs) (foreign-is _ _ (c .before .before .before .coins .ensures) _ _ (search needs) (c .others .ensures)))
+
+returns : tie.Need-returns Inv-loop μ-loop
+returns c = filled-done _ _ _ _ (omega (arith, c .loop-test .left, c .before .before .before .count .ensures .is)) (c .before .loop .inv .1)
+
+pub foreign-spec : {M : Type 1} → statement M
+foreign-spec =
+    tie.close
+    (tie.spec
+    Inv-loop μ-loop (λ c κs. search needs) (λ c κs. search needs) loop-holds (λ c. search needs) (λ c. search needs) (λ c κs. search needs)
+    (λ c. search needs) (λ c. search needs) (λ c. search needs) (λ c. search needs) loop-again returns)

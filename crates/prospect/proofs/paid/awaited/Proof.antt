@@ -1,0 +1,26 @@
+-- Those below t.
+use Rattle.laws.proofs.Prelude.{_-_, _≤_, _≡_, needs}
+use Rattle.laws.specs.Sets.{setBelow, set-start, set-more, set-done}
+use mathlib.Core.Bool.{not, _&&_}
+use Rattle.laws.specs.Mask.{bit}
+use Rattle.slots.specs.Destination.{isPayee}
+use Rattle.prospect.proofs.paid.awaited.Statement.{statement}
+use Rattle.prospect.proofs.paid.awaited.Tie as tie
+
+abbrev Inv-loop : tie.InvT-loop
+Inv-loop sheet confirmed party n found₀ t₀ found t = (t ≤ n) × (found ≡ setBelow t (λ k. isPayee sheet k party && not (bit confirmed k)))
+
+abbrev μ-loop : tie.MeasureT-loop
+μ-loop sheet confirmed party n found₀ t₀ found t = n - t
+
+loop-holds : tie.Need-loop-holds Inv-loop μ-loop
+loop-holds c = (search needs, set-start _)
+
+loop-again : tie.Need-loop-again Inv-loop μ-loop
+loop-again c = (search needs, set-more _ _ _ _ _ (c .before .before .before .loop .inv .1) (c .join .ensures) (c .before .is-awaited .ensures))
+
+returns : tie.Need-returns Inv-loop μ-loop
+returns c = rw (← (c .before .before .count .ensures .is)) (set-done _ _ _ _ (c .before .loop .inv .0) (c .loop-test .left) (c .before .loop .inv .1))
+
+pub awaited-spec : {M : Type 1} → statement M
+awaited-spec = tie.close (tie.spec Inv-loop μ-loop (λ c κs. search needs) loop-holds (λ c κs. search needs) (λ c κs. search needs) (λ c. search needs) (λ c. search needs) loop-again returns)
