@@ -9,3 +9,4 @@ pub mod Heights
 pub mod Entries
 pub mod LockHeights
 pub mod Meets
+pub mod Reading

@@ -5,6 +5,7 @@ pub mod kinds;
 pub mod knows;
 pub mod lines;
 pub mod locks;
+pub mod marking;
 pub mod mask;
 pub mod paid;
 pub mod parents;
