@@ -10,3 +10,4 @@ pub mod Entries
 pub mod LockHeights
 pub mod Meets
 pub mod Reading
+pub mod Rows

@@ -3,18 +3,19 @@ use crate::mask;
 use position::Position;
 use sheet::set;
 use slots::party;
-ghost use Prim.Native.Nat.{_<_};
+ghost use Prim.Native.Nat.{ℕ, _<_};
 ghost use mathlib.Core.Path.{_≡_};
-ghost use mathlib.Core.Bool.{_&&_};
+ghost use mathlib.Core.Bool.{_&&_, _||_};
 ghost use lib.Dec.{eqb};
 ghost use Rattle.laws.specs.Booleans.{pick};
-ghost use Rattle.laws.specs.Mask.{bit, without};
+ghost use Rattle.laws.specs.Mask.{without};
 ghost use Rattle.laws.specs.Sets.{setBelow};
-ghost use Rattle.sheet.specs.Field.{count, required, Sized};
+ghost use Rattle.sheet.specs.Field.{count, Sized};
+ghost use Rattle.sheet.specs.Checked.{Checked};
 ghost use Rattle.slots.specs.Slot.{standing, entryTo};
-ghost use Rattle.position.specs.Position.{shared};
 ghost use Rattle.soonest.specs.Forms.Table.{Filled};
-ghost use Rattle.slack.specs.Beaten.{destinationOf, pooled};
+ghost use Rattle.slack.specs.Beaten.{destinationOf, pooled, signs};
+ghost use Rattle.kept.specs.Forms.Evaluation.{within};
 
 // The destination for which the party counts on t.
 pub fn destination_of(sheet: &[u8], party: u8, t: usize) -> u8
@@ -65,10 +66,11 @@ fn lack_of(pooled: bool, required: u8, given: u8) -> u32
     mask::wide(required & !given)
 }
 
-// What is lacking of each, in a table.
-pub fn lacks(position: Position, sheet: &[u8], party: u8, pooled: u32) -> [u32; 32]
-    requires { ⌜ Sized (now sheet) ⌝ }
-    ensures { λ r. ⌜ Filled (λ t v. v ≡ pick (bit pooled t) 0 (without (required (now (sheet .entry)) t) (shared position t (destinationOf (now (sheet .entry)) party t)))) (count (now (sheet .entry))) r ⌝ }
+// What is lacking of each, where `held` are those in the pool, in a table.
+pub fn lacks(position: Position, sheet: &[u8], party: u8, held: u32) -> [u32; 32]
+    requires { ⌜ Checked (now sheet) ⌝ }
+    requires { ⌜ held ≡ setBelow (count (now sheet)) (pooled (now sheet) position party) ⌝ }
+    ensures { λ r. ⌜ Filled (λ t v. (know : ℕ) → within v know ≡ (signs (now (sheet .entry)) position party know t || pooled (now (sheet .entry)) position party t)) (count (now (sheet .entry))) r ⌝ }
 {
     let n = sheet::field::count(sheet);
     let mut table = [0u32; 32];
@@ -76,7 +78,7 @@ pub fn lacks(position: Position, sheet: &[u8], party: u8, pooled: u32) -> [u32; 
     while t < n {
         let x = position.slots[t];
         let given = x.shared_for(destination_of(sheet, party, t));
-        table[t] = lack_of(set::has(pooled, t), sheet::field::required(sheet, t), given);
+        table[t] = lack_of(set::has(held, t), sheet::field::required(sheet, t), given);
         t += 1;
     }
     table
