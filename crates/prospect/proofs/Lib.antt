@@ -11,3 +11,4 @@ pub mod LockHeights
 pub mod Meets
 pub mod Reading
 pub mod Rows
+pub mod Beside

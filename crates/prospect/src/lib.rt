@@ -12,6 +12,7 @@ pub mod parents;
 pub mod pool;
 pub mod rival;
 pub mod rivals;
+pub mod seen;
 pub mod table;
 pub mod threshold;
 pub mod until;
