@@ -1,6 +1,6 @@
 -- What is read off entries, and the coins by a table.
 -- Assumes nothing.
-use Rattle.laws.proofs.Prelude.{ℕ, _-_, _<_, _≡_, refl, false, not, _&&_, List, eqb, getD, lt-ltb, arith}
+use Rattle.laws.proofs.Prelude.{ℕ, _-_, _<_, _≡_, false, not, _&&_, List, eqb, getD, lt-ltb, arith}
 use Rattle.laws.specs.Sets.{setBelow, set-same}
 use Rattle.sheet.specs.Field.{count}
 use Rattle.ledger.specs.Coin.{coinOf}

@@ -10,7 +10,7 @@ use Rattle.slots.specs.Ancestry.{hasParent}
 use Rattle.slots.proofs.Parents.{parent-lower}
 use Rattle.steps.specs.Forms.Parent.{slotAbove, blockAbove}
 use Rattle.position.specs.declared.Position.{Position}
-use Rattle.position.specs.Position.{slot, blockOf, isConfirmed}
+use Rattle.position.specs.Position.{blockOf, isConfirmed}
 use Rattle.position.specs.Forms.View.{sinceIn}
 use Rattle.soonest.specs.Soonest.{lockAt, soonestOver, soonestBlock, soonestParent}
 use Rattle.soonest.specs.Forms.Bounds.{Lock, Soon}

@@ -1,25 +1,24 @@
 -- What the masks that are read off the sheet and the position tell.
 -- Assumes nothing.
-use Rattle.laws.proofs.Prelude.{ℕ, zero, suc, _+_, _*_, _-_, _^_, _≤_, _<_, _≡_, refl, sym, ap, _∙_, List, Bool, true, false, not, _&&_, _||_, eqb, ltb, eqb-true, ltb-true, eq-eqb, ne-eqb, lt-ltb, le-ltb, arith}
+use Rattle.laws.proofs.Prelude.{ℕ, zero, suc, _-_, _^_, _≤_, _<_, _≡_, refl, sym, ap, _∙_, List, Bool, true, false, not, _&&_, _||_, eqb, ltb, ltb-true, arith}
 use native.Mathlib.Nat.{not-suc-le-zero}
-use lib.Bits.{bitAnd, bitOr, and-le-l, or-lt, or-zero-l}
+use lib.Bits.{bitAnd, and-le-l, or-lt}
 use lib.Pow.{pow-pos, pow-lt}
-use Rattle.laws.specs.Booleans.{pick, split, either, and-parts}
+use Rattle.laws.specs.Booleans.{pick, split}
 use Rattle.laws.specs.Mask.{bit}
-use Rattle.laws.specs.Bits.{bit-or, no-bit}
-use Rattle.laws.specs.Sets.{joined, removed, setBelow, bit-joined, bit-removed, bit-outside, set-bit, set-small, set-same, set-outside}
+use Rattle.laws.specs.Sets.{joined, removed, setBelow, bit-removed, bit-outside, set-bit, set-small, set-same, set-outside}
 use Rattle.sheet.specs.Field.{count, parent, opening}
 use Rattle.sheet.specs.Checked.{Checked}
 use Rattle.ledger.specs.Coin.{coinOf}
-use Rattle.slots.specs.Destination.{isPayee, isContract}
+use Rattle.slots.specs.Destination.{isPayee}
 use Rattle.slots.specs.Ancestry.{isSelfOrAncestor, hasParent}
 use Rattle.slots.specs.Forms.Line.{lineSet}
 use Rattle.slots.proofs.LineSets.{lineSet-step, line-bit}
 use Rattle.slots.proofs.Parents.{parent-lower}
 use Rattle.position.specs.declared.Position.{Position}
 use Rattle.position.specs.Position.{isConfirmed}
-use Rattle.slack.specs.Beaten.{above, fixed, runs}
-use Rattle.kept.specs.Forms.Prospect.{parentOf, lineOf, aimsOf}
+use Rattle.slack.specs.Beaten.{above, fixed}
+use Rattle.kept.specs.Forms.Prospect.{lineOf, aimsOf}
 
 -- the members of a set that another has
 set-and : (n : ℕ) (f : ℕ → Bool) (b : ℕ) → n ≤ 32 → b < 4294967296 → bitAnd (setBelow n f) b ≡ setBelow n (λ k. f k && bit b k)

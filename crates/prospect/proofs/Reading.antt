@@ -1,6 +1,6 @@
 -- What is read of the others tells, over the definitions of slack.
 -- Assumes nothing.
-use Rattle.laws.proofs.Prelude.{ℕ, _<_, _≡_, refl, _∙_, List, Bool, true, false, not, _&&_, _||_, eqb, ne-eqb, getD, arith}
+use Rattle.laws.proofs.Prelude.{ℕ, _<_, _≡_, _∙_, List, Bool, false, not, _&&_, eqb, ne-eqb, getD, arith}
 use lib.Bits.{bitOr}
 use Rattle.laws.specs.Booleans.{split, or-neither}
 use Rattle.laws.specs.Below.{anyBelow, any-same}

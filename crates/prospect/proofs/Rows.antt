@@ -1,6 +1,6 @@
 -- What a prospect's rows are to have, from what is read: what is lacking, who comes for X only, the parent.
 -- Assumes nothing.
-use Rattle.laws.proofs.Prelude.{ℕ, zero, suc, _+_, _*_, _-_, _/_, _%_, _^_, _≤_, _<_, _≡_, refl, sym, ap, _∙_, List, Bool, true, false, not, _&&_, _||_, eqb, ltb, eqb-true, ltb-true, ltb-false, eq-eqb, ne-eqb, lt-ltb, le-ltb, not-true, arith}
+use Rattle.laws.proofs.Prelude.{ℕ, zero, suc, _*_, _-_, _/_, _%_, _^_, _≤_, _<_, _≡_, refl, sym, ap, _∙_, List, Bool, true, false, not, _&&_, _||_, eqb, ltb, eqb-true, eq-eqb, ne-eqb, lt-ltb, le-ltb, not-true, arith}
 use Prim.Native.Nat.{min}
 use lib.Bits.{bitAnd, bitOr, and-step, and-le-l, and-zero-l, or-zero-l}
 use native.Mathlib.Nat.{pow-succ', not-suc-le-zero, eq-or-lt-of-le, le-of-suc-le-suc}
@@ -9,10 +9,10 @@ use Rattle.laws.specs.Below.{allBelow, all-at}
 use Rattle.attainable.proofs.Lacking.{both-ways}
 use Rattle.attainable.proofs.Masks.{subset-from, or-left, or-last}
 use lib.Pow.{pow-lt}
-use Rattle.laws.specs.Booleans.{pick, split, either, and-parts, or-parts, clash, beq-same}
+use Rattle.laws.specs.Booleans.{pick, split, either, and-parts, clash, beq-same}
 use Rattle.laws.specs.Mask.{bit, subset, without}
-use Rattle.laws.specs.Bits.{bit-or, bit-and, bit-half, no-bit, zero-or-one, or-bit, subset-bit}
-use Rattle.laws.specs.Sets.{joined, removed, setBelow, bit-first, bit-joined, set-small, set-bit, set-same, set-outside, none-set}
+use Rattle.laws.specs.Bits.{bit-and, bit-half, no-bit, zero-or-one, or-bit, subset-bit}
+use Rattle.laws.specs.Sets.{joined, removed, setBelow, bit-first, bit-joined, set-same, set-outside, none-set}
 use Rattle.sheet.specs.Field.{count, parent, opening, signatures, required}
 use Rattle.sheet.specs.Checked.{Checked}
 use Rattle.slots.specs.Destination.{isContract}
@@ -20,8 +20,7 @@ use Rattle.slots.proofs.Parents.{parent-lower}
 use Rattle.slots.specs.Signatures.{signed}
 use Rattle.position.specs.declared.Position.{Position}
 use Rattle.position.specs.Position.{shared}
-use Rattle.attainable.specs.Attainable.{attainableElsewhere}
-use Rattle.slack.specs.Beaten.{destinationOf, signs, pooled, canComeElsewhere, above}
+use Rattle.slack.specs.Beaten.{destinationOf, signs, pooled, canComeElsewhere}
 use Rattle.slack.specs.Kept.{comesForParty}
 use Rattle.kept.specs.Forms.Prospect.{parentOf, onlyOf}
 use Rattle.kept.specs.Forms.Evaluation.{within}
