@@ -18,7 +18,9 @@ loop-holds c = (search needs, set-start _)
 
 loop-again : tie.Need-loop-again Inv-loop μ-loop
 unfolding slot shared signs
-loop-again c = (search needs, set-more _ _ _ _ _ (c .before .before .before .before .before .before .loop .inv .1) (c .join .ensures) (rw (← (c .before .before .before .destination-of .ensures), ← (c .before .before .shared-for .ensures)) (c .before .signed .ensures)))
+loop-again c =
+    let c5 = c .before .before .before .before .before in
+    (search needs, set-more _ _ _ _ _ (c5 .before .loop .inv .1) (c .join .ensures) (rw (← (c .before .before .before .destination-of .ensures), ← (c .before .before .shared-for .ensures)) (c .before .signed .ensures)))
 
 returns : tie.Need-returns Inv-loop μ-loop
 returns c = rw (← (c .before .before .count .ensures .is)) (set-done _ _ _ _ (c .before .loop .inv .0) (c .loop-test .left) (c .before .loop .inv .1))

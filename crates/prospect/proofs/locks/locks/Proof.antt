@@ -21,20 +21,29 @@ loop-holds c = (search needs, filled-start _ _ refl)
 lock-at-requires : tie.Need-lock-at-requires Inv-loop μ-loop
 unfolding sinceIn slot
 lock-at-requires c κs =
+    let c5 = c .before .before .before .before .before in
+    let c10 = c5 .before .before .before .before .before in
     let h =
-    let k = c .before .before .before .before .before .before .before .before .before .before .before .before in
-    block-small (k .args .sheet .now) (k .args .setup .now) (k .args .t1) (k .pre .checked) (c .before .before .before .before .before .before .loop .t) (omega (arith, c .before .before .before .before .before .loop-test .taken, c .before .before .before .before .before .before .before .before .before .count .ensures .is)) _ (c .before .before .before .before .before .before .before .before .per-day .ensures) _ (c .before .before .before .before .before .before .before .soonest-blocks .ensures) (c .before .before .block-above .result) (c .block-or .result)
+    let k = c10 .before .before in
+    block-small (k .args .sheet .now) (k .args .setup .now) (k .args .t1) (k .pre .checked) (c5 .before .loop .t)
+    (omega (arith, c5 .loop-test .taken, c5 .before .before .before .before .count .ensures .is))
+    _ (c5 .before .before .before .per-day .ensures) _ (c5 .before .before .soonest-blocks .ensures) (c .before .before .block-above .result) (c .block-or .result)
     (rw (← (c .before .before .before .before .slot-above .ensures .0)) (c .before .before .block-above .ensures)) (search needs) (rw (← (c .before .above2 .ensures)) (c .block-or .ensures)) in
     search needs
 
 loop-again : tie.Need-loop-again Inv-loop μ-loop
 unfolding sinceIn slot
 loop-again c =
+    let c5 = c .before .before .before .before .before in
+    let c10 = c5 .before .before .before .before .before in
     let h =
-    let k = c .before .before .before .before .before .before .before .before .before .before .before .before .before in
-    own-lock (k .args .sheet .now) (k .args .setup .now) (k .args .t1) (k .pre .checked) (c .before .before .before .before .before .before .before .loop .t) (omega (arith, c .before .before .before .before .before .before .loop-test .taken, c .before .before .before .before .before .before .before .before .before .before .count .ensures .is)) _ (c .before .before .before .before .before .before .before .before .before .per-day .ensures) _ (c .before .before .before .before .before .before .before .before .soonest-blocks .ensures) (c .before .before .before .block-above .result) (c .before .block-or .result)
-    (rw (← (c .before .before .before .before .before .slot-above .ensures .0)) (c .before .before .before .block-above .ensures)) (search needs) (rw (← (c .before .before .above2 .ensures)) (c .before .block-or .ensures)) _ (c .lock-at .ensures) in
-    (search needs, filled-more _ _ _ _ (c .before .before .before .before .before .before .before .loop .inv .1) (search needs) h)
+    let k = c10 .before .before .before in
+    own-lock (k .args .sheet .now) (k .args .setup .now) (k .args .t1) (k .pre .checked) (c5 .before .before .loop .t)
+    (omega (arith, c5 .before .loop-test .taken, c10 .count .ensures .is))
+    _ (c5 .before .before .before .before .per-day .ensures) _ (c5 .before .before .before .soonest-blocks .ensures) (c .before .before .before .block-above .result) (c .before .block-or .result)
+    (rw (← (c5 .slot-above .ensures .0)) (c .before .before .before .block-above .ensures)) (search needs) (rw (← (c .before .before .above2 .ensures)) (c .before .block-or .ensures))
+    _ (c .lock-at .ensures) in
+    (search needs, filled-more _ _ _ _ (c5 .before .before .loop .inv .1) (search needs) h)
 
 returns : tie.Need-returns Inv-loop μ-loop
 returns c = filled-done _ _ _ _ (omega (arith, c .loop-test .left, c .before .before .before .before .count .ensures .is)) (c .before .loop .inv .1)

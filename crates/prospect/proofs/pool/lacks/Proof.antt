@@ -23,14 +23,16 @@ loop-holds c = (search needs, filled-start _ _ refl)
 loop-again : tie.Need-loop-again Inv-loop μ-loop
 unfolding slot shared
 loop-again c =
-    let k = c .before .before .before .before .before .before .before .before .before .before in
-    let l : c .before .before .before .before .before .before .before .loop .t < count (k .args .sheet .now) = omega (arith, c .before .before .before .before .before .before .loop-test .taken, c .before .before .before .before .before .before .before .before .count .ensures .is) in
+    let c5 = c .before .before .before .before .before in
+    let c10 = c5 .before .before .before .before .before in
+    let k = c10 in
+    let l : c5 .before .before .loop .t < count (k .args .sheet .now) = omega (arith, c5 .before .loop-test .taken, c5 .before .before .before .count .ensures .is) in
     let h =
-    lacks-tell (k .args .sheet .now) (k .args .sheet .now) (k .args .t1) (k .args .party) (k .pre .0) (c .before .before .before .before .before .before .before .loop .t) l
+    lacks-tell (k .args .sheet .now) (k .args .sheet .now) (k .args .t1) (k .args .party) (k .pre .0) (c5 .before .before .loop .t) l
     (c .before .before .has .result) (c .before .required .result) (c .before .before .before .shared-for .result)
     (c .before .before .has .ensures ∙ mark _ (k .pre .0) _ (pooled (k .args .sheet .now) (k .args .t1) (k .args .party)) (k .pre .1) _ l)
     (c .before .required .ensures) (rw (← (c .before .before .before .before .destination-of .ensures)) (c .before .before .before .shared-for .ensures)) (search needs) _ (c .lack-of .ensures) in
-    (search needs, filled-more _ _ _ _ (c .before .before .before .before .before .before .before .loop .inv .1) (search needs) h)
+    (search needs, filled-more _ _ _ _ (c5 .before .before .loop .inv .1) (search needs) h)
 
 returns : tie.Need-returns Inv-loop μ-loop
 returns c = filled-done _ _ _ _ (omega (arith, c .loop-test .left, c .before .before .count .ensures .is)) (c .before .loop .inv .1)
