@@ -34,11 +34,13 @@ isDue s u p x blocks t = eqb blocks 0 && (isOpen s u p x t 3 || isOpen s u p x t
 
 -- "the slack in blocks, 4 bytes ..; the transaction that the party counts on and its destination ..; 1 where it is to be sent before the next block
 -- .., else 0; one byte 0"
+unfoldable pub rowOf : List ℕ → List ℕ → Position → ℕ → ℕ → ℕ → List ℕ
+rowOf s u p x blocks t = bytesOf 4 blocks ++ (t ∷ destinationFor s x t ∷ pick (isDue s u p x blocks t) 1 0 ∷ 0 ∷ [])
+
 unfoldable pub slackRow : List ℕ → List ℕ → Position → ℕ → List ℕ
 slackRow s u p x =
     let blocks = slack s u p x in
-    let t = countedAt s u p x blocks in
-    bytesOf 4 blocks ++ (t ∷ destinationFor s x t ∷ pick (isDue s u p x blocks t) 1 0 ∷ 0 ∷ [])
+    rowOf s u p x blocks (countedAt s u p x blocks)
 
 -- "For each party of the sheet, in the order Alice, Bob, Carol, 8 bytes"
 unfoldable pub slackBytes : List ℕ → List ℕ → Position → List ℕ

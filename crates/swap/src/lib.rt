@@ -10,6 +10,7 @@ use call_page::page;
 use call_report::report;
 use call_run::run;
 use call_shrink::shrink;
+use call_slack::slack;
 use call_timelocks::timelocks;
 use sheet::check::sheet_refusal;
 ghost use Prim.Native.Nat.{_*_, _%_};
@@ -20,6 +21,7 @@ ghost use Rattle.position.specs.Play.{run};
 ghost use Rattle.position.specs.Answers.{packed, runPart, listAnswer};
 ghost use Rattle.dated.specs.Report.{reportAnswer};
 ghost use Rattle.call_outage.specs.Answer.{outageAnswer};
+ghost use Rattle.call_slack.specs.Answer.{slackAnswer};
 ghost use Rattle.call_page.specs.Page.{pageAnswer};
 ghost use Rattle.call_timelocks.specs.Timelocks.{timelocksAnswer};
 ghost use Rattle.call_desk.specs.Desk.{deskAnswer};
@@ -92,6 +94,15 @@ pub extern "C" fn swap_outage(
     ensures { λ _. ⌜ now (out .exit) ≡ outageAnswer (now (sheet .entry)) (now (setup .entry)) (now (journal .entry)) blocks (now (out .entry)) .buffer ⌝ }
 {
     outage(sheet, setup, journal, blocks, out) * 65536
+}
+
+// For how many blocks each party can take no step after a journal: refusal × 65,536.
+#[no_mangle]
+pub extern "C" fn swap_slack(sheet: &[u8], setup: &[u8], journal: &[u8], out: &mut [u8]) -> u32
+    ensures { λ r. ⌜ r ≡ packed (slackAnswer (now (sheet .entry)) (now (setup .entry)) (now (journal .entry)) (now (out .entry)) .refusal) 0 ⌝ }
+    ensures { λ _. ⌜ now (out .exit) ≡ slackAnswer (now (sheet .entry)) (now (setup .entry)) (now (journal .entry)) (now (out .entry)) .buffer ⌝ }
+{
+    slack(sheet, setup, journal, out) * 65536
 }
 
 // The page of the position after a journal: refusal × 65,536.

@@ -1,0 +1,4 @@
+pub mod RowLengths
+pub mod SlackAnswers
+pub mod NoneDue
+pub mod Found
