@@ -1,12 +1,12 @@
 -- What the masks that are read off the sheet and the position tell.
 -- Assumes nothing.
-use Rattle.laws.proofs.Prelude.{ℕ, zero, suc, _-_, _^_, _≤_, _<_, _≡_, refl, sym, ap, _∙_, List, Bool, true, false, not, _&&_, _||_, eqb, ltb, ltb-true, arith}
+use Rattle.laws.proofs.Prelude.{ℕ, zero, suc, _-_, _^_, _<_, _≡_, refl, ap, _∙_, List, Bool, true, false, not, _&&_, _||_, eqb, ltb, ltb-true, arith}
 use native.Mathlib.Nat.{not-suc-le-zero}
 use lib.Bits.{bitAnd, and-le-l, or-lt}
 use lib.Pow.{pow-pos, pow-lt}
 use Rattle.laws.specs.Booleans.{pick, split}
 use Rattle.laws.specs.Mask.{bit}
-use Rattle.laws.specs.Sets.{joined, removed, setBelow, bit-removed, bit-outside, set-bit, set-small, set-same, set-outside}
+use Rattle.laws.specs.Sets.{joined, removed, setBelow, bit-removed, set-bit, set-small, set-same}
 use Rattle.sheet.specs.Field.{count, parent, opening}
 use Rattle.sheet.specs.Checked.{Checked}
 use Rattle.ledger.specs.Coin.{coinOf}
@@ -19,15 +19,7 @@ use Rattle.position.specs.declared.Position.{Position}
 use Rattle.position.specs.Position.{isConfirmed}
 use Rattle.slack.specs.Beaten.{above, fixed}
 use Rattle.kept.specs.Forms.Prospect.{lineOf, aimsOf}
-
--- the members of a set that another has
-set-and : (n : ℕ) (f : ℕ → Bool) (b : ℕ) → n ≤ 32 → b < 4294967296 → bitAnd (setBelow n f) b ≡ setBelow n (λ k. f k && bit b k)
-set-and n f b few h =
-    let q : b ≡ 4294967295 - (4294967295 - b) = omega arith in
-    ap (bitAnd (setBelow n f)) q
-    ∙ set-outside n f (4294967295 - b) few (omega arith)
-    ∙ set-same n (λ k. f k && not (bit (4294967295 - b) k)) (λ k. f k && bit b k)
-    (λ k l. ap (λ (x : Bool). f k && x) (sym (bit-outside (4294967295 - b) k (omega arith) (omega (arith, l, few))) ∙ ap (λ (m : ℕ). bit m k) (sym q)))
+use Rattle.kept.proofs.WithinSets.{set-and}
 
 with-one : (m t : ℕ) → t < 32 → m < 2 ^ 32 → joined m true t < 2 ^ 32
 unfolding joined

@@ -151,7 +151,15 @@ returns c =
     let reads = c25 .before .read .ensures in
     let over = above-filled _ _ _ _ ok _ reads _ (c25 .unconfirmed .ensures) _ (c20 .before .before .before .before .above .ensures) in
     let is = c15 .before .before .before .before .mark .ensures in
+    let fine = sound _ _ _ _ _ ok is (k .pre .setup .stealth-flag) in
     record {
+      bounded =
+          record {
+            few = fine .few;
+            early = c10 .before .before .before .wide .ensures .1;
+            stealthy = fine .flag;
+            ending = λ t l. ends-low _ _ _ _ _ ok is _ t (rw (is .count-is) at l) (c .before .before .ends .ensures);
+          };
       count-is = is .count-is;
       mined-is = c10 .before .before .before .wide .ensures .0;
       stealth-is = is .stealth-is;
@@ -172,7 +180,6 @@ returns c =
             lacks-tells = c .before .before .before .before .lacks .ensures .each t l;
             fails-tells = fails-seen _ _ _ _ _ ok is _ t l (c .before .before .before .fails .ensures);
             ends-tells = ends-seen _ _ _ _ _ ok is _ t l (c .before .before .ends .ensures) (k .pre .setup .stealth-flag);
-            ends-small = ends-low _ _ _ _ _ ok is _ t l (c .before .before .ends .ensures);
             beat-tells = λ r j off small.
                 beat-seen _ _ _ _ _ ok is _ t l r j off small _
                 (comers-are _ _ _ _ ok _ reads _ _ _ over (c15 .before .before .before .can .ensures) (c15 .before .before .elsewhere .ensures) _ is _ (c15 .before .comers .ensures)) (c .before .beats .ensures);
