@@ -1,15 +1,42 @@
 -- Records with the same parts are the same.
 -- Assumes nothing.
 use Rattle.laws.proofs.Prelude.{ℕ, _+_, _≤_, _<_, _≡_, refl, sym, _∙_, List, ltb, length, getD, ltb-true, ltb-false, arith, split}
-use Rattle.position.proofs.Rules.{Slot, Position}
+use Rattle.position.proofs.Rules.{Slot}
+use Rattle.position.specs.declared.Position.{Position}
 use lib.Seq.{ext-getD}
 
-slot-parts : (x y : Slot) → x .pool ≡ y .pool → x .block ≡ y .block → x .confirmed ≡ y .confirmed → x .«alice_made» ≡ y .«alice_made» → x .«bob_made» ≡ y .«bob_made» → x .«carol_made» ≡ y .«carol_made» → x .alice ≡ y .alice → x .bob ≡ y .bob → x .carol ≡ y .carol → x .contract ≡ y .contract → x .height ≡ y .height
-    → _≡_ {A = Slot} (record { pool = x .pool; block = x .block; confirmed = x .confirmed; «alice_made» = x .«alice_made»; «bob_made» = x .«bob_made»; «carol_made» = x .«carol_made»; alice = x .alice; bob = x .bob; carol = x .carol; contract = x .contract; height = x .height })
-    (record { pool = y .pool; block = y .block; confirmed = y .confirmed; «alice_made» = y .«alice_made»; «bob_made» = y .«bob_made»; «carol_made» = y .«carol_made»; alice = y .alice; bob = y .bob; carol = y .carol; contract = y .contract; height = y .height })
+slot-parts : (x y : Slot) → x .pool ≡ y .pool → x .block ≡ y .block → x .confirmed ≡ y .confirmed → x .«alice_made» ≡ y .«alice_made» → x .«bob_made» ≡ y .«bob_made»
+    → x .«carol_made» ≡ y .«carol_made» → x .alice ≡ y .alice → x .bob ≡ y .bob → x .carol ≡ y .carol → x .contract ≡ y .contract → x .height ≡ y .height
+    → _≡_ {A = Slot} (record {
+      pool = x .pool;
+      block = x .block;
+      confirmed = x .confirmed;
+      «alice_made» = x .«alice_made»;
+      «bob_made» = x .«bob_made»;
+      «carol_made» = x .«carol_made»;
+      alice = x .alice;
+      bob = x .bob;
+      carol = x .carol;
+      contract = x .contract;
+      height = x .height;
+    })
+    (record {
+      pool = y .pool;
+      block = y .block;
+      confirmed = y .confirmed;
+      «alice_made» = y .«alice_made»;
+      «bob_made» = y .«bob_made»;
+      «carol_made» = y .«carol_made»;
+      alice = y .alice;
+      bob = y .bob;
+      carol = y .carol;
+      contract = y .contract;
+      height = y .height;
+    })
 slot-parts x y a b c d e f g h i j k = rw (a, b, c, d, e, f, g, h, i, j, k) refl
 
-pub slots-same : (x y : Slot) → x .pool ≡ y .pool → x .block ≡ y .block → x .confirmed ≡ y .confirmed → x .«alice_made» ≡ y .«alice_made» → x .«bob_made» ≡ y .«bob_made» → x .«carol_made» ≡ y .«carol_made» → x .alice ≡ y .alice → x .bob ≡ y .bob → x .carol ≡ y .carol → x .contract ≡ y .contract → x .height ≡ y .height → x ≡ y
+pub slots-same : (x y : Slot) → x .pool ≡ y .pool → x .block ≡ y .block → x .confirmed ≡ y .confirmed → x .«alice_made» ≡ y .«alice_made» → x .«bob_made» ≡ y .«bob_made»
+    → x .«carol_made» ≡ y .«carol_made» → x .alice ≡ y .alice → x .bob ≡ y .bob → x .carol ≡ y .carol → x .contract ≡ y .contract → x .height ≡ y .height → x ≡ y
 slots-same x y a b c d e f g h i j k = slot-parts x y a b c d e f g h i j k
 
 position-parts : (p q : Position) → p .mined ≡ q .mined → p .keys ≡ q .keys → p .slots ≡ q .slots

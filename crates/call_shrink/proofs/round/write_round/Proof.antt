@@ -63,14 +63,17 @@ mul-past c =
     record { fits = omega (arith, l .loop-test .taken, l .before .before .before .before .before .before .before .pre .1 .0) }
 
 past-requires : tie.Need-past-requires Inv-loop μ-loop
-past-requires c κs = let l = c .before .before .before .before .before .before .before .before .before .before .before .before .before in (l .before .before .before .before .before .before .before .pre .0, omega (arith, l .loop-test .taken))
+past-requires c κs =
+    let l = c .before .before .before .before .before .before .before .before .before .before .before .before .before in
+    (l .before .before .before .before .before .before .before .pre .0, omega (arith, l .loop-test .taken))
 
 add-at : tie.Need-add-at Inv-loop μ-loop
 add-at c =
     let k = c .before .before .before .before .before .before .before .before .before .before .before .before .before in
     let t = k .before .loop-test .taken in
     let i = k .before .before .loop .inv in
-    let g = tried _ _ _ _ _ _ (i .2) _ _ _ _ _ (i .1) (omega (arith, t)) (k .again .ensures) (c .before .before .before .before .before .before .before .before .before .stays .ensures) (c .before .before .before .before .before .before .before .goes .ensures) in
+    let g = tried _ _ _ _ _ _ (i .2) _ _ _ _ _ (i .1) (omega (arith, t)) (k .again .ensures)
+    (c .before .before .before .before .before .before .before .before .before .stays .ensures) (c .before .before .before .before .before .before .before .goes .ensures) in
     let w = turn-end _ _ _ _ (i .0) _ (omega (arith, t)) g _ (c .before .before .before .before .before .write-kept .ensures .0) in
     omega (arith, k .before .before .before .before .before .before .before .before .pre .1 .0, w)
 
@@ -84,7 +87,8 @@ loop-again c =
     let k = c .before .before .before .before .before .before .before .before .before .before .before .before .before in
     let t = k .before .loop-test .taken in
     let i = k .before .before .loop .inv in
-    let g = tried _ _ _ _ _ _ (i .2) _ _ _ _ _ (i .1) (omega (arith, t)) (k .again .ensures) (c .before .before .before .before .before .before .before .before .before .stays .ensures) (c .before .before .before .before .before .before .before .goes .ensures) in
+    let g = tried _ _ _ _ _ _ (i .2) _ _ _ _ _ (i .1) (omega (arith, t)) (k .again .ensures)
+    (c .before .before .before .before .before .before .before .before .before .stays .ensures) (c .before .before .before .before .before .before .before .goes .ensures) in
     let e = bytes-turn _ _ _ _ _ _ _ _ (omega (arith, t)) g (c .past .ensures) in
     let w = c .before .before .before .before .before .write-kept .ensures in (
       writing-more (i .0) _ _ e _ _ (w .0) (w .1),

@@ -6,7 +6,9 @@ use Rattle.call_shrink.proofs.same.same_slot.Tie as tie
 
 returns-11 : tie.Need-returns-11
 returns-11 c =
-    let c8 = c .before .before .before .before .before .before .before .before in let c17 = c8 .before .before .before .before .before .before .before .before .before in let c26 = c17 .before .before .before .before .before .before .before .before .before in
+    let c8 = c .before .before .before .before .before .before .before .before in
+    let c17 = c8 .before .before .before .before .before .before .before .before .before in
+    let c26 = c17 .before .before .before .before .before .before .before .before .before in
     λ e.
     slots-same _ _ (c26 .before .before .before .if1 .left) (c26 .if2 .left) (c17 .before .before .before .before .before .before .if3 .left) (c17 .before .before .before .if4 .left)
     (c17 .if5 .left) (c8 .before .before .before .before .before .before .if6 .left) (c8 .before .before .before .if7 .left) (c8 .if8 .left)
