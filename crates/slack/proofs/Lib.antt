@@ -1,4 +1,5 @@
 pub mod Onward
+pub mod Ahead
 pub mod Heights
 pub mod Locks
 pub mod Fixed
