@@ -1,11 +1,12 @@
--- What the laws of slack ask for between a position p, as X counts on it, and one that a step without X leads to, q, as X counts on it then.
+-- What the laws of slack ask for between a position p, as X counts on it, and one that a step without X leads to, q, as X counts on it then;
+-- and what the block in between can do.
 -- Assumes nothing.
 use Rattle.laws.proofs.Prelude.{ℕ, _+_, _≤_, _<_, _≡_, true, false, List, _⊎_, eqb, bit}
-use Rattle.position.proofs.Rules.{count, parent, opening, stealth, destinations, conflict}
+use Rattle.position.proofs.Rules.{count, parent, opening, stealth, destinations, isContract, conflict}
 use Rattle.position.specs.declared.Position.{Position}
 use Rattle.position.proofs.Rules.{inPool, poolTo, blockOf, isConfirmed, confirmedTo, shared, holds, lockHeightIn, deadlineIn, blockLimit}
 use Rattle.attainable.specs.Attainable.{gone, secretsOf, waitsFor, attainable, attainableElsewhere}
-use Rattle.slack.specs.Beaten.{fixed}
+use Rattle.slack.specs.Beaten.{fixed, canComeElsewhere, stands, beats}
 use Rattle.slack.proofs.Onward.{Within, Fewer, soonestAbove, secretsShown}
 
 -- what is confirmed, or settled in the block being filled, stands alone among its rivals and has its parent so
@@ -50,3 +51,18 @@ pub record Ahead (s u : List ℕ) (p q : Position) (x : ℕ) : Type 0 where
   -- what can come then could before, whatever more X sends
   pub fewer : (a b : ℕ) → Within s a b → Within s (attainable s u q x (bit a)) (attainable s u p x (bit b))
   pub fewer-elsewhere : (a b : ℕ) → Within s a b → Within s (attainableElsewhere s u q x (bit a)) (attainableElsewhere s u p x (bit b))
+
+-- what a block can do to what X counts on
+pub record Forth (s u : List ℕ) (p q : Position) (x : ℕ) : Type 0 where
+  pub after : Linked s q
+  pub stays : (t : ℕ) → t < count s → isConfirmed p t ≡ true → (blockOf q t ≡ blockOf p t) × (confirmedTo q t ≡ confirmedTo p t)
+  -- what is confirmed in q and was not in p was in the way, up to a height from p's on, of each rival that stood, and of itself if it pays another than X
+  pub in-the-way : (know b off t r : ℕ) → t < count s → r < count s → p .mined ≤ off → stands s u p x know off t ≡ true → conflict s r t ≡ true
+      → eqb r t ≡ false → isConfirmed p r ≡ false → isConfirmed q r ≡ true → beats s u p x b off t r ≡ true
+  pub pays-other : (know b off t : ℕ) → t < count s → isContract s t ≡ false → stands s u p x know off t ≡ true → isConfirmed q t ≡ true
+      → eqb (confirmedTo q t) x ≡ false → beats s u p x b off t t ≡ true
+  -- what can come for X only pays X
+  pub pays-party : (t r : ℕ) → t < count s → r < count s → isConfirmed p r ≡ false → isConfirmed q r ≡ true
+      → bit (canComeElsewhere s u p x 0 t) r ≡ false → eqb (confirmedTo q r) x ≡ true
+  -- the secrets of what is confirmed in q and was not in p are shown
+  pub shown : (t : ℕ) → t < count s → isConfirmed p t ≡ false → isConfirmed q t ≡ true → Fewer (secretsOf s t) (secretsShown s q)

@@ -41,7 +41,7 @@ module _ (s u : List ℕ) (p q : Position) (x most : ℕ) (steady : Steady s u p
         fresh = alive .unpaid know b more t l h unpaid;
         line = λ k m up n.
             let before : isConfirmed p k ≡ false = fails-by (isConfirmed p k) (λ y. clash (alive .stays k m y) n) in
-            unbeaten-carried k m (alive .line know b more t k l m h up n) (f .line k m up before);
+            unbeaten-carried k m (alive .line know b more t k l m late h up n) (f .line k m up before);
       }
 
 module _ (s u : List ℕ) (ok : Checked s) (p q : Position) (x most : ℕ) (steady : Steady s u p q x most) (alive : Alive s u p q x)

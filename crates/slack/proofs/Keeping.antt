@@ -8,7 +8,8 @@ use Rattle.slots.proofs.Ancestors.{here, above-le}
 use Rattle.attainable.specs.Attainable.{gone}
 use Rattle.slack.specs.Beaten.{fixed, canComeElsewhere}
 use Rattle.slack.specs.Kept.{knownAt, comesForParty, goodChild, elsewhereFree, goodRounds, good, paid, keptTo}
-use Rattle.slack.proofs.Onward.{Onward, Steady, Forth}
+use Rattle.slack.proofs.Onward.{Steady}
+use Rattle.slack.proofs.Ahead.{Ahead, Forth}
 use Rattle.slack.proofs.Fixed.{fixed-from, fixed-stays}
 use Rattle.slack.proofs.NextPosition.{steady}
 use Rattle.slack.proofs.Confirming.{stands-new, forth}
@@ -82,7 +83,7 @@ module _ (s u : List ℕ) (ok : Checked s) (p q : Position) (x most : ℕ) (stea
         let apart : eqb r t ≡ false = rw e at (w .6) in
         let new = fresh r (w .3) c apart in
         answer-kept r (w .3) new (w .5)
-        (g .answers r (w .3) (forth .in-the-way (knownAt s p x t) 0 off t r l (w .3) (g .stood) c apart new (w .5))))
+        (g .answers r (w .3) (forth .in-the-way (knownAt s p x t) 0 off t r l (w .3) late (g .stood) c apart new (w .5))))
         (λ c.
         let low : h < count s = omega (arith, above-le (w .2), l) in
         absurd (eqb-false r h (w .6) (forth .after .alone h r low (w .3) c (w .5) (w .4))))
@@ -119,7 +120,7 @@ module _ (s u : List ℕ) (ok : Checked s) (p q : Position) (x most : ℕ) (stea
       (λ y. kept-paid s u q x off (still-paid y))
       (λ k. round-kept unpaid (count s) (omega arith) (k .0) (k .1) (fixed-stays s ok p q (still-confirmed s u p q x forth) (k .0) (k .1) (k .2)) (k .3)))
 
-pub keeping : (s u : List ℕ) → Fit s u → (p q : Position) (x : ℕ) → Onward s u p q x → (off : ℕ) → p .mined ≤ off → off ≤ 20000
+pub keeping : (s u : List ℕ) → Fit s u → (p q : Position) (x : ℕ) → Ahead s u p q x → (off : ℕ) → p .mined ≤ off → off ≤ 20000
     → keptTo s u p x off ≡ true → keptTo s u q x off ≡ true
 keeping s u fit p q x o off late small h =
-    kept-by s u (fit .checked) p q x 20000 (steady s u fit p q x o) (forth s u p q x o) off small late (omega arith) h
+    kept-by s u (fit .checked) p q x 20000 (steady s u fit p q x o) (forth s u fit p q x o) off small late (omega arith) h

@@ -10,7 +10,8 @@ use Rattle.slots.proofs.Parents.{parent-lower, parent-below, parent-has}
 use Rattle.attainable.specs.Attainable.{secretsOf}
 use Rattle.slack.specs.Beaten.{above, fixed, last}
 use Rattle.slack.specs.Kept.{knownAt, goodChild, goodRounds, good, paid, keptTo}
-use Rattle.slack.proofs.Onward.{Chained, Fewer, Steady, Forth}
+use Rattle.slack.proofs.Onward.{Fewer, Steady}
+use Rattle.slack.proofs.Ahead.{Linked, Forth}
 use Rattle.slack.proofs.Fixed.{open-parts}
 use Rattle.slack.proofs.AboveSets.{above-parts, Knows, held, shown, told, knows-parts, knows-from}
 use Rattle.slack.proofs.Parts.{child-found, Unbeaten, free-parts, Elsewhere, kept-good}
@@ -19,14 +20,14 @@ use Rattle.slack.proofs.Living.{payee-pays, still-confirmed, alive}
 use Rattle.slack.proofs.Carried.{last-late, unbeaten-carried}
 
 -- with its parent confirmed, or none, all above t but t is confirmed
-module _ (s : List ℕ) (ok : Checked s) (q : Position) (chained : Chained s q) (t : ℕ) (l : t < count s) (f : fixed s q t ≡ true) where
+module _ (s : List ℕ) (ok : Checked s) (q : Position) (linked : Linked s q) (t : ℕ) (l : t < count s) (f : fixed s q t ≡ true) where
   pub above-fixed : (h : ℕ) → Above s h t → (h ≡ t) ⊎ (isConfirmed q h ≡ true)
   unfolding fixed
   above-fixed h here = inl refl
   above-fixed h (up a r) =
       let o = parent-has ok t l a in
       inr
-      (holds-above (λ k. isConfirmed q k ≡ true) (λ k i b c. chained .parents k i c (parent-has ok k i b)) r (parent-below ok t l o)
+      (holds-above (λ k. isConfirmed q k ≡ true) (λ k i b c. linked .parents k i c (parent-has ok k i b)) r (parent-below ok t l o)
       (parent-member s (isConfirmed q) t f o))
 
   -- so what X knows at t is known at each other transaction
@@ -64,7 +65,7 @@ module _ (s u : List ℕ) (ok : Checked s) (p q : Position) (x most : ℕ) (stea
       let before : isConfirmed p h ≡ false = fails-by (isConfirmed p h) (λ y. clash (still-confirmed s u p q x forth h low y) n) in
       let late′ : p .mined ≤ until = omega (arith, late, long) in
       unbeaten-carried s u p q x most steady know (knownAt s q x h) 0 b off until (knows h) (λ k i y. clash y (no-bit k)) long late′ h low
-      (live .line know b until w h (e .low) low (e .freed) on n)
+      (live .line know b until w h (e .low) low late′ (e .freed) on n)
       (free-parts s u p x know b until w (e .freed) .line h low on before)
 
   good-up : (n h : ℕ) → Above s h w → isConfirmed q h ≡ false → (isContract s h ≡ false) ⊎ (goodChild s (goodRounds s u q x off n) h ≡ true)

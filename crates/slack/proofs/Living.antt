@@ -1,13 +1,14 @@
 -- What X counts on is not dead: in the same position, and in one that a step without X leads to.
 -- Assumes nothing.
-use Rattle.laws.proofs.Prelude.{ℕ, _<_, _≡_, true, false, _&&_, List, eqb, eqb-true, eqb-false, arith, split, either, clash, and-parts, fails-by, any-found, bit, no-bit}
+use Rattle.laws.proofs.Prelude.{ℕ, _≤_, _<_, _≡_, true, false, _&&_, List, eqb, eqb-true, eqb-false, arith, split, either, clash, and-parts, fails-by, any-found, bit, no-bit}
 use Rattle.position.proofs.Rules.{count, parent, opening, payees, place, isPayee, isContract, isParty, conflict, isSelfOrAncestor, isConfirmed, confirmedTo}
 use Rattle.position.specs.declared.Position.{Position}
 use Rattle.slots.proofs.Conflicts.{conflict-parts}
 use Rattle.slots.proofs.Ancestors.{Above, here, up, above-le, above-all, ancestor-above, above-ancestor}
 use Rattle.attainable.specs.Attainable.{gone}
 use Rattle.slack.specs.Kept.{paid}
-use Rattle.slack.proofs.Onward.{Alive, Forth}
+use Rattle.slack.proofs.Onward.{Alive}
+use Rattle.slack.proofs.Ahead.{Forth}
 use Rattle.slack.proofs.Fixed.{same-block}
 use Rattle.slack.proofs.Parts.{stands-live, Free, free-parts}
 use Rattle.slack.proofs.Dead.{gone-confirmed, gone-met, gone-find}
@@ -18,7 +19,7 @@ alive-same s u p x =
     record {
       stays = λ t l h. h;
       child = λ know off c l o h g. stands-live s u p x know off c h;
-      line = λ know b off t w l m f a n. stands-live s u p x know off w (free-parts s u p x know b off t f .line w m a n .stood);
+      line = λ know b off t w l m late f a n. stands-live s u p x know off w (free-parts s u p x know b off t f .line w m a n .stood);
       unpaid = λ know b off t l f h. free-parts s u p x know b off t f .fresh;
     }
 
@@ -59,9 +60,9 @@ module _ (s u : List ℕ) (p q : Position) (x : ℕ) (f : Forth s u p q x) where
       let w = gone-find s q c y z in
       none-above c (w .0) (w .1) l o g (w .2) (w .3) (w .4) (w .5) (w .6)))
 
-  line-lives : (know b off t w : ℕ) → t < count s → w < count s → Free s u p x know b off t → isSelfOrAncestor s w t ≡ true
+  line-lives : (know b off t w : ℕ) → t < count s → w < count s → p .mined ≤ off → Free s u p x know b off t → isSelfOrAncestor s w t ≡ true
       → isConfirmed q w ≡ false → gone s q w ≡ false
-  line-lives know b off t w l m g a n =
+  line-lives know b off t w l m late g a n =
       fails-by (gone s q w)
       (λ y.
       let z = gone-find s q w y n in
@@ -75,7 +76,7 @@ module _ (s u : List ℕ) (p q : Position) (x : ℕ) (f : Forth s u p q x) where
       let free = g .line h low (above-ancestor s on) fresh in
       let new : isConfirmed p r ≡ false =
       fails-by (isConfirmed p r) (λ v. clash (gone-met s p h h r here (z .3) (z .4) v (z .6)) (stands-live s u p x know off h (free .stood))) in
-      clash (f .in-the-way know b off h r low (z .3) (free .stood) (z .4) (z .6) new (z .5)) (free .alone r (z .3)))
+      clash (f .in-the-way know b off h r low (z .3) late (free .stood) (z .4) (z .6) new (z .5)) (free .alone r (z .3)))
 
   line-unpaid : (know b off t : ℕ) → t < count s → Free s u p x know b off t → paid s q x ≡ false → isConfirmed q t ≡ false
   line-unpaid know b off t l g n =
@@ -91,6 +92,6 @@ module _ (s u : List ℕ) (p q : Position) (x : ℕ) (f : Forth s u p q x) where
       record {
         stays = still-confirmed;
         child = λ know off c l o h g. child-lives c l o g;
-        line = λ know b off t w l m g a n. line-lives know b off t w l m (free-parts s u p x know b off t g) a n;
+        line = λ know b off t w l m late g a n. line-lives know b off t w l m late (free-parts s u p x know b off t g) a n;
         unpaid = λ know b off t l g n. line-unpaid know b off t l (free-parts s u p x know b off t g) n;
       }

@@ -14,7 +14,8 @@ use Rattle.soonest.specs.Soonest.{lockAt, sinceLocked}
 use Rattle.soonest.proofs.Locks.{Form, fixed, hangs, form, rival-lock, lock-opening, lock-reached}
 use Rattle.soonest.proofs.SoonestParents.{opening-none, parent-there}
 use Rattle.slack.specs.Beaten.{lockBeside}
-use Rattle.slack.proofs.Onward.{soonestAbove, Chained}
+use Rattle.slack.proofs.Onward.{soonestAbove}
+use Rattle.slack.proofs.Ahead.{Linked}
 use Rattle.slack.proofs.Heights.{Shift}
 
 -- the parent in a later block
@@ -102,10 +103,10 @@ small-by s d e t h (since a b c o) there =
     (λ y. clash y o)
     (λ y. rw (ne-eqb (lockType s t) 0 (λ z. omega arith), ne-eqb (lockType s t) 1 (λ z. omega arith), ne-eqb e 0 (λ z. omega arith)) (omega (arith, m)))
 
-pub own-small : (s u : List ℕ) (ok : Checked s) → SetupChecked s u → (p : Position) → Chained s p → (t : ℕ) → t < count s
-    → (opening s t ≡ true) ⊎ (0 < blockOf p (parent s t)) → lockBeside s u p t t ≤ 265000
+pub own-small : (s u : List ℕ) (ok : Checked s) → SetupChecked s u → (p : Position) → Linked s p → (t : ℕ) → t < count s
+    → (opening s t ≡ true) ⊎ (0 < blockOf p (parent s t)) → lockBeside s u p t t ≤ 265001
 unfolding lockBeside
-own-small s u ok fit p chain t l there =
+own-small s u ok fit p linked t l there =
     let d = perDay u in
     split (opening s t)
     (λ o.
@@ -116,5 +117,5 @@ own-small s u ok fit p chain t l there =
     (λ y. clash y o)
     (λ y.
     let w = small-by s d (blockOf p (parent s t)) t (fit .blocks-few) (ok .entries t l .lock-pair) (inr y) in
-    let m = chain .numbered (parent s t) (parent-below ok t l o) in
-    rw (parent-there ok d (blockOf p) (p .mined) t l o y) (omega (arith, w, m, chain .limit))))
+    let m = linked .numbered (parent s t) (parent-below ok t l o) in
+    rw (parent-there ok d (blockOf p) (p .mined) t l o y) (omega (arith, w, m, linked .limit))))

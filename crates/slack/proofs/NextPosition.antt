@@ -13,7 +13,8 @@ use Rattle.soonest.proofs.Deadlines.{deadline-le}
 use Rattle.attainable.specs.Attainable.{gone, waitsFor, attainable}
 use Rattle.slack.specs.Beaten.{destinationOf, fixed, runs, lockBeside, pooled, signs, waitsBefore, sooner}
 use Rattle.slack.specs.Kept.{knownAt}
-use Rattle.slack.proofs.Onward.{Fewer, Onward, Steady}
+use Rattle.slack.proofs.Onward.{Fewer, Steady}
+use Rattle.slack.proofs.Ahead.{Ahead}
 use Rattle.slack.proofs.Fixed.{open-parts, same-block, fixed-stays}
 use Rattle.slack.proofs.Locks.{lock-met, not-since, own-small}
 use Rattle.slack.proofs.AboveSets.{above-parts, above-from, Knows, held, shown, told, knows-parts, knows-from}
@@ -36,7 +37,7 @@ shared-past : (p : Position) (t d : ℕ) → destinations ≤ d → shared p t d
 unfolding shared sharedFor
 shared-past p t d h = rw (ne-eqb d 0 (λ e. omega arith), ne-eqb d 1 (λ e. omega arith), ne-eqb d 2 (λ e. omega arith))
 
-module _ (s u : List ℕ) (fit : Fit s u) (p q : Position) (x : ℕ) (o : Onward s u p q x) where
+module _ (s u : List ℕ) (fit : Fit s u) (p q : Position) (x : ℕ) (o : Ahead s u p q x) where
   abbrev ok : Checked s
   ok = fit .checked
 
@@ -49,10 +50,7 @@ module _ (s u : List ℕ) (fit : Fit s u) (p q : Position) (x : ℕ) (o : Onward
       let w = open-parts s p t a in
       let m = parent-below ok t l (w .0) in
       let there = rw (w .0) at b in
-      rw a
-      (either (o .mined-from (parent s t) m there)
-      (λ y. clash y (w .1))
-      (λ y. o .block-comes 0 (parent s t) m (y .0)))
+      rw a (o .came (parent s t) m (w .1) there .comes 0)
 
   runs-falls : (t : ℕ) → t < count s → fixed s p t ≡ false → runs s u q x t ≡ true → runs s u p x t ≡ true
   unfolding runs
@@ -111,7 +109,7 @@ module _ (s u : List ℕ) (fit : Fit s u) (p q : Position) (x : ℕ) (o : Onward
       let d = deadline-le s (perDay u) (blockOf p) t r lr c (leb-false his mine y) in
       absurd (omega (arith, d, m, o .waiting .early t lt h)))
 
-  met-sooner : (more t r : ℕ) → t < count s → r < count s → conflict s r t ≡ true → p .mined ≤ more → lockHeightIn s u p r ≤ p .mined
+  pub met-sooner : (more t r : ℕ) → t < count s → r < count s → conflict s r t ≡ true → p .mined ≤ more → lockHeightIn s u p r ≤ p .mined
       → sooner s u p x more t r ≡ true
   unfolding sooner
   met-sooner more t r lt lr c m met =
@@ -159,7 +157,7 @@ module _ (s u : List ℕ) (fit : Fit s u) (p q : Position) (x : ℕ) (o : Onward
   known-more : (t : ℕ) → t < count s → Fewer (knownAt s p x t) (knownAt s q x t)
   known-more t l i m h = knows-from s q x t i (knows t i l m (knows-parts s p x t i h))
 
-  -- below never by far: a lock of up to 255 days of 1,000 blocks, after one of 10,000 blocks
+  -- below never by far: a lock of up to 255 days of 1,000 blocks, after one of 10,001 blocks
   bounded : (off t : ℕ) → t < count s → off ≤ 20000 → fixed s q t ≡ true → greater off (lockBeside s u q t t) + stealth u ≤ never
   bounded off t l h f =
       let own = lockBeside s u q t t in
