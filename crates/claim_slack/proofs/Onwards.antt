@@ -29,32 +29,26 @@ use Rattle.claim_attainable.specs.Words.{stepOf}
 use Rattle.claim_attainable.proofs.Alive.{has-block}
 use Rattle.claim_attainable.proofs.Bounded.{right-small}
 use Rattle.slack.specs.Beaten.{fixed}
-use Rattle.slack.proofs.Onward.{soonestAbove, secretsShown, Chained, Waiting, Onward}
+use Rattle.slack.proofs.Onward.{soonestAbove, secretsShown}
+use Rattle.slack.proofs.Ahead.{Linked, Pending, Came, Ahead}
 use Rattle.claim_slack.proofs.Secrets.{secrets-stay, mined-secrets}
 use Rattle.claim_slack.proofs.Pools.{PoolIn, Pooled, pool-in, mine-in}
 use Rattle.claim_slack.proofs.Fewer.{fewer, fewer-elsewhere, block-comes, block-elsewhere}
 
 module _ (s u : List ℕ) (p : Position) where
-  chained : Sound s u p → Chained s p
+  linked : Sound s u p → Linked s p
   unfolding isConfirmed
-  chained g =
+  linked g =
       record {
         limit = g .settled .limit;
-        numbered = g .settled .numbered;
+        numbered = λ t l. omega (arith, g .settled .numbered t l);
         parents = λ t l c o. lt-ltb 0 (blockOf p (parent s t)) (g .settled .parents t l (ltb-true 0 (blockOf p t) c) o .0);
         alone = λ t k l m a b c. g .settled .alone t k l m (ltb-true 0 (blockOf p t) a) (ltb-true 0 (blockOf p k) b) c;
       }
 
-  waiting : Sound s u p → Early s u p → Pooled s u p → Waiting s u p
+  pending : Sound s u p → Early s u p → Pending s u p
   unfolding lockHeightIn
-  waiting g early in-pool =
-      record {
-        alone = g .pool .alone;
-        locks = g .pool .locks;
-        early = early;
-        pooled = in-pool;
-        block-to = λ t l i. right-small s t (blockTo p t) (g .block-to t l i);
-      }
+  pending g early = record { alone = g .pool .alone; locks = g .pool .locks; early = early }
 
   moved-none : Moved s u p p
   moved-none = keys-same s u p p (λ t. slot-same s u p p t refl) refl
@@ -123,9 +117,6 @@ module _ (s u : List ℕ) (ok : Checked s) (p : Position) (g : Sound s u p) (q :
       let w = new-by passage t n c in
       rw (w .2, mine-blocks s p (wide s u ok p g) (g .beyond), w .0)
 
-  mined-from : (t : ℕ) → isConfirmed q t ≡ true → (isConfirmed p t ≡ true) ⊎ ((inBlock p t ≡ true) × (blockTo p t ≡ confirmedTo q t))
-  mined-from t c = split (isConfirmed p t) inl (λ n. let w = new-by passage t n c in inr (w .0, w .1))
-
   shown : (t : ℕ) → t < count s → isConfirmed p t ≡ false → isConfirmed q t ≡ true → (i : ℕ) → bit (secretsOf s t) i ≡ true → bit (secretsShown s q) i ≡ true
   shown t l n c i h =
       let w = new-by passage t n c in
@@ -186,22 +177,35 @@ module _ (s u : List ℕ) (h : sheetRefusal s ≡ 0) (k : setupRefusal s u ≡ 0
   passes b (turned-down n m e) =
       rw e (moved-none s u p, quiet (record { mined = refl; heights = λ t. refl; pool = λ t i. i }) (λ t i. (i, refl)))
 
+  -- an entry of the block comes for its destination
+  block-came : Pooled s u p → (x : ℕ) → isParty s x ≡ true → (t : ℕ) → t < count s → inBlock p t ≡ true → Came s u p x t (blockTo p t)
+  unfolding inBlock blockTo blockOf
+  block-came in-pool x who t l i =
+      record {
+        small = right-small s t (blockTo p t) (g .block-to t l i);
+        in-time = inl (stands-waits p t (blockTo p t) (filled i refl) (λ c. omega (arith, c, g .block .free t t l l i (conflict-self s t))));
+        pooled = λ z. in-pool z t l i;
+        comes = λ a. block-comes s u h k p g x who a t l i;
+        elsewhere = λ a n. block-elsewhere s u h k p g x who a t l i n;
+      }
+
   -- a step of any four bytes, taken or refused, that is not X's
-  pub onward : Early s u p → Pooled s u p → (x : ℕ) → isParty s x ≡ true → (b : FourBytes) → stepOf x b ≡ false → Onward s u p (step s u p b .position) x
+  pub onward : Early s u p → Pooled s u p → (x : ℕ) → isParty s x ≡ true → (b : FourBytes) → stepOf x b ≡ false → Ahead s u p (step s u p b .position) x
   onward early in-pool x who b i =
       let q = step s u p b .position in
       let on = sound-step s u h k p b g in
       let later = later-step s u h k p b g in
       let w = passes b (step-case s u p b) in
       record {
-        before = chained s u p g;
-        after = chained s u q on;
-        waiting = waiting s u p g early in-pool;
-        time = later .time;
+        before = linked s u p g;
+        after = linked s u q on;
+        waiting = pending s u p g early;
         stays = λ t l c.
             let y = has-block p t c in
             (stays-block s u ok p g q on later (w .0) (w .1) t l y, stays-to s u ok p g q on later (w .0) (w .1) t l y);
-        mined-from = λ t l c. mined-from s u ok p g q on later (w .0) (w .1) t c;
+        came = λ t l n c.
+            let y = new-by s u ok p g q on later (w .0) (w .1) (w .1) t n c in
+            rw (y .1) at (block-came in-pool x who t l (y .0));
         rises = parent-rises ok (perDay u) (blockOf p) (p .mined) (blockOf q) (q .mined) later (on .settled);
         same = same s u ok p g q on later (w .0) (w .1);
         pool-stays = λ t l y n. pool-stays-by s u ok p g q on later (w .0) (w .1) (w .1) t y n;
@@ -212,6 +216,4 @@ module _ (s u : List ℕ) (h : sheetRefusal s ≡ 0) (k : setupRefusal s u ≡ 0
         shown = λ t l n c j m y. shown s u ok p g q on later (w .0) (w .1) t l n c j y;
         fewer = λ a c y. fewer s u h k p g x who b i a c y;
         fewer-elsewhere = λ a c y. fewer-elsewhere s u h k p g x who b i a c y;
-        block-comes = λ a t l y. block-comes s u h k p g x who a t l y;
-        block-elsewhere = λ a t l y n. block-elsewhere s u h k p g x who a t l y n;
       }

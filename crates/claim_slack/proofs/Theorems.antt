@@ -6,7 +6,7 @@ use Rattle.position.specs.declared.Position.{Position}
 use Rattle.sheet.proofs.Theorems.{sheet-checked, fit}
 use Rattle.claim_ledger.proofs.Sound.{Sound}
 use Rattle.claim_ledger.proofs.SoundSteps.{sound-start, sound-play}
-use Rattle.claim_outage.proofs.Play.{later-play}
+use Rattle.claim_outage.proofs.Play.{later-step, later-play}
 use Rattle.claim_outage.proofs.Pool.{Early, early-start, early-play}
 use Rattle.claim_attainable.specs.Words.{stepOf, without}
 use Rattle.slack.specs.Kept.{keptTo, kept, longest, slack}
@@ -41,7 +41,7 @@ module _ (s u : List ℕ) (h : sheetRefusal s ≡ 0) (k : setupRefusal s u ≡ 0
   kept-step p w b i off l m y =
       let q = step s u p b .position in
       let on = onward s u h k p (w .sound) (w .early) (w .pooled) x who b i in
-      let late = on .time in
+      let late = later-step s u h k p b (w .sound) .time in
       keeping s u (fit s u h k) p q x on off (omega (arith, late, l)) m y
 
   -- a list without X: the height stays, and no step mines beyond it
