@@ -5,20 +5,6 @@ use Rattle.laws.proofs.Prelude.{sym, _∙_, needs}
 use Rattle.call_timelocks.proofs.field_refusal.Statement.{statement}
 use Rattle.call_timelocks.proofs.field_refusal.Tie as tie
 
-returns : tie.Need-returns
-returns c = by-sheet _ _ _ _ (c .before .sheet-refusal .ensures) (c .if1 .taken)
-
-returns-2 : tie.Need-returns-2
-returns-2 c = by-setup _ _ _ _ _ (c .before .before .before .sheet-refusal .ensures) (c .before .before .if1 .left) (c .before .setup-refusal .ensures) (c .if2 .taken)
-
-per-day-requires : tie.Need-per-day-requires
-per-day-requires c κs =
-    fit _ _ (sym (c .before .before .before .sheet-refusal .ensures) ∙ c .before .before .if1 .left) (sym (c .before .setup-refusal .ensures) ∙ c .if2 .left) .setup .size
-
-limit-refusal-requires : tie.Need-limit-refusal-requires
-limit-refusal-requires c κs =
-    fit _ _ (sym (c .before .before .before .before .sheet-refusal .ensures) ∙ c .before .before .before .if1 .left) (sym (c .before .before .setup-refusal .ensures) ∙ c .before .if2 .left) .checked .sized
-
 returns-3 : tie.Need-returns-3
 returns-3 c =
     let c3 = c .before .before .before in let c4 = c3 .before in let c5 = c4 .before in
@@ -29,9 +15,9 @@ field-refusal-spec =
     tie.close
     (tie.spec
     (λ c κs. search needs)
-    returns
+    (λ c. by-sheet _ _ _ _ (c .before .sheet-refusal .ensures) (c .if1 .taken))
     (λ c κs. search needs)
-    returns-2
-    per-day-requires
-    limit-refusal-requires
+    (λ c. by-setup _ _ _ _ _ (c .before .before .before .sheet-refusal .ensures) (c .before .before .if1 .left) (c .before .setup-refusal .ensures) (c .if2 .taken))
+    (λ c κs. fit _ _ (sym (c .before .before .before .sheet-refusal .ensures) ∙ c .before .before .if1 .left) (sym (c .before .setup-refusal .ensures) ∙ c .if2 .left) .setup .size)
+    (λ c κs. fit _ _ (sym (c .before .before .before .before .sheet-refusal .ensures) ∙ c .before .before .before .if1 .left) (sym (c .before .before .setup-refusal .ensures) ∙ c .before .if2 .left) .checked .sized)
     returns-3)

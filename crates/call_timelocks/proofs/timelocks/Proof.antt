@@ -22,9 +22,6 @@ returns-2 c =
     (sym (c .before .before .before .field-refusal .ensures) ∙ c .before .before .if1 .left)
     (omega (arith, c .if2 .taken, c .before .count .ensures .is))) (refl, refl)
 
-per-day-requires : tie.Need-per-day-requires
-per-day-requires c κs = field-fit _ _ _ (sym (c .before .before .before .field-refusal .ensures) ∙ c .before .before .if1 .left) .setup .size
-
 write-fields-requires : tie.Need-write-fields-requires
 write-fields-requires c κs =
     let z = sym (c .before .before .before .before .before .field-refusal .ensures) ∙ c .before .before .before .before .if1 .left in (
@@ -51,7 +48,7 @@ timelocks-spec =
     count-requires
     (λ c. search needs)
     returns-2
-    per-day-requires
+    (λ c κs. field-fit _ _ _ (sym (c .before .before .before .field-refusal .ensures) ∙ c .before .before .if1 .left) .setup .size)
     write-fields-requires
     (λ c. search needs)
     returns-3)

@@ -28,12 +28,6 @@ lock-time-requires c κs =
     let l : c .before .loop .t < count (k .args .sheet .now) = omega (arith, c .loop-test .taken, c .before .before .count .ensures .is) in
     (k .pre .0, (l, all-at _ (absoluteRight (k .args .sheet .now) (k .args .per-day) (k .args .base)) (k .pre .1 .0) _ l))
 
-sub-write-pair : tie.Need-sub-write-pair Inv-loop μ-loop
-sub-write-pair c = omega (arith, c .before .before .before .loop .inv .wrote)
-
-part-write-pair-start : tie.Need-part-write-pair-start Inv-loop μ-loop
-part-write-pair-start c = omega (arith, c .before .before .before .loop .inv .wrote)
-
 write-pair-requires : tie.Need-write-pair-requires Inv-loop μ-loop
 write-pair-requires c κs =
     let k = c .before .before .before .before .before .before .before .before in
@@ -55,9 +49,6 @@ loop-again c =
     let wrote = pair-written (k .args .sheet .now) (k .args .per-day) (k .args .base) (i .t) _ _ (c5 .lock-time .ensures) (c4 .sequence .ensures) in
     turn-more _ _ _ _ _ _ _ 8 (i .inv) (c6 .loop-test .taken) (sym (field-length (k .args .sheet .now) (k .args .per-day) (k .args .base) (i .t))) (rw wrote at (c .before .before .write-pair .ensures))
 
-same-length : tie.Need-same-length Inv-loop μ-loop
-same-length c = c .before .loop .inv .wrote .long
-
 returns : tie.Need-returns Inv-loop μ-loop
 unfolding timelockBytes
 returns c = rw (← (c .before .before .count .ensures .is)) (turns-done _ _ _ _ _ _ (c .before .loop .inv) (c .loop-test .left) .is)
@@ -72,12 +63,12 @@ write-fields-spec =
     loop-holds
     lock-time-requires
     (λ c κs. search needs)
-    sub-write-pair
-    part-write-pair-start
+    (λ c. omega (arith, c .before .before .before .loop .inv .wrote))
+    (λ c. omega (arith, c .before .before .before .loop .inv .wrote))
     (λ c. search needs)
     write-pair-requires
     add-at
     (λ c. search needs) (λ c. search needs)
     loop-again
-    same-length
+    (λ c. c .before .loop .inv .wrote .long)
     returns)
