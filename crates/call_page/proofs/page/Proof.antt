@@ -8,9 +8,6 @@ reported : (c : tie.After-report)
     → let a = c .before .before .before .before .before .before .args in Reported (a .sheet .now) (a .setup .now) (a .journal .now) (c .report .last .1 .1 .1 .0) (c .report .result)
 reported c = record { rows = _; long = refl; is = c .report .ensures .0; buffer = c .report .ensures .1 }
 
-count-requires : tie.Need-count-requires
-count-requires c κs = let h = page-fit (reported (c .before .before)) (c .if1 .left) .checked .sized in omega (arith, h .head, h .size)
-
 write-page-requires : tie.Need-write-page-requires
 write-page-requires c κs =
     let k = c .before .before .before in
@@ -29,7 +26,7 @@ page-spec =
     (tie.spec
     (λ c. search needs) (λ c κs. search needs)
     (λ c. page-refused (reported (c .before .before)) _ (c .if1 .taken))
-    count-requires
+    (λ c κs. let h = page-fit (reported (c .before .before)) (c .if1 .left) .checked .sized in omega (arith, h .head, h .size))
     (λ c. search needs) (λ c. search needs)
     (λ c. page-short (reported (c .before .before .before .before)) (c .before .before .if1 .left) (c .before .count .ensures .is) _ (omega (arith, c .if2 .taken)))
     (λ c. search needs)

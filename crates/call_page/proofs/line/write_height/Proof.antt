@@ -5,26 +5,14 @@ use Rattle.call_page.proofs.Names.{is-never, is-height}
 use Rattle.call_page.proofs.line.write_height.Statement.{statement}
 use Rattle.call_page.proofs.line.write_height.Tie as tie
 
-write-text-requires : tie.Need-write-text-requires
-write-text-requires c κs = room-as (same-column refl (is-never _ (c .before .before .if1 .taken))) (c .before .before .before .before .pre)
-
-returns : tie.Need-returns
-returns c = written-as (same-column refl (is-never _ (c .before .before .before .before .before .if1 .taken))) _ (c .before .before .write-text .ensures)
-
-write-number-requires : tie.Need-write-number-requires
-write-number-requires c κs = room-as (same-column refl (is-height _ (c .before .if1 .left))) (c .before .before .before .pre)
-
-returns-2 : tie.Need-returns-2
-returns-2 c = written-as (same-column refl (is-height _ (c .before .before .before .before .if1 .left))) _ (c .before .before .write-number .ensures)
-
 pub write-height-spec : {M : Type 1} → statement M
 write-height-spec =
     tie.close
     (tie.spec
     (λ c. search needs)
-    write-text-requires
+    (λ c κs. room-as (same-column refl (is-never _ (c .before .before .if1 .taken))) (c .before .before .before .before .pre))
     (λ c. search needs)
-    returns
-    write-number-requires
+    (λ c. written-as (same-column refl (is-never _ (c .before .before .before .before .before .if1 .taken))) _ (c .before .before .write-text .ensures))
+    (λ c κs. room-as (same-column refl (is-height _ (c .before .if1 .left))) (c .before .before .before .pre))
     (λ c. search needs)
-    returns-2)
+    (λ c. written-as (same-column refl (is-height _ (c .before .before .before .before .if1 .left))) _ (c .before .before .write-number .ensures)))

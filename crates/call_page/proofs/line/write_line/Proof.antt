@@ -43,35 +43,13 @@ loop-holds c =
     let s = c .before .before in
     turns-start _ _ _ (cells-room (s .args .i) (reportedLine (s .args .report .now)) (bytes-readable _ _ (s .pre .0) (λ n. omega (arith, c .before .shared-slice-known .given n))) (s .args .i) _ (omega arith) (s .pre .1 .1))
 
-sub-write-cell : tie.Need-sub-write-cell Inv-loop μ-loop
-sub-write-cell c = omega (arith, c .before .loop .inv .wrote)
-
-part-write-cell-start : tie.Need-part-write-cell-start Inv-loop μ-loop
-part-write-cell-start c = omega (arith, c .before .loop .inv .wrote)
-
 write-cell-requires : tie.Need-write-cell-requires Inv-loop μ-loop
 write-cell-requires c κs =
     let s = c .before .before .before .before .before in
     (s .pre .0, (c .before .loop-test .taken, (s .pre .1 .0, turn-room _ _ _ _ _ _ (c .before .before .loop .inv) (c .before .loop-test .taken))))
 
-add-at : tie.Need-add-at Inv-loop μ-loop
-add-at c =
-    omega (arith, turn-end _ _ _ _ _ _ _ (c .before .before .before .before .before .loop .inv) (c .before .before .before .before .loop-test .taken) (c .before .before .write-cell .ensures .0))
-
 loop-again : tie.Need-loop-again Inv-loop μ-loop
 loop-again c = turn-more _ _ _ _ _ _ _ _ (c .before .before .before .before .before .loop .inv) (c .before .before .before .before .loop-test .taken) (c .before .before .write-cell .ensures .0) (c .before .before .write-cell .ensures .1)
-
-sub-write-text : tie.Need-sub-write-text Inv-loop μ-loop
-sub-write-text c = omega (arith, short c)
-
-sub-write-text-2 : tie.Need-sub-write-text-2 Inv-loop μ-loop
-sub-write-text-2 c = omega (arith, done (c .before))
-
-part-write-text-start : tie.Need-part-write-text-start Inv-loop μ-loop
-part-write-text-start c = omega (arith, done (c .before))
-
-write-text-requires : tie.Need-write-text-requires Inv-loop μ-loop
-write-text-requires c κs = let k = c .before .before in wrote-room _ _ _ _ _ (done k) (fits k)
 
 whole : (c : tie.After-slice-known3 Inv-loop μ-loop) → let k = c .before .before .before .before .before in
     let l = k .before .loop in
@@ -80,12 +58,6 @@ whole : (c : tie.After-slice-known3 Inv-loop μ-loop) → let k = c .before .bef
     (putMid (l .at) (length (l .out) - l .at) (l .out) (c .before .before .write-text .last .1 .1 .0)) (l .at + c .before .before .write-text .result)
 whole c = let k = c .before .before .before .before .before in wrote-more _ _ _ _ _ _ _ (done k) (fits k) (c .before .before .write-text .ensures .0) (c .before .before .write-text .ensures .1)
 
-same-length : tie.Need-same-length Inv-loop μ-loop
-same-length c = whole c .long
-
-returns : tie.Need-returns Inv-loop μ-loop
-returns c = rw (← (parts (c .before .before .before .before .before))) (whole c .is)
-
 pub write-line-spec : {M : Type 1} → statement M
 write-line-spec =
     tie.close
@@ -93,18 +65,18 @@ write-line-spec =
     Inv-loop
     μ-loop
     loop-holds
-    sub-write-cell
-    part-write-cell-start
+    (λ c. omega (arith, c .before .loop .inv .wrote))
+    (λ c. omega (arith, c .before .loop .inv .wrote))
     (λ c. search needs)
     write-cell-requires
-    add-at
+    (λ c. omega (arith, turn-end _ _ _ _ _ _ _ (c .before .before .before .before .before .loop .inv) (c .before .before .before .before .loop-test .taken) (c .before .before .write-cell .ensures .0)))
     (λ c. search needs) (λ c. search needs)
     loop-again
-    sub-write-text
+    (λ c. omega (arith, short c))
     (λ c. search needs)
-    sub-write-text-2
-    part-write-text-start
+    (λ c. omega (arith, done (c .before)))
+    (λ c. omega (arith, done (c .before)))
     (λ c. search needs)
-    write-text-requires
-    same-length
-    returns)
+    (λ c κs. let k = c .before .before in wrote-room _ _ _ _ _ (done k) (fits k))
+    (λ c. whole c .long)
+    (λ c. rw (← (parts (c .before .before .before .before .before))) (whole c .is)))

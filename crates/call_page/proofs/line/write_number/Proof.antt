@@ -11,31 +11,6 @@ Inv-loop width x out made₀ at₀ rest₀ made at rest = Made x made at rest
 abbrev μ-loop : tie.MeasureT-loop
 μ-loop width x out made₀ at₀ rest₀ made at rest = rest
 
-loop-holds : tie.Need-loop-holds Inv-loop μ-loop
-loop-holds c = made-none _ _ refl (search needs)
-
-sub-at : tie.Need-sub-at Inv-loop μ-loop
-sub-at c =
-    let l = c .before .loop in omega (arith, made-room _ _ _ _ (l .inv), digits-some (l .rest))
-
-array-write-made : tie.Need-array-write-made Inv-loop μ-loop
-array-write-made c =
-    let l = c .before .before .loop in omega (arith, l .inv .within, made-room _ _ _ _ (l .inv), digits-some (l .rest))
-
-loop-again : tie.Need-loop-again Inv-loop μ-loop
-loop-again c = made-more _ _ _ _ (c .before .before .loop .inv) _ (c .before .loop-test .taken) (c .digit .ensures)
-
-sub-at-2 : tie.Need-sub-at-2 Inv-loop μ-loop
-sub-at-2 c =
-    let l = c .before .loop in omega (arith, made-room _ _ _ _ (l .inv), digits-some (l .rest))
-
-array-write-made-2 : tie.Need-array-write-made-2 Inv-loop μ-loop
-array-write-made-2 c =
-    let l = c .before .before .loop in omega (arith, l .inv .within, made-room _ _ _ _ (l .inv), digits-some (l .rest))
-
-part-write-text-end : tie.Need-part-write-text-end Inv-loop μ-loop
-part-write-text-end c = omega (arith, made-long _ _ _ _ (c .before .before .before .loop .inv) (c .before .digit2 .result))
-
 write-text-requires : tie.Need-write-text-requires Inv-loop μ-loop
 write-text-requires c κs =
     let k = c .before .before .before .before in
@@ -52,17 +27,17 @@ write-number-spec =
     (tie.spec
     Inv-loop
     μ-loop
-    loop-holds
-    sub-at
+    (λ c. made-none _ _ refl (search needs))
+    (λ c. let l = c .before .loop in omega (arith, made-room _ _ _ _ (l .inv), digits-some (l .rest)))
     (λ c κs. search needs)
-    array-write-made
+    (λ c. let l = c .before .before .loop in omega (arith, l .inv .within, made-room _ _ _ _ (l .inv), digits-some (l .rest)))
     (λ c. search needs)
-    loop-again
-    sub-at-2
+    (λ c. made-more _ _ _ _ (c .before .before .loop .inv) _ (c .before .loop-test .taken) (c .digit .ensures))
+    (λ c. let l = c .before .loop in omega (arith, made-room _ _ _ _ (l .inv), digits-some (l .rest)))
     (λ c κs. search needs)
-    array-write-made-2
+    (λ c. let l = c .before .before .loop in omega (arith, l .inv .within, made-room _ _ _ _ (l .inv), digits-some (l .rest)))
     (λ c. search needs) (λ c. search needs)
-    part-write-text-end
+    (λ c. omega (arith, made-long _ _ _ _ (c .before .before .before .loop .inv) (c .before .digit2 .result)))
     write-text-requires
     (λ c. search needs)
     returns)

@@ -28,12 +28,6 @@ loop-holds c =
     let s = c .before .before in
     turns-start _ _ _ (page-room (s .args .n) (reportedLine (s .args .report .now)) (bytes-readable _ _ (s .pre .0) (λ k. omega (arith, c .before .shared-slice-known .given k))) _ (s .pre .1 .1))
 
-sub-write-line : tie.Need-sub-write-line Inv-loop μ-loop
-sub-write-line c = omega (arith, c .before .loop .inv .wrote)
-
-part-write-line-start : tie.Need-part-write-line-start Inv-loop μ-loop
-part-write-line-start c = omega (arith, c .before .loop .inv .wrote)
-
 write-line-requires : tie.Need-write-line-requires Inv-loop μ-loop
 write-line-requires c κs =
     let s = c .before .before .before .before .before in
@@ -41,34 +35,20 @@ write-line-requires c κs =
     let l = again (c .before) in
     (omega (arith, s .pre .0, l), (omega (arith, s .pre .1 .0, l), omega (arith, long (c .before), turn-room _ _ _ _ _ _ (i .inv) l)))
 
-add-at : tie.Need-add-at Inv-loop μ-loop
-add-at c =
-    let k = c .before .before .before .before in omega (arith, turn-end _ _ _ _ _ _ 73 (k .before .loop .inv) (again k) (sym (long k)))
-
-loop-again : tie.Need-loop-again Inv-loop μ-loop
-loop-again c =
-    let k = c .before .before .before .before in turn-more _ _ _ _ _ _ _ 73 (k .before .loop .inv) (again k) (sym (long k)) (c .before .before .write-line .ensures)
-
-same-length : tie.Need-same-length Inv-loop μ-loop
-same-length c = c .before .loop .inv .wrote .long
-
-returns : tie.Need-returns Inv-loop μ-loop
-unfolding pageOf
-returns c = turns-done _ _ _ _ _ _ (c .before .loop .inv) (omega (arith, c .loop-test .left)) .is
-
 pub write-page-spec : {M : Type 1} → statement M
+unfolding pageOf
 write-page-spec =
     tie.close
     (tie.spec
     Inv-loop
     μ-loop
     loop-holds
-    sub-write-line
-    part-write-line-start
+    (λ c. omega (arith, c .before .loop .inv .wrote))
+    (λ c. omega (arith, c .before .loop .inv .wrote))
     (λ c. search needs)
     write-line-requires
-    add-at
+    (λ c. let k = c .before .before .before .before in omega (arith, turn-end _ _ _ _ _ _ 73 (k .before .loop .inv) (again k) (sym (long k))))
     (λ c. search needs) (λ c. search needs)
-    loop-again
-    same-length
-    returns)
+    (λ c. let k = c .before .before .before .before in turn-more _ _ _ _ _ _ _ 73 (k .before .loop .inv) (again k) (sym (long k)) (c .before .before .write-line .ensures))
+    (λ c. c .before .loop .inv .wrote .long)
+    (λ c. turns-done _ _ _ _ _ _ (c .before .loop .inv) (omega (arith, c .loop-test .left)) .is))

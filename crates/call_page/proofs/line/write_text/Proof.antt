@@ -12,19 +12,10 @@ Inv-loop width text out₀ before end i₀ out i = Copied (column width text) ou
 abbrev μ-loop : tie.MeasureT-loop
 μ-loop width text out₀ before end i₀ out i = end - i
 
-loop-holds : tie.Need-loop-holds Inv-loop μ-loop
-loop-holds c = copied-none _ _
-
 slice-write-out : tie.Need-slice-write-out Inv-loop μ-loop
 slice-write-out c =
     let s = c .before .before .before .before .before .before in
     omega (arith, s .pre, c .before .before .loop .inv .long, column-end (s .args .width) (s .args .text .now) _ (c .before .before .before .lack .ensures))
-
-loop-again : tie.Need-loop-again Inv-loop μ-loop
-loop-again c = column-turn _ _ _ (c .before .before .before .lack .ensures) _ _ _ _ (c .before .before .loop .inv) (c .before .loop-test .taken) (c .aligned .ensures)
-
-same-length : tie.Need-same-length Inv-loop μ-loop
-same-length c = c .before .loop .inv .long
 
 returns : tie.Need-returns Inv-loop μ-loop
 returns c =
@@ -38,10 +29,10 @@ write-text-spec =
     Inv-loop
     μ-loop
     (λ c κs. search needs) (λ c. search needs)
-    loop-holds
+    (λ c. copied-none _ _)
     (λ c κs. search needs)
     slice-write-out
     (λ c. search needs) (λ c. search needs)
-    loop-again
-    same-length
+    (λ c. column-turn _ _ _ (c .before .before .before .lack .ensures) _ _ _ _ (c .before .before .loop .inv) (c .before .loop-test .taken) (c .aligned .ensures))
+    (λ c. c .before .loop .inv .long)
     returns)

@@ -14,75 +14,28 @@ is : (c : tie.After-width) (n : ℕ) → c .before .before .args .k ≡ n
     column (c .width .result) (getD v n []) ≡ column (getD widths (a .k) 0) (getD v (a .k) [])
 is c n e = same-column (c .width .ensures) (is-value (c .before .before .args .t) (c .before .before .args .row) n _ e)
 
-write-number-requires : tie.Need-write-number-requires
-unfolding texts
-write-number-requires c κs = let k = c .before in room-as (is (k .before) 0 (k .match .keys1)) (k .before .before .before .pre .1)
-
-write-number-requires-2 : tie.Need-write-number-requires-2
-unfolding texts
-write-number-requires-2 c κs = let k = c .before .before in room-as (same-column refl (ap digits (c .before .wide .ensures)) ∙ is (k .before) 1 (k .match .keys2)) (k .before .before .before .pre .1)
-
-write-payee-requires : tie.Need-write-payee-requires
-unfolding texts
-write-payee-requires c κs = let k = c .before in room-as (is (k .before) 2 (k .match .keys3)) (k .before .before .before .pre .1)
-
-write-number-requires-3 : tie.Need-write-number-requires-3
-unfolding texts
-write-number-requires-3 c κs = let k = c .before in room-as (is (k .before) 3 (k .match .keys4)) (k .before .before .before .pre .1)
-
-write-height-requires : tie.Need-write-height-requires
-unfolding texts
-write-height-requires c κs = let k = c .before in room-as (is (k .before) 4 (k .match .keys5)) (k .before .before .before .pre .1)
-
-write-height-requires-2 : tie.Need-write-height-requires-2
-unfolding texts
-write-height-requires-2 c κs = let k = c .before in room-as (is (k .before) 5 (last _ (k .before .before .before .pre .0) (k .match .rest))) (k .before .before .before .pre .1)
-
-returns : tie.Need-returns
-unfolding texts
-returns c = let k = c .before .before .before .before in written-as (is (k .before) 0 (k .match .keys1)) _ (c .before .before .write-number .ensures)
-
-returns-2 : tie.Need-returns-2
-unfolding texts
-returns-2 c = let k = c .before .before .before .before in written-as (same-column refl (ap digits (k .wide .ensures)) ∙ is (k .before .before) 1 (k .before .match .keys2)) _ (c .before .before .write-number2 .ensures)
-
-returns-3 : tie.Need-returns-3
-unfolding texts
-returns-3 c = let k = c .before .before .before .before in written-as (is (k .before) 2 (k .match .keys3)) _ (c .before .before .write-payee .ensures)
-
-returns-4 : tie.Need-returns-4
-unfolding texts
-returns-4 c = let k = c .before .before .before .before in written-as (is (k .before) 3 (k .match .keys4)) _ (c .before .before .write-number3 .ensures)
-
-returns-5 : tie.Need-returns-5
-unfolding texts
-returns-5 c = let k = c .before .before .before .before in written-as (is (k .before) 4 (k .match .keys5)) _ (c .before .before .write-height .ensures)
-
-returns-6 : tie.Need-returns-6
-unfolding texts
-returns-6 c = let k = c .before .before .before .before in written-as (is (k .before) 5 (last _ (k .before .before .before .pre .0) (k .match .rest))) _ (c .before .before .write-height2 .ensures)
-
 pub write-value-spec : {M : Type 1} → statement M
+unfolding texts
 write-value-spec =
     tie.close
     (tie.spec
     (λ c κs. search needs)
-    write-number-requires
+    (λ c κs. let k = c .before in room-as (is (k .before) 0 (k .match .keys1)) (k .before .before .before .pre .1))
     (λ c κs. search needs)
-    write-number-requires-2
-    write-payee-requires
-    write-number-requires-3
-    write-height-requires
-    write-height-requires-2
+    (λ c κs. let k = c .before .before in room-as (same-column refl (ap digits (c .before .wide .ensures)) ∙ is (k .before) 1 (k .match .keys2)) (k .before .before .before .pre .1))
+    (λ c κs. let k = c .before in room-as (is (k .before) 2 (k .match .keys3)) (k .before .before .before .pre .1))
+    (λ c κs. let k = c .before in room-as (is (k .before) 3 (k .match .keys4)) (k .before .before .before .pre .1))
+    (λ c κs. let k = c .before in room-as (is (k .before) 4 (k .match .keys5)) (k .before .before .before .pre .1))
+    (λ c κs. let k = c .before in room-as (is (k .before) 5 (last _ (k .before .before .before .pre .0) (k .match .rest))) (k .before .before .before .pre .1))
     (λ c. search needs)
-    returns
+    (λ c. let k = c .before .before .before .before in written-as (is (k .before) 0 (k .match .keys1)) _ (c .before .before .write-number .ensures))
     (λ c. search needs)
-    returns-2
+    (λ c. let k = c .before .before .before .before in written-as (same-column refl (ap digits (k .wide .ensures)) ∙ is (k .before .before) 1 (k .before .match .keys2)) _ (c .before .before .write-number2 .ensures))
     (λ c. search needs)
-    returns-3
+    (λ c. let k = c .before .before .before .before in written-as (is (k .before) 2 (k .match .keys3)) _ (c .before .before .write-payee .ensures))
     (λ c. search needs)
-    returns-4
+    (λ c. let k = c .before .before .before .before in written-as (is (k .before) 3 (k .match .keys4)) _ (c .before .before .write-number3 .ensures))
     (λ c. search needs)
-    returns-5
+    (λ c. let k = c .before .before .before .before in written-as (is (k .before) 4 (k .match .keys5)) _ (c .before .before .write-height .ensures))
     (λ c. search needs)
-    returns-6)
+    (λ c. let k = c .before .before .before .before in written-as (is (k .before) 5 (last _ (k .before .before .before .pre .0) (k .match .rest))) _ (c .before .before .write-height2 .ensures)))
