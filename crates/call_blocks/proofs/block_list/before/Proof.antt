@@ -9,12 +9,9 @@ returns : tie.Need-returns
 unfolding before
 returns c = simp (tests, c .if1 .taken)
 
-returns-2 : tie.Need-returns-2
-returns-2 c = before-within _ _ (c .before .before .if2 .taken)
-
 returns-3 : tie.Need-returns-3
 unfolding before
 returns-3 c = simp (tests, c .before .before .before .if1 .left, c .if2 .left)
 
 pub before-spec : {M : Type 1} → statement M
-before-spec = tie.close (tie.spec returns returns-2 returns-3)
+before-spec = tie.close (tie.spec returns (λ c. before-within _ _ (c .before .before .if2 .taken)) returns-3)

@@ -13,12 +13,6 @@ Inv-loop list n last₀ k₀ last k = (k ≤ n) × (left behind latest list k (e
 abbrev μ-loop : tie.MeasureT-loop
 μ-loop list n last₀ k₀ last k = n - k
 
-loop-holds : tie.Need-loop-holds Inv-loop μ-loop
-loop-holds c = (search needs, left-all behind latest _ _ ∙ rise-first _)
-
-listed-at-requires : tie.Need-listed-at-requires Inv-loop μ-loop
-listed-at-requires c κs = omega (arith, c .loop-test .taken)
-
 returns : tie.Need-returns Inv-loop μ-loop
 returns c =
     let c3 = c .before .before .before in let c4 = c3 .before in
@@ -29,20 +23,17 @@ loop-again c =
     let c3 = c .before .before .before in let c4 = c3 .before in
     (omega (arith, c3 .loop-test .taken), left-on behind latest _ _ _ _ _ _ _ (c4 .loop .inv .1) (omega (arith, c3 .loop-test .taken)) (c .before .before .listed-at .ensures) (c .before .rises .ensures) (c .if1 .left) refl)
 
-returns-2 : tie.Need-returns-2 Inv-loop μ-loop
-returns-2 c = left-ended behind latest _ _ _ _ (c .before .loop .inv .1) (omega (arith, c .loop-test .left))
-
 pub entries-rise-spec : {M : Type 1} → statement M
 entries-rise-spec =
     tie.close
     (tie.spec
     Inv-loop
     μ-loop
-    loop-holds
+    (λ c. (search needs, left-all behind latest _ _ ∙ rise-first _))
     (λ c. search needs)
-    listed-at-requires
+    (λ c κs. omega (arith, c .loop-test .taken))
     (λ c κs. search needs)
     returns
     (λ c. search needs) (λ c. search needs)
     loop-again
-    returns-2)
+    (λ c. left-ended behind latest _ _ _ _ (c .before .loop .inv .1) (omega (arith, c .loop-test .left))))

@@ -12,15 +12,6 @@ Inv-loop sheet list n k₀ k = (k ≤ n) × (left (named sheet) unchanged list k
 abbrev μ-loop : tie.MeasureT-loop
 μ-loop sheet list n k₀ k = n - k
 
-returns : tie.Need-returns Inv-loop μ-loop
-returns c = named-broken _ _ (c .if1 .taken)
-
-loop-holds : tie.Need-loop-holds Inv-loop μ-loop
-loop-holds c = (search needs, named-whole _ _ (c .if1 .left))
-
-listed-at-requires : tie.Need-listed-at-requires Inv-loop μ-loop
-listed-at-requires c κs = omega (arith, c .loop-test .taken)
-
 returns-2 : tie.Need-returns-2 Inv-loop μ-loop
 returns-2 c =
     let c3 = c .before .before .before in let c4 = c3 .before in
@@ -31,21 +22,18 @@ loop-again c =
     let c3 = c .before .before .before in let c4 = c3 .before in
     (omega (arith, c3 .loop-test .taken), left-on (named _) unchanged _ _ _ _ _ _ _ (c4 .loop .inv .1) (omega (arith, c3 .loop-test .taken)) (c .before .before .listed-at .ensures) (c .before .entry-named .ensures) (c .if2 .left) refl)
 
-returns-3 : tie.Need-returns-3 Inv-loop μ-loop
-returns-3 c = left-ended (named _) unchanged _ _ _ _ (c .before .loop .inv .1) (omega (arith, c .loop-test .left))
-
 pub fields-named-spec : {M : Type 1} → statement M
 fields-named-spec =
     tie.close
     (tie.spec
     Inv-loop
     μ-loop
-    returns
-    loop-holds
+    (λ c. named-broken _ _ (c .if1 .taken))
+    (λ c. (search needs, named-whole _ _ (c .if1 .left)))
     (λ c. search needs)
-    listed-at-requires
+    (λ c κs. omega (arith, c .loop-test .taken))
     (λ c κs. search needs)
     returns-2
     (λ c. search needs) (λ c. search needs)
     loop-again
-    returns-3)
+    (λ c. left-ended (named _) unchanged _ _ _ _ (c .before .loop .inv .1) (omega (arith, c .loop-test .left))))

@@ -5,17 +5,6 @@ use Rattle.call_blocks.proofs.Tested.{ledger-by}
 use Rattle.call_blocks.proofs.block_list.list_refusal.Statement.{statement}
 use Rattle.call_blocks.proofs.block_list.list_refusal.Tie as tie
 
-returns : tie.Need-returns
-unfolding listTests
-returns c = fails 29 _ _ _ (c .before .fields-named .ensures) (c .if1 .taken)
-
-returns-2 : tie.Need-returns-2
-unfolding listTests
-returns-2 c = passes 29 _ _ _ _ (c .before .before .before .fields-named .ensures) (c .before .before .if1 .left) (fails 30 _ _ _ (c .before .entries-rise .ensures) (c .if2 .taken))
-
-ledger-accepts-requires : tie.Need-ledger-accepts-requires
-ledger-accepts-requires c κs = (c .before .before .before .before .before .before .before .before .pre .checked, held _ _ (c .before .before .before .before .fields-named .ensures) (c .before .before .before .if1 .left))
-
 returns-3 : tie.Need-returns-3
 unfolding listTests
 returns-3 c =
@@ -32,14 +21,15 @@ returns-4 c =
     none-left))
 
 pub list-refusal-spec : {M : Type 1} → statement M
+unfolding listTests
 list-refusal-spec =
     tie.close
     (tie.spec
     (λ c κs. search needs)
-    returns
+    (λ c. fails 29 _ _ _ (c .before .fields-named .ensures) (c .if1 .taken))
     (λ c κs. search needs)
-    returns-2
+    (λ c. passes 29 _ _ _ _ (c .before .before .before .fields-named .ensures) (c .before .before .if1 .left) (fails 30 _ _ _ (c .before .entries-rise .ensures) (c .if2 .taken)))
     (λ c κs. search needs)
-    ledger-accepts-requires
+    (λ c κs. (c .before .before .before .before .before .before .before .before .pre .checked, held _ _ (c .before .before .before .before .fields-named .ensures) (c .before .before .before .if1 .left)))
     returns-3
     returns-4)

@@ -4,13 +4,10 @@ use borrow.Author.Needs.{needs}
 use Rattle.call_blocks.proofs.block_list.listed_at.Statement.{statement}
 use Rattle.call_blocks.proofs.block_list.listed_at.Tie as tie
 
-returns : tie.Need-returns
-unfolding listedAt
-returns c = rw (c .u16-at .ensures)
-
 pub listed-at-spec : {M : Type 1} → statement M
+unfolding listedAt
 listed-at-spec =
     tie.close
     (tie.spec
     (λ c. search needs) (λ c. search needs) (λ c. search needs) (λ c. search needs) (λ c κs. search needs)
-    returns)
+    (λ c. rw (c .u16-at .ensures)))

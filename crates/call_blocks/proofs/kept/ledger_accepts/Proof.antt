@@ -15,12 +15,6 @@ Inv-loop sheet per-day list n kept₀ k₀ kept k = (k ≤ n) × (length kept �
 abbrev μ-loop : tie.MeasureT-loop
 μ-loop sheet per-day list n kept₀ k₀ kept k = n - k
 
-loop-holds : tie.Need-loop-holds Inv-loop μ-loop
-loop-holds c = (search needs, search needs, named-all _ _ (c .before .before .pre .1), keeps-start _ _ _)
-
-listed-at-requires : tie.Need-listed-at-requires Inv-loop μ-loop
-listed-at-requires c κs = omega (arith, c .loop-test .taken)
-
 coin-of-requires : tie.Need-coin-of-requires Inv-loop μ-loop
 coin-of-requires c κs =
     let c3 = c .before .before .before in let c6 = c3 .before .before .before in
@@ -75,18 +69,15 @@ loop-again c =
           (c4 .wide .ensures .is) (c3 .coin-of .ensures) (c .before .fits2 .ensures) (c .if1 .left)),
     )
 
-returns-2 : tie.Need-returns-2 Inv-loop μ-loop
-returns-2 c = left-ended (right _ _) (next _) _ _ _ _ (c .before .loop .inv .3) (omega (arith, c .loop-test .left))
-
 pub ledger-accepts-spec : {M : Type 1} → statement M
 ledger-accepts-spec =
     tie.close
     (tie.spec
     Inv-loop
     μ-loop
-    loop-holds
+    (λ c. (search needs, search needs, named-all _ _ (c .before .before .pre .1), keeps-start _ _ _))
     (λ c. search needs)
-    listed-at-requires
+    (λ c κs. omega (arith, c .loop-test .taken))
     (λ c κs. search needs)
     coin-of-requires
     mul-last
@@ -97,4 +88,4 @@ ledger-accepts-spec =
     array-set-from-kept
     (λ c. search needs) (λ c. search needs)
     loop-again
-    returns-2)
+    (λ c. left-ended (right _ _) (next _) _ _ _ _ (c .before .loop .inv .3) (omega (arith, c .loop-test .left))))
