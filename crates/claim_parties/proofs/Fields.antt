@@ -1,16 +1,12 @@
 -- The fields of a sheet of two, and of that with Carol put in.
 -- Assumes nothing.
-use Rattle.laws.proofs.Prelude.{ℕ, zero, suc, _+_, _*_, _<_, _≡_, refl, fun-ext, false, List, [], _∷_, eqb, getD, drop, le-ltb, arith}
+use Rattle.laws.proofs.Prelude.{ℕ, zero, suc, _+_, _*_, _<_, _≡_, refl, fun-ext, false, List, eqb, le-ltb, arith}
+use lib.Seq.{getD-drop}
 use Rattle.sheet.specs.Field.{byte, parties, arrays, place, isParty, count, entry, lockPair}
 use Rattle.sheet.proofs.Parties.{parties-two, parties-three}
 use Rattle.slots.specs.Destination.{carol}
 use Rattle.claim_parties.specs.Claim.{withCarol}
 use Rattle.claim_parties.proofs.Alike.{Alike}
-
-getD-drop : (n : ℕ) (s : List ℕ) (i : ℕ) → getD (drop n s) i 0 ≡ getD s (n + i) 0
-getD-drop zero s i = let e : 0 + i ≡ i = omega arith in rw e
-getD-drop (suc n) [] i = refl
-getD-drop (suc n) (x ∷ s) i = let e : suc n + i ≡ suc (n + i) = omega arith in rw e (getD-drop n s i)
 
 module _ (s : List ℕ) (two : byte s 0 < 128) where
   pub two-parties : parties s ≡ 2
@@ -29,7 +25,7 @@ module _ (s : List ℕ) (two : byte s 0 < 128) where
   unfolding withCarol
   behind i =
       let e : 6 + i ≡ suc (suc (suc (suc (suc (suc i))))) = omega arith in
-      rw e (getD-drop 5 s i)
+      rw e (getD-drop 5 s i 0)
 
   entry-same : (t k : ℕ) → entry (withCarol s) t k ≡ entry s t k
   unfolding entry arrays

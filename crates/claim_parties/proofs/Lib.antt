@@ -2,6 +2,7 @@ pub mod Alike
 pub mod Leaves
 pub mod Fields
 pub mod Decoded
+pub mod SameChecks
 pub mod Checks
 pub mod Rules
 pub mod Played

@@ -141,11 +141,10 @@ module _ (ρ : Renaming) (s w u : List ℕ) (c : RenamedSheet ρ s w) (o : condu
           (rw (n, c .parties a, listed-shares t (destinationNumber to), first-same t (destinationNumber to)) refl)
           (λ h.
           let l = in-range _ h in
-          let m = destination-within to in
           let z = share-none a t to h in
           taken-both (Share a t to) (Share (ρ .to a) t too)
-          (rw (conduct-open u o s q (Share (ρ .to a) t too), conduct-open u o s p (Share a t to), n) (share-tests ρ s u p q r a t d l m z))
-          (rw n (share-renamed ρ s u p q r a t d l m z)))
+          (rw (conduct-open u o s q (Share (ρ .to a) t too), conduct-open u o s p (Share a t to), n) (share-tests ρ s u p q r a t d l (destination-within to) z))
+          (rw n (share-renamed ρ s u p q r a t d l (destination-within to) z)))
 
       give-both : Related (Read (Give a t to)) (Read (Give (ρ .to a) t too))
       unfolding fieldsRight tests effect d
@@ -154,10 +153,9 @@ module _ (ρ : Renaming) (s w u : List ℕ) (c : RenamedSheet ρ s w) (o : condu
           (rw (n, c .parties a, c .transactions .signatures-same, other-same a (destinationNumber to)) refl)
           (λ h.
           let l = in-range _ h in
-          let m = destination-within to in
           taken-both (Give a t to) (Give (ρ .to a) t too)
-          (rw (conduct-open u o s q (Give (ρ .to a) t too), conduct-open u o s p (Give a t to), n) (give-tests ρ s u p q r a t d l m))
-          (rw n (give-renamed ρ s u p q r a t d l m)))
+          (rw (conduct-open u o s q (Give (ρ .to a) t too), conduct-open u o s p (Give a t to), n) (give-tests ρ s u p q r a t d l (destination-within to)))
+          (rw n (give-renamed ρ s u p q r a t d l (destination-within to))))
 
       send-both : Related (Read (SendToPool a t to)) (Read (SendToPool (ρ .to a) t too))
       unfolding fieldsRight tests effect d
@@ -166,10 +164,9 @@ module _ (ρ : Renaming) (s w u : List ℕ) (c : RenamedSheet ρ s w) (o : condu
           (rw (n, c .parties a, listed-sends a t (destinationNumber to)) refl)
           (λ h.
           let l = in-range _ h in
-          let m = destination-within to in
           taken-both (SendToPool a t to) (SendToPool (ρ .to a) t too)
-          (rw (conduct-open u o s q (SendToPool (ρ .to a) t too), conduct-open u o s p (SendToPool a t to), n) (pool-tests ρ s u p q r a t d l m))
-          (rw n (send-renamed ρ s u p q r a t d l m)))
+          (rw (conduct-open u o s q (SendToPool (ρ .to a) t too), conduct-open u o s p (SendToPool a t to), n) (pool-tests ρ s u p q r a t d l (destination-within to)))
+          (rw n (send-renamed ρ s u p q r a t d l (destination-within to))))
 
       hand-both : Related (Read (HandToMiner a t to)) (Read (HandToMiner (ρ .to a) t too))
       unfolding fieldsRight tests effect d
@@ -178,10 +175,9 @@ module _ (ρ : Renaming) (s w u : List ℕ) (c : RenamedSheet ρ s w) (o : condu
           (rw (n, c .parties a, listed-sends a t (destinationNumber to)) refl)
           (λ h.
           let l = in-range _ h in
-          let m = destination-within to in
           taken-both (HandToMiner a t to) (HandToMiner (ρ .to a) t too)
-          (rw (conduct-open u o s q (HandToMiner (ρ .to a) t too), conduct-open u o s p (HandToMiner a t to), n) (miner-tests ρ s u p q r a t d l m))
-          (rw n (hand-renamed ρ s u p q r a t d l m)))
+          (rw (conduct-open u o s q (HandToMiner (ρ .to a) t too), conduct-open u o s p (HandToMiner a t to), n) (miner-tests ρ s u p q r a t d l (destination-within to)))
+          (rw n (hand-renamed ρ s u p q r a t d l (destination-within to))))
 
       include-both : Related (Read (Include a t to)) (Read (Include (ρ .to a) t too))
       unfolding fieldsRight tests effect

@@ -1,19 +1,13 @@
 -- The rules of a step are the same on two sheets with the same transactions, under open conduct.
 -- Assumes nothing.
 use Rattle.laws.proofs.Prelude.{ℕ, _≡_, refl, fun-ext, true, List, [], _∷_}
-use Rattle.sheet.specs.Setup.{conduct}
-use Rattle.slots.specs.declared.Step.{Step}
-use Rattle.slots.specs.declared.Step.the-variants.{Share, Give, SendToPool, HandToMiner, Include, Mine, Bump}
-use Rattle.slots.specs.Destination.{contract}
-use Rattle.steps.specs.Mined.{confirmEntry}
+use Rattle.position.proofs.Rules.{conduct, Step, Share, Give, SendToPool, HandToMiner, Include, Mine, Bump, contract, confirmEntry, lockHeightIn, deadlineIn}
+use Rattle.position.proofs.Rules.{senderHas, owed, anyOwed, enters, shareMet, shareTests, sendTests, poolTests, minerTests, includeTests, mineTests, bumpTests}
+use Rattle.position.proofs.Rules.{isOpen, isCareful, sendAllowed, payingFirst, conductAllows, stepRefusal, firstShares, changeSlots, shareOne, shareEach, afterShare}
+use Rattle.position.proofs.Rules.{afterSend, leavesPool, mineSlot, afterMine, leavesBlock, bumpSlot, afterBump, effect}
+use Rattle.position.specs.Tests.{blockMet}
+use Rattle.position.specs.StepRefusal.{tests}
 use Rattle.position.specs.declared.Position.{Position}
-use Rattle.position.specs.Position.{lockHeightIn, deadlineIn, senderHas}
-use Rattle.position.specs.Owed.{owed, anyOwed, enters}
-use Rattle.position.specs.Tests.{shareMet, shareTests, sendTests, poolTests, minerTests, includeTests, blockMet, mineTests, bumpTests}
-use Rattle.position.specs.Conduct.{isOpen, isCareful, sendAllowed, payingFirst, conductAllows}
-use Rattle.position.specs.StepRefusal.{tests, stepRefusal}
-use Rattle.position.specs.FirstShares.{firstShares}
-use Rattle.position.specs.Effect.{changeSlots, shareOne, shareEach, afterShare, afterSend, leavesPool, mineSlot, afterMine, leavesBlock, bumpSlot, afterBump, effect}
 use Rattle.claim_parties.specs.Renaming.{SameTransactions}
 use Rattle.claim_parties.proofs.Leaves.{no-conflict, line-same, meets-conflict, meets-other, has-parent, lock-height, deadline-same, shared-secrets, signed-same, share-mask, exposed-mask}
 
