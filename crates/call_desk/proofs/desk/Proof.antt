@@ -5,9 +5,6 @@ use Rattle.call_desk.proofs.Desks.{sheet-passes, bundle-passes, gives-r
 use Rattle.call_desk.proofs.desk.Statement.{statement}
 use Rattle.call_desk.proofs.desk.Tie as tie
 
-returns : tie.Need-returns
-returns c = let a = c .before .before .before .before .before .args in gives-refused (a .sheet .now) (a .bundle .now) (a .out .now) _ (c .before .call-refusal .ensures) (c .if1 .taken)
-
 swaps-requires : tie.Need-swaps-requires
 swaps-requires c κs =
     let a = c .before .before .before .before .before .args in
@@ -36,4 +33,14 @@ returns-3 c =
     (c .before .before .write-answers .ensures)
 
 pub desk-spec : {M : Type 1} → statement M
-desk-spec = tie.close (tie.spec (λ c κs. search needs) returns swaps-requires (λ c. search needs) returns-2 write-answers-requires (λ c. search needs) returns-3)
+desk-spec =
+    tie.close
+    (tie.spec
+    (λ c κs. search needs)
+    (λ c. let a = c .before .before .before .before .before .args in gives-refused (a .sheet .now) (a .bundle .now) (a .out .now) _ (c .before .call-refusal .ensures) (c .if1 .taken))
+    swaps-requires
+    (λ c. search needs)
+    returns-2
+    write-answers-requires
+    (λ c. search needs)
+    returns-3)

@@ -4,13 +4,10 @@ use borrow.Author.Needs.{needs}
 use Rattle.call_desk.proofs.answers.swap_ran.Statement.{statement}
 use Rattle.call_desk.proofs.answers.swap_ran.Tie as tie
 
-returns : tie.Need-returns
-returns c = run-of-parts _ _ _ _ _ _ (c .before .before .before .before .before .pre .1) (c .ran-checked .ensures)
-
 pub swap-ran-spec : {M : Type 1} → statement M
 swap-ran-spec =
     tie.close
     (tie.spec
     (λ c. search needs) (λ c. search needs) (λ c. search needs) (λ c. search needs) (λ c. search needs) (λ c. search needs)
     (λ c. search needs) (λ c. search needs) (λ c. search needs) (λ c. search needs) (λ c κs. search needs)
-    returns)
+    (λ c. run-of-parts _ _ _ _ _ _ (c .before .before .before .before .before .pre .1) (c .ran-checked .ensures)))

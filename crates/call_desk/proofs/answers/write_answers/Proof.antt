@@ -13,28 +13,10 @@ Inv-loop sheet bundle out₀ n start₀ at₀ i₀ out start at i = Turns (swapB
 abbrev μ-loop : tie.MeasureT-loop
 μ-loop sheet bundle out₀ n start₀ at₀ i₀ out start at i = n - i
 
-swaps-requires : tie.Need-swaps-requires Inv-loop μ-loop
-swaps-requires c κs = arrays-some _ (arrays _ (c .before .before .before .pre .1 .0))
-
-loop-holds : tie.Need-loop-holds Inv-loop μ-loop
-loop-holds c = (turns-start _ _ _ (all-room _ _ _ _ (c .swaps .ensures .is) (c .before .before .before .before .pre .1 .1)), start-first _ _ (c .swaps .ensures .is))
-
-length-of-requires : tie.Need-length-of-requires Inv-loop μ-loop
-length-of-requires c κs = (arrays _ (c .before .before .before .before .before .before .pre .1 .0), omega (arith, c .loop-test .taken, c .before .before .swaps .ensures .is))
-
 swap-ran-requires : tie.Need-swap-ran-requires Inv-loop μ-loop
 swap-ran-requires c κs =
     let p = c .before .before .before .before .before .before .before .pre in
     (p .0, stands _ (p .1 .0) _ _ _ (omega (arith, c .before .loop-test .taken, c .before .before .before .swaps .ensures .is)) (c .before .before .loop .inv .1) (c .length-of .ensures .is))
-
-sub-write-pair : tie.Need-sub-write-pair Inv-loop μ-loop
-sub-write-pair c = omega (arith, c .before .before .before .loop .inv .0 .wrote)
-
-part-write-pair-start : tie.Need-part-write-pair-start Inv-loop μ-loop
-part-write-pair-start c = omega (arith, c .before .before .before .loop .inv .0 .wrote)
-
-write-pair-requires : tie.Need-write-pair-requires Inv-loop μ-loop
-write-pair-requires c κs = eight-room _ _ _ _ _ _ _ (c .before .before .before .before .loop .inv .0) (c .before .before .before .loop-test .taken)
 
 add-start-2 : tie.Need-add-start-2 Inv-loop μ-loop
 add-start-2 c =
@@ -46,9 +28,6 @@ add-start-2 c =
     let h = stands _ (c12 .pre .1 .0) _ _ _ (omega (arith, c6 .loop-test .taken, c8 .swaps .ensures .is)) (l .inv .1) (c5 .length-of .ensures .is) in
     omega (arith, h .journal-ends)
 
-add-at : tie.Need-add-at Inv-loop μ-loop
-add-at c = omega (arith, eight-end _ _ _ _ _ _ _ (c .before .before .before .before .before .before .before .loop .inv .0) (c .before .before .before .before .before .before .loop-test .taken))
-
 loop-again : tie.Need-loop-again Inv-loop μ-loop
 loop-again c =
     let c4 = c .before .before .before .before in let c5 = c .before .before .before .before .before in
@@ -56,30 +35,24 @@ loop-again c =
     let l = c7 .loop in
     (eight-more _ _ _ _ _ _ _ _ _ (l .inv .0) (c6 .loop-test .taken) (c4 .swap-ran .ensures) (c .before .before .write-pair .ensures), start-next _ _ _ _ (l .inv .1) (c5 .length-of .ensures .is))
 
-same-length : tie.Need-same-length Inv-loop μ-loop
-same-length c = c .before .loop .inv .0 .wrote .long
-
-returns : tie.Need-returns Inv-loop μ-loop
-returns c = answers-done _ _ _ _ _ _ _ (c .before .before .swaps .ensures .is) (c .before .loop .inv .0) (c .loop-test .left)
-
 pub write-answers-spec : {M : Type 1} → statement M
 write-answers-spec =
     tie.close
     (tie.spec
     Inv-loop
     μ-loop
-    swaps-requires
+    (λ c κs. arrays-some _ (arrays _ (c .before .before .before .pre .1 .0)))
     (λ c. search needs) (λ c. search needs)
-    loop-holds
-    length-of-requires
+    (λ c. (turns-start _ _ _ (all-room _ _ _ _ (c .swaps .ensures .is) (c .before .before .before .before .pre .1 .1)), start-first _ _ (c .swaps .ensures .is)))
+    (λ c κs. (arrays _ (c .before .before .before .before .before .before .pre .1 .0), omega (arith, c .loop-test .taken, c .before .before .swaps .ensures .is)))
     swap-ran-requires
-    sub-write-pair
-    part-write-pair-start
+    (λ c. omega (arith, c .before .before .before .loop .inv .0 .wrote))
+    (λ c. omega (arith, c .before .before .before .loop .inv .0 .wrote))
     (λ c. search needs)
-    write-pair-requires
+    (λ c κs. eight-room _ _ _ _ _ _ _ (c .before .before .before .before .loop .inv .0) (c .before .before .before .loop-test .taken))
     add-start-2
-    add-at
+    (λ c. omega (arith, eight-end _ _ _ _ _ _ _ (c .before .before .before .before .before .before .before .loop .inv .0) (c .before .before .before .before .before .before .loop-test .taken)))
     (λ c. search needs) (λ c. search needs)
     loop-again
-    same-length
-    returns)
+    (λ c. c .before .loop .inv .0 .wrote .long)
+    (λ c. answers-done _ _ _ _ _ _ _ (c .before .before .swaps .ensures .is) (c .before .loop .inv .0) (c .loop-test .left)))

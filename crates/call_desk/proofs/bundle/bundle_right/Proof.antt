@@ -4,18 +4,6 @@ use Rattle.laws.proofs.Prelude.{needs, arith}
 use Rattle.call_desk.proofs.bundle.bundle_right.Statement.{statement}
 use Rattle.call_desk.proofs.bundle.bundle_right.Tie as tie
 
-returns : tie.Need-returns
-returns c = right-empty _ (omega (arith, c .if1 .taken))
-
-returns-2 : tie.Need-returns-2
-returns-2 c = right-short _ _ (c .before .swaps .ensures .is) (omega (arith, c .before .before .if1 .left)) (omega (arith, c .if2 .taken))
-
-returns-3 : tie.Need-returns-3
-returns-3 c = right-many _ _ (c .before .before .swaps .ensures .is) (omega (arith, c .before .before .before .if1 .left)) (omega (arith, c .before .if2 .left)) (omega (arith, c .if3 .taken))
-
-lengths-sum-requires : tie.Need-lengths-sum-requires
-lengths-sum-requires c κs = right-arrays _ _ (c .before .before .swaps .ensures .is) (omega (arith, c .before .before .before .if1 .left)) (omega (arith, c .before .if2 .left)) (omega (arith, c .if3 .left))
-
 returns-4 : tie.Need-returns-4
 returns-4 c =
     let c3 = c .before .before .before in let c4 = c .before .before .before .before in
@@ -25,10 +13,10 @@ pub bundle-right-spec : {M : Type 1} → statement M
 bundle-right-spec =
     tie.close
     (tie.spec
-    returns
+    (λ c. right-empty _ (omega (arith, c .if1 .taken)))
     (λ c κs. search needs) (λ c. search needs) (λ c. search needs)
-    returns-2
-    returns-3
-    lengths-sum-requires
+    (λ c. right-short _ _ (c .before .swaps .ensures .is) (omega (arith, c .before .before .if1 .left)) (omega (arith, c .if2 .taken)))
+    (λ c. right-many _ _ (c .before .before .swaps .ensures .is) (omega (arith, c .before .before .before .if1 .left)) (omega (arith, c .before .if2 .left)) (omega (arith, c .if3 .taken)))
+    (λ c κs. right-arrays _ _ (c .before .before .swaps .ensures .is) (omega (arith, c .before .before .before .if1 .left)) (omega (arith, c .before .if2 .left)) (omega (arith, c .if3 .left)))
     (λ c. search needs)
     returns-4)

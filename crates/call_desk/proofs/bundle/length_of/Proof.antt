@@ -5,22 +5,13 @@ use borrow.Author.Needs.{needs}
 use Rattle.call_desk.proofs.bundle.length_of.Statement.{statement}
 use Rattle.call_desk.proofs.bundle.length_of.Tie as tie
 
-swaps-requires : tie.Need-swaps-requires
-swaps-requires c κs = arrays-some _ (c .before .pre .0)
-
-u32-at-requires : tie.Need-u32-at-requires
-u32-at-requires c κs = lengths-end _ (c .before .before .pre .0) _ _ (c .swaps .ensures .is) (c .before .before .pre .1)
-
-returns : tie.Need-returns
-unfolding lengthOf
-returns c = record { is = rw (← (c .before .swaps .ensures .is)) (c .u32-at .ensures); small = search needs }
-
 pub length-of-spec : {M : Type 1} → statement M
+unfolding lengthOf
 length-of-spec =
     tie.close
     (tie.spec
-    swaps-requires
+    (λ c κs. arrays-some _ (c .before .pre .0))
     (λ c. search needs) (λ c. search needs) (λ c. search needs) (λ c. search needs)
-    u32-at-requires
+    (λ c κs. lengths-end _ (c .before .before .pre .0) _ _ (c .swaps .ensures .is) (c .before .before .pre .1))
     (λ c. search needs)
-    returns)
+    (λ c. record { is = rw (← (c .before .swaps .ensures .is)) (c .u32-at .ensures); small = search needs }))

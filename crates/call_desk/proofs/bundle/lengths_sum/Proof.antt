@@ -11,15 +11,6 @@ Inv-loop bundle n sum₀ i₀ sum i = (i ≤ n) × (sum ≤ 4294967296 * i) × (
 abbrev μ-loop : tie.MeasureT-loop
 μ-loop bundle n sum₀ i₀ sum i = n - i
 
-swaps-requires : tie.Need-swaps-requires Inv-loop μ-loop
-swaps-requires c κs = arrays-some _ (c .before .pre)
-
-loop-holds : tie.Need-loop-holds Inv-loop μ-loop
-loop-holds c = (search needs, search needs, sum-start _)
-
-length-of-requires : tie.Need-length-of-requires Inv-loop μ-loop
-length-of-requires c κs = (c .before .before .before .before .pre, omega (arith, c .loop-test .taken, c .before .before .swaps .ensures .is))
-
 loop-again : tie.Need-loop-again Inv-loop μ-loop
 loop-again c =
     let l = c .before .before .loop in
@@ -36,9 +27,9 @@ lengths-sum-spec =
     (tie.spec
     Inv-loop
     μ-loop
-    swaps-requires
-    loop-holds
-    length-of-requires
+    (λ c κs. arrays-some _ (c .before .pre))
+    (λ c. (search needs, search needs, sum-start _))
+    (λ c κs. (c .before .before .before .before .pre, omega (arith, c .loop-test .taken, c .before .before .swaps .ensures .is)))
     (λ c. search needs) (λ c. search needs) (λ c. search needs)
     loop-again
     returns)
