@@ -5,15 +5,6 @@ use borrow.Author.Needs.{needs}
 use Rattle.call_earliest.proofs.earliest.Statement.{statement}
 use Rattle.call_earliest.proofs.earliest.Tie as tie
 
-returns : tie.Need-returns
-returns c = gives-refused _ _ _ _ _ _ (c .before .earliest-refusal .ensures) (c .if1 .taken)
-
-per-day-requires : tie.Need-per-day-requires
-per-day-requires c κs = let p = unrefused _ _ _ _ _ (c .before .earliest-refusal .ensures) (c .if1 .left) in setup-checked _ _ (p .setup) .size
-
-write-plan-requires : tie.Need-write-plan-requires
-write-plan-requires c κs = let p = unrefused _ _ _ _ _ (c .before .before .before .earliest-refusal .ensures) (c .before .before .if1 .left) in (sheet-checked _ (p .sheet), (p .right, rw (c .before .per-day .ensures) (p .possible)))
-
 returns-2 : tie.Need-returns-2
 returns-2 c =
     let c4 = c .before .before .before .before in let c5 = c4 .before in let c6 = c5 .before in
@@ -24,8 +15,8 @@ earliest-spec =
     tie.close
     (tie.spec
     (λ c κs. search needs)
-    returns
-    per-day-requires
-    write-plan-requires
+    (λ c. gives-refused _ _ _ _ _ _ (c .before .earliest-refusal .ensures) (c .if1 .taken))
+    (λ c κs. let p = unrefused _ _ _ _ _ (c .before .earliest-refusal .ensures) (c .if1 .left) in setup-checked _ _ (p .setup) .size)
+    (λ c κs. let p = unrefused _ _ _ _ _ (c .before .before .before .earliest-refusal .ensures) (c .before .before .if1 .left) in (sheet-checked _ (p .sheet), (p .right, rw (c .before .per-day .ensures) (p .possible))))
     (λ c. search needs)
     returns-2)

@@ -4,13 +4,11 @@ use Rattle.call_earliest.specs.Forms.Table.{blockIn}
 use Rattle.call_earliest.proofs.members.block_in.Statement.{statement}
 use Rattle.call_earliest.proofs.members.block_in.Tie as tie
 
-returns : tie.Need-returns
-unfolding blockIn
-returns c = rw (sym (c .before .before .has .ensures) ∙ c .before .if1 .taken) (c .earliest-block .ensures .is)
-
-returns-2 : tie.Need-returns-2
-unfolding blockIn
-returns-2 c = rw (sym (c .before .has .ensures) ∙ c .if1 .left)
-
 pub block-in-spec : {M : Type 1} → statement M
-block-in-spec = tie.close (tie.spec (λ c κs. search needs) (λ c κs. search needs) returns returns-2)
+unfolding blockIn
+block-in-spec =
+    tie.close
+    (tie.spec
+    (λ c κs. search needs) (λ c κs. search needs)
+    (λ c. rw (sym (c .before .before .has .ensures) ∙ c .before .if1 .taken) (c .earliest-block .ensures .is))
+    (λ c. rw (sym (c .before .has .ensures) ∙ c .if1 .left)))

@@ -11,24 +11,15 @@ Inv-loop sheet mask n found₀ t₀ found t = (t ≤ n) × (found ≡ setBelow t
 abbrev μ-loop : tie.MeasureT-loop
 μ-loop sheet mask n found₀ t₀ found t = n - t
 
-loop-holds : tie.Need-loop-holds Inv-loop μ-loop
-loop-holds c = (search needs, set-start _)
-
-loop-again : tie.Need-loop-again Inv-loop μ-loop
-loop-again c = (search needs, set-more _ _ _ _ _ (c .before .before .before .loop .inv .1) (c .join .ensures) (c .before .is-planned .ensures))
-
-returns : tie.Need-returns Inv-loop μ-loop
-unfolding members
-returns c = set-done _ _ _ _ (omega (arith, c .before .loop .inv .0, c .before .before .count .ensures .is)) (omega (arith, c .loop-test .left, c .before .before .count .ensures .is)) (c .before .loop .inv .1)
-
 pub members-spec : {M : Type 1} → statement M
+unfolding members
 members-spec =
     tie.close
     (tie.spec
     Inv-loop
     μ-loop
     (λ c κs. search needs)
-    loop-holds
+    (λ c. (search needs, set-start _))
     (λ c κs. search needs) (λ c κs. search needs) (λ c. search needs) (λ c. search needs)
-    loop-again
-    returns)
+    (λ c. (search needs, set-more _ _ _ _ _ (c .before .before .before .loop .inv .1) (c .join .ensures) (c .before .is-planned .ensures)))
+    (λ c. set-done _ _ _ _ (omega (arith, c .before .loop .inv .0, c .before .before .count .ensures .is)) (omega (arith, c .loop-test .left, c .before .before .count .ensures .is)) (c .before .loop .inv .1)))
