@@ -49,11 +49,8 @@ loop-again c =
     let wrote = pair-written (k .args .sheet .now) (k .args .per-day) (k .args .base) (i .t) _ _ (c5 .lock-time .ensures) (c4 .sequence .ensures) in
     turn-more _ _ _ _ _ _ _ 8 (i .inv) (c6 .loop-test .taken) (sym (field-length (k .args .sheet .now) (k .args .per-day) (k .args .base) (i .t))) (rw wrote at (c .before .before .write-pair .ensures))
 
-returns : tie.Need-returns Inv-loop μ-loop
-unfolding timelockBytes
-returns c = rw (← (c .before .before .count .ensures .is)) (turns-done _ _ _ _ _ _ (c .before .loop .inv) (c .loop-test .left) .is)
-
 pub write-fields-spec : {M : Type 1} → statement M
+unfolding timelockBytes
 write-fields-spec =
     tie.close
     (tie.spec
@@ -71,4 +68,4 @@ write-fields-spec =
     (λ c. search needs) (λ c. search needs)
     loop-again
     (λ c. c .before .loop .inv .wrote .long)
-    returns)
+    (λ c. rw (← (c .before .before .count .ensures .is)) (turns-done _ _ _ _ _ _ (c .before .loop .inv) (c .loop-test .left) .is)))
