@@ -6,12 +6,9 @@ use borrow.Author.Needs.{needs}
 use Rattle.call_ask.proofs.ask.step_number.Statement.{statement}
 use Rattle.call_ask.proofs.ask.step_number.Tie as tie
 
-returns : tie.Need-returns
-returns c = number-other _ _ _ _ (c .if1 .taken)
-
 returns-2 : tie.Need-returns-2
 unfolding stepAt stepOf
 returns-2 c = rw (c .step-at .ensures) (number-four _ _ _ _ (c .before .if1 .left))
 
 pub step-number-spec : {M : Type 1} → statement M
-step-number-spec = tie.close (tie.spec returns (λ c κs. search needs) returns-2)
+step-number-spec = tie.close (tie.spec (λ c. number-other _ _ _ _ (c .if1 .taken)) (λ c κs. search needs) returns-2)
