@@ -11,24 +11,15 @@ Inv-loop sheet report n held₀ coin₀ held coin = (coin ≤ n) × (held ≡ re
 abbrev μ-loop : tie.MeasureT-loop
 μ-loop sheet report n held₀ coin₀ held coin = n - coin
 
-loop-holds : tie.Need-loop-holds Inv-loop μ-loop
-loop-holds c = (search needs, rewrite-start _ _)
-
-loop-again : tie.Need-loop-again Inv-loop μ-loop
-loop-again c = (search needs, rewrite-again _ _ _ _ 255 _ (c .before .before .loop .inv .1) (c .reported-holder .ensures))
-
-returns : tie.Need-returns Inv-loop μ-loop
-unfolding holders
-returns c = rewrite-done _ _ _ _ _ (omega (arith, c .before .loop .inv .0, c .before .before .count .ensures .is)) (omega (arith, c .loop-test .left, c .before .before .count .ensures .is)) (c .before .loop .inv .1)
-
 pub holders-by-spec : {M : Type 1} → statement M
+unfolding holders
 holders-by-spec =
     tie.close
     (tie.spec
     Inv-loop
     μ-loop
     (λ c κs. search needs)
-    loop-holds
+    (λ c. (search needs, rewrite-start _ _))
     (λ c κs. search needs) (λ c. search needs) (λ c. search needs) (λ c. search needs)
-    loop-again
-    returns)
+    (λ c. (search needs, rewrite-again _ _ _ _ 255 _ (c .before .before .loop .inv .1) (c .reported-holder .ensures)))
+    (λ c. rewrite-done _ _ _ _ _ (omega (arith, c .before .loop .inv .0, c .before .before .count .ensures .is)) (omega (arith, c .loop-test .left, c .before .before .count .ensures .is)) (c .before .loop .inv .1)))

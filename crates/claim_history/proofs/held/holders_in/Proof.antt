@@ -11,24 +11,15 @@ Inv-loop position sheet n held₀ coin₀ held coin = (coin ≤ n) × (held ≡ 
 abbrev μ-loop : tie.MeasureT-loop
 μ-loop position sheet n held₀ coin₀ held coin = n - coin
 
-loop-holds : tie.Need-loop-holds Inv-loop μ-loop
-loop-holds c = (search needs, rewrite-start _ _)
-
-loop-again : tie.Need-loop-again Inv-loop μ-loop
-loop-again c = (search needs, rewrite-again _ _ _ _ 255 _ (c .before .before .loop .inv .1) (c .holder-in .ensures))
-
-returns : tie.Need-returns Inv-loop μ-loop
-unfolding holders
-returns c = rewrite-done _ _ _ _ _ (omega (arith, c .before .loop .inv .0, c .before .before .count .ensures .is)) (omega (arith, c .loop-test .left, c .before .before .count .ensures .is)) (c .before .loop .inv .1)
-
 pub holders-in-spec : {M : Type 1} → statement M
+unfolding holders
 holders-in-spec =
     tie.close
     (tie.spec
     Inv-loop
     μ-loop
     (λ c κs. search needs)
-    loop-holds
+    (λ c. (search needs, rewrite-start _ _))
     (λ c κs. search needs) (λ c. search needs) (λ c. search needs) (λ c. search needs)
-    loop-again
-    returns)
+    (λ c. (search needs, rewrite-again _ _ _ _ 255 _ (c .before .before .loop .inv .1) (c .holder-in .ensures)))
+    (λ c. rewrite-done _ _ _ _ _ (omega (arith, c .before .loop .inv .0, c .before .before .count .ensures .is)) (omega (arith, c .loop-test .left, c .before .before .count .ensures .is)) (c .before .loop .inv .1)))

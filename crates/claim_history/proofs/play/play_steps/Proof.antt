@@ -10,19 +10,10 @@ Inv-loop sheet setup steps n played₀ k₀ played k = Playing sheet setup steps
 abbrev μ-loop : tie.MeasureT-loop
 μ-loop sheet setup steps n played₀ k₀ played k = n - k
 
-loop-holds : tie.Need-loop-holds Inv-loop μ-loop
-loop-holds c = playing-start _ _ _ _ (c .start .ensures)
-
 play-one-requires : tie.Need-play-one-requires Inv-loop μ-loop
 play-one-requires c κs =
     let p = c .before .before .before .before .before .before .pre in
     (p, (omega (arith, c .loop-test .taken), omega (arith, c .before .loop .inv .low)))
-
-loop-again : tie.Need-loop-again Inv-loop μ-loop
-loop-again c = playing-more _ _ _ _ _ _ (c .before .before .loop .inv) (omega (arith, c .before .loop-test .taken)) (c .play-one .ensures)
-
-returns : tie.Need-returns Inv-loop μ-loop
-returns c = playing-done _ _ _ _ _ (c .before .loop .inv) (omega (arith, c .loop-test .left))
 
 pub play-steps-spec : {M : Type 1} → statement M
 play-steps-spec =
@@ -31,9 +22,9 @@ play-steps-spec =
     Inv-loop
     μ-loop
     (λ c κs. search needs)
-    loop-holds
+    (λ c. playing-start _ _ _ _ (c .start .ensures))
     (λ c. search needs)
     play-one-requires
     (λ c. search needs) (λ c. search needs)
-    loop-again
-    returns)
+    (λ c. playing-more _ _ _ _ _ _ (c .before .before .loop .inv) (omega (arith, c .before .loop-test .taken)) (c .play-one .ensures))
+    (λ c. playing-done _ _ _ _ _ (c .before .loop .inv) (omega (arith, c .loop-test .left))))

@@ -11,18 +11,6 @@ Inv-loop sheet setup steps out₀ n here₀ at₀ k₀ out here at k = Writing (
 abbrev μ-loop : tie.MeasureT-loop
 μ-loop sheet setup steps out₀ n here₀ at₀ k₀ out here at k = n - k
 
-loop-holds : tie.Need-loop-holds Inv-loop μ-loop
-loop-holds c = writing-start _ _ _ _ (bytes-start _ _ _ _ (c .start .ensures)) (c .before .before .before .before .before .pre .1)
-
-step-at-requires : tie.Need-step-at-requires Inv-loop μ-loop
-step-at-requires c κs = let p = c .before .before .before .before .before .before .before .pre in (p .0, omega (arith, c .loop-test .taken))
-
-sub-write-taken : tie.Need-sub-write-taken Inv-loop μ-loop
-sub-write-taken c = omega (arith, c .before .before .before .loop .inv .wrote)
-
-part-write-taken-start : tie.Need-part-write-taken-start Inv-loop μ-loop
-part-write-taken-start c = omega (arith, c .before .before .before .loop .inv .wrote)
-
 write-taken-requires : tie.Need-write-taken-requires Inv-loop μ-loop
 write-taken-requires c κs =
     let t = c .before .before .before .loop-test .taken in
@@ -41,12 +29,6 @@ loop-again c =
     let e = bytes-turn _ _ _ _ _ _ (omega (arith, k .before .loop-test .taken)) (k .step-at .ensures) in
     writing-more (k .before .before .loop .inv) _ _ e _ _ (w .0) (w .1)
 
-same-length : tie.Need-same-length Inv-loop μ-loop
-same-length c = c .before .loop .inv .wrote .long
-
-returns : tie.Need-returns Inv-loop μ-loop
-returns c = writing-done (c .before .loop .inv) (bytes-none _ _ _ _ _ (omega (arith, c .loop-test .left))) .is
-
 pub write-accepted-spec : {M : Type 1} → statement M
 write-accepted-spec =
     tie.close
@@ -54,16 +36,16 @@ write-accepted-spec =
     Inv-loop
     μ-loop
     (λ c κs. search needs)
-    loop-holds
+    (λ c. writing-start _ _ _ _ (bytes-start _ _ _ _ (c .start .ensures)) (c .before .before .before .before .before .pre .1))
     (λ c. search needs)
-    step-at-requires
+    (λ c κs. let p = c .before .before .before .before .before .before .before .pre in (p .0, omega (arith, c .loop-test .taken)))
     (λ c. search needs)
-    sub-write-taken
-    part-write-taken-start
+    (λ c. omega (arith, c .before .before .before .loop .inv .wrote))
+    (λ c. omega (arith, c .before .before .before .loop .inv .wrote))
     (λ c. search needs)
     write-taken-requires
     add-at
     (λ c. search needs) (λ c. search needs)
     loop-again
-    same-length
-    returns)
+    (λ c. c .before .loop .inv .wrote .long)
+    (λ c. writing-done (c .before .loop .inv) (bytes-none _ _ _ _ _ (omega (arith, c .loop-test .left))) .is))
