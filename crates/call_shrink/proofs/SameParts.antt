@@ -5,9 +5,10 @@ use Rattle.position.proofs.Rules.{Slot}
 use Rattle.position.specs.declared.Position.{Position}
 use lib.Seq.{ext-getD}
 
-slot-parts : (x y : Slot) → x .pool ≡ y .pool → x .block ≡ y .block → x .confirmed ≡ y .confirmed → x .«alice_made» ≡ y .«alice_made» → x .«bob_made» ≡ y .«bob_made»
-    → x .«carol_made» ≡ y .«carol_made» → x .alice ≡ y .alice → x .bob ≡ y .bob → x .carol ≡ y .carol → x .contract ≡ y .contract → x .height ≡ y .height
-    → _≡_ {A = Slot} (record {
+-- the parts of a slot put together again
+abbrev whole : Slot → Slot
+whole x =
+    record {
       pool = x .pool;
       block = x .block;
       confirmed = x .confirmed;
@@ -19,32 +20,16 @@ slot-parts : (x y : Slot) → x .pool ≡ y .pool → x .block ≡ y .block → 
       carol = x .carol;
       contract = x .contract;
       height = x .height;
-    })
-    (record {
-      pool = y .pool;
-      block = y .block;
-      confirmed = y .confirmed;
-      «alice_made» = y .«alice_made»;
-      «bob_made» = y .«bob_made»;
-      «carol_made» = y .«carol_made»;
-      alice = y .alice;
-      bob = y .bob;
-      carol = y .carol;
-      contract = y .contract;
-      height = y .height;
-    })
-slot-parts x y a b c d e f g h i j k = rw (a, b, c, d, e, f, g, h, i, j, k) refl
+    }
 
 pub slots-same : (x y : Slot) → x .pool ≡ y .pool → x .block ≡ y .block → x .confirmed ≡ y .confirmed → x .«alice_made» ≡ y .«alice_made» → x .«bob_made» ≡ y .«bob_made»
     → x .«carol_made» ≡ y .«carol_made» → x .alice ≡ y .alice → x .bob ≡ y .bob → x .carol ≡ y .carol → x .contract ≡ y .contract → x .height ≡ y .height → x ≡ y
-slots-same x y a b c d e f g h i j k = slot-parts x y a b c d e f g h i j k
-
-position-parts : (p q : Position) → p .mined ≡ q .mined → p .keys ≡ q .keys → p .slots ≡ q .slots
-    → _≡_ {A = Position} (record { slots = p .slots; mined = p .mined; keys = p .keys }) (record { slots = q .slots; mined = q .mined; keys = q .keys })
-position-parts p q a b c = rw (a, b, c) refl
+slots-same x y a b c d e f g h i j k = let same : whole x ≡ whole y = rw (a, b, c, d, e, f, g, h, i, j, k) refl in same
 
 pub positions-same : (p q : Position) → p .mined ≡ q .mined → p .keys ≡ q .keys → p .slots ≡ q .slots → p ≡ q
-positions-same p q a b c = position-parts p q a b c
+positions-same p q a b c =
+    let same : _≡_ {A = Position} (record { slots = p .slots; mined = p .mined; keys = p .keys }) (record { slots = q .slots; mined = q .mined; keys = q .keys }) = rw (a, b, c) refl in
+    same
 
 -- two lists agree below k
 unfoldable pub Agree : {A : Type 0} → List A → List A → A → ℕ → Type 0

@@ -5,9 +5,6 @@ use Rattle.call_shrink.proofs.Answering.{calls-pass, calls-short, answe
 use Rattle.call_shrink.proofs.shrink.Statement.{statement}
 use Rattle.call_shrink.proofs.shrink.Tie as tie
 
-returns : tie.Need-returns
-returns c = answer-long _ _ _ _ _ (c .before .long-refusal .ensures) (c .if1 .taken)
-
 run-from-requires : tie.Need-run-from-requires
 run-from-requires c κs =
     let z = sym (c .before .before .long-refusal .ensures) ∙ c .before .if1 .left in
@@ -31,23 +28,10 @@ write-shrunk-requires c κs =
     let c6 = c .before .before .before .before .before .before in let c7 = c .before .before .before .before .before .before .before in
     let c8 = c .before .before .before .before .before .before .before .before in
     let z = sym (c8 .long-refusal .ensures) ∙ c7 .if1 .left in
-    let l = row-length _ _ _ (sym (c8 .long-refusal .ensures) ∙ c7 .if1 .left) _ (c6 .start .ensures) _ (c5 .run-from .ensures) (c3 .if2 .left) in (
-      call-fit _ _ _ (calls-pass _ _ _ z),
-      (
-        omega (
-          arith,
-          l,
-          calls-short _ _ _ z,
-          row-fits _ _ _
-              (sym (c8 .long-refusal .ensures) ∙ c7 .if1 .left) _ (c6 .start .ensures) _ (c5 .run-from .ensures) (c3 .if2 .left),
-        ),
-        (
-          omega (arith, l),
-          row-still _ _ _ (sym (c8 .long-refusal .ensures) ∙ c7 .if1 .left) _ (c6 .start .ensures) _ (c5 .run-from .ensures)
-              (c3 .if2 .left),
-        ),
-      ),
-    )
+    let l = row-length _ _ _ z _ (c6 .start .ensures) _ (c5 .run-from .ensures) (c3 .if2 .left) in
+    let f = row-fits _ _ _ z _ (c6 .start .ensures) _ (c5 .run-from .ensures) (c3 .if2 .left) in
+    let s = row-still _ _ _ z _ (c6 .start .ensures) _ (c5 .run-from .ensures) (c3 .if2 .left) in
+    (call-fit _ _ _ (calls-pass _ _ _ z), (omega (arith, l, calls-short _ _ _ z, f), (omega (arith, l), s)))
 
 returns-3 : tie.Need-returns-3
 returns-3 c =
@@ -63,7 +47,7 @@ shrink-spec =
     tie.close
     (tie.spec
     (λ c κs. search needs)
-    returns
+    (λ c. answer-long _ _ _ _ _ (c .before .long-refusal .ensures) (c .if1 .taken))
     (λ c κs. search needs)
     run-from-requires
     returns-2

@@ -5,17 +5,6 @@ use Rattle.call_shrink.specs.Forms.Round.{sameStep}
 use Rattle.call_shrink.proofs.round.again.Statement.{statement}
 use Rattle.call_shrink.proofs.round.again.Tie as tie
 
-sub-before : tie.Need-sub-before
-sub-before c = c .before .pre .1 (c .if1 .left)
-
-returns-2 : tie.Need-returns-2
-unfolding sameStep stepAt
-returns-2 c = rw (c .before .before .before .if1 .left, ne-eqb _ _ (c .if2 .taken))
-
-returns-3 : tie.Need-returns-3
-unfolding sameStep stepAt
-returns-3 c = rw (c .before .before .before .before .before .before .if1 .left, eq-eqb _ _ (c .before .before .before .if2 .left), ne-eqb _ _ (c .if3 .taken))
-
 returns-4 : tie.Need-returns-4
 unfolding sameStep stepAt
 returns-4 c =
@@ -31,15 +20,16 @@ returns-5 c =
     rw (c11 .if1 .left, eq-eqb _ _ (c8 .if2 .left), eq-eqb _ _ (c5 .if3 .left), eq-eqb _ _ (c .before .before .if4 .left))
 
 pub again-spec : {M : Type 1} → statement M
+unfolding sameStep stepAt
 again-spec =
     tie.close
     (tie.spec
     (λ c. search needs)
-    sub-before
+    (λ c. c .before .pre .1 (c .if1 .left))
     (λ c. search needs) (λ c. search needs)
-    returns-2
+    (λ c. rw (c .before .before .before .if1 .left, ne-eqb _ _ (c .if2 .taken)))
     (λ c. search needs) (λ c. search needs) (λ c. search needs) (λ c. search needs)
-    returns-3
+    (λ c. rw (c .before .before .before .before .before .before .if1 .left, eq-eqb _ _ (c .before .before .before .if2 .left), ne-eqb _ _ (c .if3 .taken)))
     (λ c. search needs) (λ c. search needs) (λ c. search needs) (λ c. search needs)
     returns-4
     (λ c. search needs) (λ c. search needs) (λ c. search needs) (λ c. search needs)

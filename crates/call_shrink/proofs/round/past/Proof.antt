@@ -4,13 +4,6 @@ use borrow.Author.Needs.{needs}
 use Rattle.call_shrink.proofs.round.past.Statement.{statement}
 use Rattle.call_shrink.proofs.round.past.Tie as tie
 
-returns : tie.Need-returns
-unfolding positionPast
-returns c = rw (c .if1 .taken)
-
-returns-2 : tie.Need-returns-2
-unfolding positionPast
-returns-2 c = rw (c .before .before .if1 .left, c .before .step-at .ensures)
-
 pub past-spec : {M : Type 1} → statement M
-past-spec = tie.close (tie.spec returns (λ c κs. search needs) returns-2)
+unfolding positionPast
+past-spec = tie.close (tie.spec (λ c. rw (c .if1 .taken)) (λ c κs. search needs) (λ c. rw (c .before .before .if1 .left, c .before .step-at .ensures)))

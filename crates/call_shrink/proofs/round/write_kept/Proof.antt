@@ -5,18 +5,12 @@ use borrow.Author.Needs.{needs}
 use Rattle.call_shrink.proofs.round.write_kept.Statement.{statement}
 use Rattle.call_shrink.proofs.round.write_kept.Tie as tie
 
-write-step-requires : tie.Need-write-step-requires
-write-step-requires c κs = let a = c .before .before .before .before .before .before .before .args in rw (kept-bytes (now (a .steps)) (a .i) (a .going)) (c .before .before .before .before .before .before .before .pre .1)
-
-returns : tie.Need-returns
-returns c = let a = c .before .before .before .before .before .before .before .before .before .before .args in rw (← (kept-bytes (now (a .steps)) (a .i) (a .going))) (c .before .before .write-step .ensures)
-
 pub write-kept-spec : {M : Type 1} → statement M
 write-kept-spec =
     tie.close
     (tie.spec
     (λ c. search needs) (λ c. search needs) (λ c. search needs) (λ c. search needs) (λ c. search needs) (λ c. search needs)
     (λ c. search needs)
-    write-step-requires
+    (λ c κs. let a = c .before .before .before .before .before .before .before .args in rw (kept-bytes (now (a .steps)) (a .i) (a .going)) (c .before .before .before .before .before .before .before .pre .1))
     (λ c. search needs)
-    returns)
+    (λ c. let a = c .before .before .before .before .before .before .before .before .before .before .args in rw (← (kept-bytes (now (a .steps)) (a .i) (a .going))) (c .before .before .write-step .ensures)))

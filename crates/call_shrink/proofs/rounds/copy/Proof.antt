@@ -10,23 +10,14 @@ Inv-loop from out₀ n i₀ out i = Copied from out₀ out i
 abbrev μ-loop : tie.MeasureT-loop
 μ-loop from out₀ n i₀ out i = n - i
 
-loop-holds : tie.Need-loop-holds Inv-loop μ-loop
-loop-holds c = copied-none _ _
-
-loop-again : tie.Need-loop-again Inv-loop μ-loop
-loop-again c = copied-more _ _ _ _ _ (c .before .before .loop .inv) (c .before .loop-test .taken) refl
-
-returns : tie.Need-returns Inv-loop μ-loop
-returns c = copied-all _ _ _ _ (c .before .loop .inv) (c .loop-test .left)
-
 pub copy-spec : {M : Type 1} → statement M
 copy-spec =
     tie.close
     (tie.spec
     Inv-loop
     μ-loop
-    loop-holds
+    (λ c. copied-none _ _)
     (λ c. search needs) (λ c. search needs) (λ c. search needs) (λ c. search needs)
-    loop-again
+    (λ c. copied-more _ _ _ _ _ (c .before .before .loop .inv) (c .before .loop-test .taken) refl)
     (λ c. search needs)
-    returns)
+    (λ c. copied-all _ _ _ _ (c .before .loop .inv) (c .loop-test .left)))

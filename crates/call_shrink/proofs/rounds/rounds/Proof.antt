@@ -12,9 +12,6 @@ Inv-loop sheet setup number n part₀ spare₀ left₀ part spare left = Going s
 abbrev μ-loop : tie.MeasureT-loop
 μ-loop sheet setup number n part₀ spare₀ left₀ part spare left = left
 
-slice-aggregate-write-round : tie.Need-slice-aggregate-write-round Inv-loop μ-loop
-slice-aggregate-write-round c = sym (front-length _ _ _ _ _ _ _ _ _ (c .before .loop .inv))
-
 write-round-requires : tie.Need-write-round-requires Inv-loop μ-loop
 write-round-requires c κs =
     let p = c .before .before .before .before .before .before .before .pre in
@@ -22,16 +19,10 @@ write-round-requires c κs =
     let l = front-length _ _ _ _ _ _ _ _ _ g in
     (p .0, (omega (arith, l, g .few), (omega (arith, l, g .fits, g .room), g .still)))
 
-returns : tie.Need-returns Inv-loop μ-loop
-returns c = going-done _ _ _ _ _ _ _ _ _ (c .before .before .before .before .before .before .loop .inv) _ _ (c .before .before .before .write-round .ensures .0) (c .before .before .before .write-round .ensures .1) (c .if1 .taken)
-
 mul-size : tie.Need-mul-size Inv-loop μ-loop
 mul-size c =
     let c3 = c .before .before .before in let c6 = c .before .before .before .before .before .before in
     record { fits = omega (arith, c6 .loop .inv .few, going-less _ _ _ _ _ _ _ _ _ (c6 .loop .inv) _ _ (c3 .write-round .ensures .0) (c3 .write-round .ensures .1) (c .if1 .left)) }
-
-slice-reshare-prefix-copy : tie.Need-slice-reshare-prefix-copy Inv-loop μ-loop
-slice-reshare-prefix-copy c = kept-fits _ _ _ _ _ _ _ _ _ (c .before .before .before .before .before .before .loop .inv) _ _ (c .before .before .before .write-round .ensures .0) (c .before .before .before .write-round .ensures .1)
 
 slice-aggregate-copy : tie.Need-slice-aggregate-copy Inv-loop μ-loop
 slice-aggregate-copy c =
@@ -68,12 +59,12 @@ rounds-spec =
     Inv-loop
     μ-loop
     (λ c. search needs) (λ c. search needs) (λ c. search needs)
-    slice-aggregate-write-round
+    (λ c. sym (front-length _ _ _ _ _ _ _ _ _ (c .before .loop .inv)))
     write-round-requires
     (λ c. search needs) (λ c. search needs)
-    returns
+    (λ c. going-done _ _ _ _ _ _ _ _ _ (c .before .before .before .before .before .before .loop .inv) _ _ (c .before .before .before .write-round .ensures .0) (c .before .before .before .write-round .ensures .1) (c .if1 .taken))
     mul-size
-    slice-reshare-prefix-copy
+    (λ c. kept-fits _ _ _ _ _ _ _ _ _ (c .before .before .before .before .before .before .loop .inv) _ _ (c .before .before .before .write-round .ensures .0) (c .before .before .before .write-round .ensures .1))
     slice-aggregate-copy
     copy-requires
     loop-less

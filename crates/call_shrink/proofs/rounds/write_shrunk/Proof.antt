@@ -1,5 +1,5 @@
 -- The row copied, shrunk, and written where it fits.
-use Rattle.laws.proofs.Prelude.{sym, needs, arith}
+use Rattle.laws.proofs.Prelude.{_≤_, sym, needs, arith}
 use Rattle.call_shrink.proofs.Answering.{row-copied, left-few, left-long, left-short, left-written}
 use Rattle.call_shrink.proofs.rounds.write_shrunk.Statement.{statement}
 use Rattle.call_shrink.proofs.rounds.write_shrunk.Tie as tie
@@ -11,30 +11,17 @@ rounds-requires c κs =
     let e = row-copied (c9 .args .row .now) _ _ (c9 .pre .1 .1 .0) (omega (arith, c9 .pre .1 .0)) (c3 .copy .ensures) in
     (p .0, (omega (arith, p .1 .0), (search needs, (search needs, rw e (p .1 .1 .1)))))
 
-mul-end : tie.Need-mul-end
-mul-end c =
-    let c6 = c .before .before .before .before .before .before in
-    let c12 = c .before .before .before .before .before .before .before .before .before .before .before .before in
-    record {
-      fits = omega (
-        arith,
-        left-few _ _ _ (c12 .args .row .now) _ _ _ (c12 .pre .1 .0)
-            (row-copied (c12 .args .row .now) _ _ (c12 .pre .1 .1 .0) (omega (arith, c12 .pre .1 .0)) (c6 .copy .ensures))
-            (c .before .before .rounds .ensures),
-      );
-    }
+few : (c : tie.After-rounds) → c .rounds .result ≤ 1024
+few c =
+    let a = c .before .before .before .before .before .before .before .before .before .before in
+    left-few _ _ _ (a .args .row .now) _ _ _ (a .pre .1 .0)
+    (row-copied (a .args .row .now) _ _ (a .pre .1 .1 .0) (omega (arith, a .pre .1 .0)) (c .before .before .before .before .copy .ensures)) (c .rounds .ensures)
 
 returns : tie.Need-returns
 returns c =
     let c3 = c .before .before .before in let c7 = c .before .before .before .before .before .before .before in
     let c13 = c .before .before .before .before .before .before .before .before .before .before .before .before .before in
     left-short _ _ _ (c13 .args .row .now) _ _ _ (c13 .pre .1 .0) (row-copied (c13 .args .row .now) _ _ (c13 .pre .1 .1 .0) (omega (arith, c13 .pre .1 .0)) (c7 .copy .ensures)) (c3 .rounds .ensures) _ (c .if1 .taken)
-
-array-share-prefix-part : tie.Need-array-share-prefix-part
-array-share-prefix-part c =
-    let c3 = c .before .before .before in let c7 = c .before .before .before .before .before .before .before in
-    let c13 = c .before .before .before .before .before .before .before .before .before .before .before .before .before in
-    omega (arith, left-few _ _ _ (c13 .args .row .now) _ _ _ (c13 .pre .1 .0) (row-copied (c13 .args .row .now) _ _ (c13 .pre .1 .1 .0) (omega (arith, c13 .pre .1 .0)) (c7 .copy .ensures)) (c3 .rounds .ensures))
 
 slice-aggregate-copy-2 : tie.Need-slice-aggregate-copy-2
 slice-aggregate-copy-2 c =
@@ -54,13 +41,6 @@ copy-requires-2 c κs =
       c .before .before .if1 .left,
     )
 
-cast-t24 : tie.Need-cast-t24
-cast-t24 c =
-    let c8 = c .before .before .before .before .before .before .before .before in
-    let c12 = c .before .before .before .before .before .before .before .before .before .before .before .before in
-    let c18 = c .before .before .before .before .before .before .before .before .before .before .before .before .before .before .before .before .before .before in
-    omega (arith, left-few _ _ _ (c18 .args .row .now) _ _ _ (c18 .pre .1 .0) (row-copied (c18 .args .row .now) _ _ (c18 .pre .1 .1 .0) (omega (arith, c18 .pre .1 .0)) (c12 .copy .ensures)) (c8 .rounds .ensures))
-
 returns-2 : tie.Need-returns-2
 returns-2 c =
     let c5 = c .before .before .before .before .before in let c8 = c .before .before .before .before .before .before .before .before in
@@ -75,11 +55,11 @@ write-shrunk-spec =
     (tie.spec
     (λ c. search needs) (λ c κs. search needs) (λ c. search needs) (λ c. search needs)
     rounds-requires
-    mul-end
+    (λ c. record { fits = omega (arith, few (c .before .before)) })
     returns
-    array-share-prefix-part
+    (λ c. omega (arith, few (c .before .before .before)))
     slice-aggregate-copy-2
     copy-requires-2
-    cast-t24
+    (λ c. omega (arith, few (c .before .before .before .before .before .before .before .before)))
     (λ c. search needs)
     returns-2)

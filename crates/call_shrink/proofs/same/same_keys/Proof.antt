@@ -10,25 +10,15 @@ Inv-loop p q k₀ k = (k ≤ 6) × Agree p q 0 k
 abbrev μ-loop : tie.MeasureT-loop
 μ-loop p q k₀ k = 6 - k
 
-loop-holds : tie.Need-loop-holds Inv-loop μ-loop
-loop-holds c = (search needs, agree-start _ _ _)
-
-loop-again : tie.Need-loop-again Inv-loop μ-loop
-loop-again c =
-    (search needs, agree-more _ _ _ _ (c .before .before .loop .inv .1) (c .if1 .left))
-
-returns-2 : tie.Need-returns-2 Inv-loop μ-loop
-returns-2 c = λ e. agree-all _ _ _ _ 6 (c .before .loop .inv .1) (search needs) (search needs) (c .loop-test .left)
-
 pub same-keys-spec : {M : Type 1} → statement M
 same-keys-spec =
     tie.close
     (tie.spec
     Inv-loop
     μ-loop
-    loop-holds
+    (λ c. (search needs, agree-start _ _ _))
     (λ c. search needs) (λ c. search needs)
     (λ c e. clash e refl)
     (λ c. search needs) (λ c. search needs)
-    loop-again
-    returns-2)
+    (λ c. (search needs, agree-more _ _ _ _ (c .before .before .loop .inv .1) (c .if1 .left)))
+    (λ c. λ e. agree-all _ _ _ _ 6 (c .before .loop .inv .1) (search needs) (search needs) (c .loop-test .left)))

@@ -11,25 +11,15 @@ Inv-loop p q k₀ k = (k ≤ 32) × Agree p q emptySlot k
 abbrev μ-loop : tie.MeasureT-loop
 μ-loop p q k₀ k = 32 - k
 
-loop-holds : tie.Need-loop-holds Inv-loop μ-loop
-loop-holds c = (search needs, agree-start _ _ _)
-
-loop-again : tie.Need-loop-again Inv-loop μ-loop
-loop-again c =
-    (search needs, agree-more _ _ _ _ (c .before .before .before .before .before .loop .inv .1) (c .before .same-slot .ensures (not-false _ (c .if1 .left))))
-
-returns-2 : tie.Need-returns-2 Inv-loop μ-loop
-returns-2 c = λ e. agree-all _ _ _ _ 32 (c .before .loop .inv .1) (search (length-of-map, c .before .before .good)) (search (length-of-map, c .before .before .good)) (c .loop-test .left)
-
 pub same-slots-spec : {M : Type 1} → statement M
 same-slots-spec =
     tie.close
     (tie.spec
     Inv-loop
     μ-loop
-    loop-holds
+    (λ c. (search needs, agree-start _ _ _))
     (λ c. search needs) (λ c. search needs) (λ c. search needs) (λ c. search needs) (λ c κs. search needs)
     (λ c e. clash e refl)
     (λ c. search needs) (λ c. search needs)
-    loop-again
-    returns-2)
+    (λ c. (search needs, agree-more _ _ _ _ (c .before .before .before .before .before .loop .inv .1) (c .before .same-slot .ensures (not-false _ (c .if1 .left)))))
+    (λ c. λ e. agree-all _ _ _ _ 32 (c .before .loop .inv .1) (search (length-of-map, c .before .before .good)) (search (length-of-map, c .before .before .good)) (c .loop-test .left)))
