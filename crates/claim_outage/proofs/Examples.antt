@@ -1,9 +1,9 @@
 -- Soonest deadlines and verdicts on the SASwap sheet, computed.
 -- Assumes nothing.
-use Rattle.laws.proofs.Prelude.{ℕ, zero, suc, _≤_, _<_, _≡_, refl, Bool, true, false, not, _&&_, false≢true, List, [], _∷_, _++_, inl, inr, leb, replicate, le-leb, arith}
+use Rattle.laws.proofs.Prelude.{ℕ, zero, suc, _≤_, _<_, _≡_, refl, Bool, true, false, not, _&&_, _||_, false≢true, List, [], _∷_, _++_, inl, inr, eqb, leb, replicate, eqb-true, le-leb, arith}
 use Rattle.laws.proofs.Prelude.{true≢false, some, All, empty, also, allBelow, all-at, clash}
 use Rattle.position.proofs.Rules.{count, opening, sheetRefusal, setupRefusal, saswap, never, contract, conflict, invalidated, Entry, inOrder, ledger, lockA, lockB}
-use Rattle.position.proofs.Rules.{success, revoke, refund2, timeout, spendRevoke, inPool, isConfirmed, lockHeightIn, deadlineIn, FourBytes, journalSteps, run}
+use Rattle.position.proofs.Rules.{success, refund1, revoke, refund2, timeout, spendRevoke, spendB, alice, bob, inPool, poolTo, isConfirmed, lockHeightIn, deadlineIn, FourBytes, journalSteps, run}
 use Rattle.position.specs.declared.Position.{Position}
 use Rattle.position.proofs.Rules.{play}
 use Rattle.slots.proofs.Conflicts.{conflict-opening}
@@ -12,7 +12,7 @@ use Rattle.soonest.specs.Soonest.{greater, lockAt, soonestOver, soonestBlock, s
 use Rattle.call_outage.specs.Verdict.{soonestBlockIn, soonestDeadlineIn, isSettled, isSafe, isCovered, isPassed, exposed, verdict, payeesBelow, blockFrom, outageRow, outageBytes}
 use Rattle.call_outage.specs.Answer.{outageAnswer}
 use Rattle.claim_ledger.specs.Claim.{positionOf}
-use Rattle.claim_outage.specs.Claim.{Fixed, NoneLater, Fate, waits, done, ousted, Reached, Overtaken, Promise, clear, settled, safe, covered, passed, late}
+use Rattle.claim_outage.specs.Claim.{Fixed, NoneLater, Fate, waits, done, replaced, ousted, Reached, Overtaken, Promise, clear, settled, safe, covered, passed, late}
 use Rattle.claim_outage.proofs.Theorems.{foresight, planner}
 
 unfoldable judged : Unit {0}
@@ -155,13 +155,13 @@ unfolding judged mines
 one-later f = let z : 7 ≤ 6 = f timeout (omega arith) refl refl in omega arith
 
 -- the three fates: revoke waits in the pool; timeout is confirmed; below revoke spend_revoke, which has no lock, ousts timeout
-pub fate-waits : Fate (saswap 1) quiet (sent quiet) revoke
+pub fate-waits : Fate (saswap 1) quiet (sent quiet) revoke contract
 unfolding judged mines
-fate-waits = waits refl (omega arith)
+fate-waits = waits refl refl (omega arith)
 
-pub fate-done : Fate (saswap 1) careful lost timeout
+pub fate-done : Fate (saswap 1) careful lost timeout contract
 unfolding judged mines
-fate-done = done refl
+fate-done = done refl refl
 
 abbrev paid : Position
 paid =
@@ -169,26 +169,51 @@ paid =
     (confirmed 0 0 ++ (2 ∷ 0 ∷ 0 ∷ 1 ∷ mines 3) ++ (3 ∷ 1 ∷ 4 ∷ 2 ∷ 3 ∷ 1 ∷ 12 ∷ 1 ∷ 5 ∷ 2 ∷ 4 ∷ 2 ∷ 5 ∷ 2 ∷ 12 ∷ 2 ∷ mines 1))
     .position
 
-pub fate-ousted : Fate (saswap 1) quiet paid timeout
+pub fate-ousted : Fate (saswap 1) quiet paid timeout contract
 unfolding judged mines
-fate-ousted = ousted spendRevoke (omega arith) refl refl (omega arith)
+fate-ousted = ousted spendRevoke (omega arith) (λ e. omega (arith, e)) refl refl (omega arith)
 
 -- none of them is refund_2's where timeout, locked later, is confirmed
 unfoldable outs : List ℕ → List ℕ → Position → ℕ → ℕ → Bool
 outs s u q t r = conflict s r t && (isConfirmed q r && leb (lockHeightIn s u q r) (lockHeightIn s u q t))
 
-no-fate : (s u : List ℕ) (q : Position) (t : ℕ) → inPool q t ≡ false → isConfirmed q t ≡ false → allBelow (count s) (λ r. not (outs s u q t r)) ≡ true → Fate s u q t → ⊥
+no-fate : (s u : List ℕ) (q : Position) (t to : ℕ) → inPool q t ≡ false → isConfirmed q t ≡ false → allBelow (count s) (λ r. not (outs s u q t r)) ≡ true → Fate s u q t to → ⊥
 unfolding outs
-no-fate s u q t p c n (waits i m) = clash i p
-no-fate s u q t p c n (done d) = clash d c
-no-fate s u q t p c n (ousted r l x f h) =
+no-fate s u q t to p c n (waits i e m) = clash i p
+no-fate s u q t to p c n (done d e) = clash d c
+no-fate s u q t to p c n (replaced z d e) = clash d c
+no-fate s u q t to p c n (ousted r l other x f h) =
     let z = all-at (count s) (λ r. not (outs s u q t r)) n r l in
     let y : false ≡ true = rw (x, f, le-leb (lockHeightIn s u q r) (lockHeightIn s u q t) h) at z in
     false≢true y
 
-pub no-fate-left : Fate (saswap 1) careful lost refund2 → ⊥
+pub no-fate-left : Fate (saswap 1) careful lost refund2 contract → ⊥
 unfolding judged mines outs allBelow
-no-fate-left = no-fate (saswap 1) careful lost refund2 refl refl refl
+no-fate-left = no-fate (saswap 1) careful lost refund2 contract refl refl refl
+
+-- a fate names the payee: spend_B, which Bob sent, is confirmed for him and not for Alice
+abbrev threeADay : List ℕ
+threeADay = 3 ∷ 0 ∷ 2 ∷ 0 ∷ []
+
+abbrev spent : Position
+spent = run (saswap 3) threeADay (locked ++ mines 1 ++ confirmed 0 refund1 ++ (3 ∷ 1 ∷ 8 ∷ 1 ∷ 5 ∷ 2 ∷ 8 ∷ 2 ∷ mines 1)) .position
+
+pub fate-bob : Fate (saswap 3) threeADay spent spendB bob
+unfolding judged mines
+fate-bob = done refl refl
+
+only-rival : allBelow 15 (λ r. not (conflict (saswap 3) r spendB) || eqb r spendB) ≡ true
+unfolding judged allBelow
+only-rival = refl
+
+pub fate-not-alice : Fate (saswap 3) threeADay spent spendB alice → ⊥
+unfolding judged mines
+fate-not-alice (waits i e m) = false≢true i
+fate-not-alice (done d e) = let y : _≡_ {A = ℕ} 1 0 = e in omega arith
+fate-not-alice (replaced z d e) = let y : _≡_ {A = ℕ} 0 1 = z in omega arith
+fate-not-alice (ousted r l other x f h) =
+    let z = all-at 15 (λ r. not (conflict (saswap 3) r spendB) || eqb r spendB) only-rival r l in
+    other (eqb-true r spendB (rw x at z))
 
 -- the entries so far, and those by which refund_2 is reached in block 7 and overtaken in block 8
 abbrev entry : ℕ → ℕ → Entry
@@ -306,7 +331,7 @@ pub not-safe : Promise (saswap 1) careful fourDays 2 refund2 2 → ⊥
 unfolding judged mines outs allBelow
 not-safe (safe e f) =
     let next = journalSteps (confirmed 1 revoke ++ mines 2 ++ confirmed 1 timeout) in
-    no-fate (saswap 1) careful (play (saswap 1) careful next fourDays) refund2 refl refl refl (f next)
+    no-fate (saswap 1) careful (play (saswap 1) careful next fourDays) refund2 (poolTo fourDays refund2) refl refl refl (f next)
 
 -- 8 and 12 of success, whose deadline is passed, by the setup's stealth; 4 of none such, and 8 and 12 of none before its deadline
 pub promise-passed : Promise (saswap 1) quiet (sent quiet) 0 success 8

@@ -2,6 +2,7 @@ pub mod Chain
 pub mod Sandwich
 pub mod Play
 pub mod Between
+pub mod Pools
 pub mod Pool
 pub mod Entries
 pub mod Reach

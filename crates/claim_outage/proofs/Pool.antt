@@ -2,8 +2,8 @@
 -- Assumes nothing.
 use Rattle.laws.proofs.Prelude.{ℕ, _+_, _≤_, _<_, _≡_, refl, sym, ap, _∙_, true, false, not, false≢true, List, [], _∷_, _⊎_, inl, inr, eqb, ltb, eqb-true, eqb-false}
 use Rattle.laws.proofs.Prelude.{ltb-true, ltb-false, not-true, arith, split, either, clash, and-parts, or-parts, or-neither}
-use Rattle.position.proofs.Rules.{count, parent, opening, lockHeight, sheetRefusal, perDay, setupRefusal, Checked, Step, Share, Give, SendToPool, HandToMiner, Include}
-use Rattle.position.proofs.Rules.{Mine, Bump, destinationNumber, conflict, meetsOther, start, inPool, inBlock, isConfirmed, blockOf, lockHeightIn, deadlineIn}
+use Rattle.position.proofs.Rules.{count, parent, opening, lockHeight, sheetRefusal, perDay, stealth, setupRefusal, Checked, Step, Share, Give, SendToPool, HandToMiner, Include}
+use Rattle.position.proofs.Rules.{Mine, Bump, destinationNumber, conflict, meetsOther, start, inPool, poolTo, inBlock, blockTo, isConfirmed, confirmedTo, blockOf, lockHeightIn, deadlineIn}
 use Rattle.position.specs.declared.Position.{Position}
 use Rattle.position.proofs.Rules.{fieldsRight, anyOwed, stepRefusal, leavesPool, afterMine, effect, FourBytes, step, play}
 use Rattle.sheet.proofs.Theorems.{sheet-checked, setup-checked}
@@ -16,14 +16,15 @@ use Rattle.position.proofs.StepCases.{StepCase, taken, turned-down, step-case}
 use Rattle.position.proofs.Starts.{start-slot}
 use Rattle.step_laws.proofs.AfterShares.{share-pool, give-pool}
 use Rattle.step_laws.proofs.AfterSends.{send-pool, hand-pool, include-pool}
-use Rattle.step_laws.proofs.AfterBlocks.{none-stands, mine-blocks, mine-pool, mine-mined, bump-pool}
+use Rattle.step_laws.proofs.AfterBlocks.{none-stands, mine-blocks, mine-to, mine-pool, mine-pool-to, mine-mined, bump-pool}
 use Rattle.step_laws.proofs.Sending.{sent-to-pool, before-deadline}
 use Rattle.step_laws.proofs.Quiet.{Quiet, lasting}
 use Rattle.claim_ledger.proofs.Sound.{Sound}
 use Rattle.claim_ledger.proofs.PoolLeft.{mined-confirmed}
 use Rattle.claim_ledger.proofs.Standing.{Stands, met-at, not-owed}
 use Rattle.claim_ledger.proofs.SoundSteps.{sound-step}
-use Rattle.claim_outage.specs.Claim.{Fate, waits, done, ousted}
+use Rattle.claim_outage.specs.Claim.{Fate, waits, done, replaced, ousted}
+use Rattle.claim_outage.proofs.Pools.{PoolIn, Pooled, pool-in, to-play, pooled-play}
 use Rattle.soonest.specs.Soonest.{lockAt}
 use Rattle.soonest.proofs.Locks.{lock-is, rival-lock, lock-after, lock-reached}
 use Rattle.soonest.proofs.Deadlines.{deadline-le, deadline-from}
@@ -168,64 +169,87 @@ module _ (s u : List ℕ) (ok : Checked s) (p : Position) (g : Sound s u p) wher
         absurd (omega arith))
         (λ y. ltb-false (lockHeight s (perDay u) (blockOf p) t) (lockHeight s (perDay u) (blockOf p) k) y)
 
-    fate-mine : LaterIn s p mined → Early s u mined → (t : ℕ) → t < count s → inPool p t ≡ true → Stands s p t → Fate s u mined t
+    -- an entry of t in the mined block: for its destination, or handed in for another
+    fate-block : stealth u ≤ 1 → Pooled s u p → (t : ℕ) → t < count s → inBlock p t ≡ true → Fate s u mined t (poolTo p t)
+    fate-block flag in-pool t l b =
+        let c = mined-confirmed s u ok p g t b in
+        let to : confirmedTo mined t ≡ blockTo p t = rw (mine-to s p (wide s u ok p g) (g .beyond), b) in
+        split (eqb (blockTo p t) (poolTo p t))
+        (λ y. done c (to ∙ eqb-true (blockTo p t) (poolTo p t) y))
+        (λ y.
+        let other = eqb-false (blockTo p t) (poolTo p t) y in
+        split (eqb (stealth u) 0)
+        (λ z. absurd (other (sym (in-pool (eqb-true (stealth u) 0 z) t l b .1))))
+        (λ z. replaced (omega (arith, eqb-false (stealth u) 0 z, flag)) c (λ e. other (sym to ∙ e))))
+
+    fate-mine : stealth u ≤ 1 → Pooled s u p → LaterIn s p mined → Early s u mined → (t : ℕ) → t < count s → inPool p t ≡ true → Stands s p t → Fate s u mined t (poolTo p t)
     unfolding leavesPool
-    fate-mine later after t l i at =
+    fate-mine flag in-pool later after t l i at =
         split (inBlock p t)
-        (λ b. done (mined-confirmed s u ok p g t b))
+        (fate-block flag in-pool t l)
         (λ b.
         split (meetsOther s (inBlock p) t)
         (λ h.
         let w = other-find s (inBlock p) t h in
         let c = met-at s u ok p g (w .2) l at (w .1) (w .3) (w .4) (w .5) in
-        ousted (w .1) (w .3) c (mined-confirmed s u ok p g (w .1) (w .5)) (no-later-on s u ok p mined later t l at (w .1) c (ousted-by t l i (w .1) (w .3) c (w .5))))
+        ousted (w .1) (w .3) (λ e. clash (rw e at (w .5)) b) c (mined-confirmed s u ok p g (w .1) (w .5)) (no-later-on s u ok p mined later t l at (w .1) c (ousted-by t l i (w .1) (w .3) c (w .5))))
         (λ h.
         let j : inPool mined t ≡ true = rw (mine-pool s p (wide s u ok p g) (g .beyond), i, b, h) in
-        waits j (after t l j)))
+        waits j (mine-pool-to s p (wide s u ok p g) (g .beyond) t (rw (b, h))) (after t l j)))
+
+    -- without a mined block an entry keeps its destination
+    quiet-in : (x : Step) → fieldsRight s u x ≡ true → stepRefusal s u p x ≡ 0 → Quiet p (effect s p x) → PoolIn p (effect s p x)
+    quiet-in x f r y =
+        either (pool-in s u ok p g x f r)
+        (λ z. z)
+        (λ e. absurd (omega (arith, mine-mined s p (wide s u ok p g) (g .beyond), rw e at (y .mined))))
 
     abbrev Next : Position → Type 0
-    Next q = Early s u q × ((t : ℕ) → t < count s → inPool p t ≡ true → Stands s p t → Fate s u q t)
+    Next q = Early s u q × (Pooled s u p → (t : ℕ) → t < count s → inPool p t ≡ true → Stands s p t → Fate s u q t (poolTo p t))
 
-    next-case : 0 < perDay u → (b : FourBytes) → LaterIn s p (step s u p b .position) → StepCase s u p b → Next (step s u p b .position)
-    next-case day b later (taken x d f r e) =
+    next-case : 0 < perDay u → stealth u ≤ 1 → (b : FourBytes) → LaterIn s p (step s u p b .position) → StepCase s u p b → Next (step s u p b .position)
+    next-case day flag b later (taken x d f r e) =
         rw e
         (either (lasting s u p (wide s u ok p g) (g .beyond) x f r)
         (λ y.
         let a = early-quiet x f r y in
-        (a, λ t l i at. let j = y .pool t i in waits j (a t l j)))
+        (a, λ w t l i at. let j = quiet-in x f r y t i in waits (j .0) (j .1) (a t l (j .0))))
         (λ y.
         let z : LaterIn s p mined = rw (e, y .0) at later in
         let a = early-mine day z (y .1) in
-        rw (y .0) (a, fate-mine z a)))
-    next-case day b later (turned-down n m e) = rw e (early, λ t l i at. waits i (early t l i))
+        rw (y .0) (a, λ w. fate-mine flag w z a)))
+    next-case day flag b later (turned-down n m e) = rw e (early, λ w t l i at. waits i refl (early t l i))
 
 -- a fate lasts through what comes later, but for an entry that waits
-fate-on : (s u : List ℕ) (ok : Checked s) (q r : Position) (t : ℕ) → t < count s → Stands s q t → LaterIn s q r
-    → (inPool q t ≡ true → Fate s u r t) → Fate s u q t → Fate s u r t
-fate-on s u ok q r t l at later f (waits i h) = f i
-fate-on s u ok q r t l at later f (done h) = done (confirmed-on s u ok q r later t l at t l h)
-fate-on s u ok q r t l at later f (ousted k lk c h n) =
-    ousted k lk c (confirmed-on s u ok q r later t l at k lk h) (no-later-on s u ok q r later t l at k c n)
+fate-on : (s u : List ℕ) (ok : Checked s) (q r : Position) (t to : ℕ) → t < count s → Stands s q t → LaterIn s q r
+    → (isConfirmed q t ≡ true → confirmedTo r t ≡ confirmedTo q t) → (inPool q t ≡ true → poolTo q t ≡ to → Fate s u r t to) → Fate s u q t to → Fate s u r t to
+fate-on s u ok q r t to l at later same f (waits i e h) = f i e
+fate-on s u ok q r t to l at later same f (done h e) = done (confirmed-on s u ok q r later t l at t l h) (same h ∙ e)
+fate-on s u ok q r t to l at later same f (replaced z h n) = replaced z (confirmed-on s u ok q r later t l at t l h) (λ e. n (sym (same h) ∙ e))
+fate-on s u ok q r t to l at later same f (ousted k lk other c h n) =
+    ousted k lk other c (confirmed-on s u ok q r later t l at k lk h) (no-later-on s u ok q r later t l at k c n)
 
 module _ (s u : List ℕ) (h : sheetRefusal s ≡ 0) (k : setupRefusal s u ≡ 0) where
   next-step : (p : Position) (b : FourBytes) (g : Sound s u p) (e : Early s u p) → Next s u (sheet-checked s h) p g e (step s u p b .position)
-  next-step p b g e = next-case s u (sheet-checked s h) p g e (setup-checked s u k .blocks-some) b (later-step s u h k p b g) (step-case s u p b)
+  next-step p b g e = next-case s u (sheet-checked s h) p g e (setup-checked s u k .blocks-some) (setup-checked s u k .stealth-flag) b (later-step s u h k p b g) (step-case s u p b)
 
   pub early-play : (bs : List FourBytes) (p : Position) → Sound s u p → Early s u p → Early s u (play s u bs p)
   unfolding play
   early-play [] p g e = e
   early-play (b ∷ bs) p g e = early-play bs (step s u p b .position) (sound-step s u h k p b g) (next-step p b g e .0)
 
-  pub fate-play : (bs : List FourBytes) (p : Position) → Sound s u p → Early s u p → (t : ℕ) → t < count s → inPool p t ≡ true → Stands s p t → Fate s u (play s u bs p) t
-  unfolding play
-  fate-play [] p g e t l i at = waits i (e t l i)
-  fate-play (b ∷ bs) p g e t l i at =
+  pub fate-play : (bs : List FourBytes) (p : Position) → Sound s u p → Early s u p → Pooled s u p → (t : ℕ) → t < count s → inPool p t ≡ true → Stands s p t
+      → Fate s u (play s u bs p) t (poolTo p t)
+  unfolding play isConfirmed
+  fate-play [] p g e in-pool t l i at = waits i refl (e t l i)
+  fate-play (b ∷ bs) p g e in-pool t l i at =
       let ok = sheet-checked s h in
       let q = step s u p b .position in
       let w = next-step p b g e in
       let o = sound-step s u h k p b g in
       let on = stands-on s u ok p q (later-step s u h k p b g) t l at in
-      fate-on s u ok q (play s u bs q) t l on (later-play s u h k bs q o) (λ j. fate-play bs q o (w .0) t l j on) (w .1 t l i at)
+      fate-on s u ok q (play s u bs q) t (poolTo p t) l on (later-play s u h k bs q o) (λ c. to-play s u h k bs q o t l (ltb-true 0 (blockOf q t) c))
+      (λ j z. rw (← z) (fate-play bs q o (w .0) (pooled-play s u h k (b ∷ []) p g in-pool) t l j on)) (w .1 in-pool t l i at)
 
 start-pool : (s : List ℕ) (t : ℕ) → inPool (start s) t ≡ false
 unfolding inPool

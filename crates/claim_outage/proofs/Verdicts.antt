@@ -11,6 +11,7 @@ use Rattle.call_outage.specs.Verdict.{soonestDeadlineIn, isSettled, isSafe, isC
 use Rattle.claim_outage.specs.Claim.{NoneLater, Promise, clear, settled, safe, covered, passed, late}
 use Rattle.claim_outage.proofs.Between.{below, any-list}
 use Rattle.claim_ledger.proofs.Standing.{Stands}
+use Rattle.claim_outage.proofs.Pools.{Pooled}
 use Rattle.claim_outage.proofs.Pool.{Early, fate-play}
 
 -- in the pool, and the parent is confirmed or there is none
@@ -20,7 +21,8 @@ safe-parts s p t h =
     let w = and-parts (inPool p t) (hasParent s (isConfirmed p) t) h in
     (w .0, either (or-parts (opening s t) (isConfirmed p (parent s t)) (w .1)) inl (λ y. inr (ltb-true 0 (blockOf p (parent s t)) y)))
 
-module _ (s u : List ℕ) (h : sheetRefusal s ≡ accepted) (k : setupRefusal s u ≡ accepted) (p : Position) (g : Sound s u p) (e : Early s u p) (blocks t : ℕ) (l : t < count s) where
+module _ (s u : List ℕ) (h : sheetRefusal s ≡ accepted) (k : setupRefusal s u ≡ accepted) (p : Position) (g : Sound s u p) (e : Early s u p)
+    (in-pool : Pooled s u p) (blocks t : ℕ) (l : t < count s) where
   abbrev D : ℕ
   D = soonestDeadlineIn s u p t
 
@@ -59,5 +61,5 @@ module _ (s u : List ℕ) (h : sheetRefusal s ≡ accepted) (k : setupRefusal s 
       (λ n.
       rw n
       (split (isSafe s p t)
-      (λ y. let w = safe-parts s p t y in rw y (safe n (λ next. fate-play s u h k next p g e t l (w .0) (w .1))))
+      (λ y. let w = safe-parts s p t y in rw y (safe n (λ next. fate-play s u h k next p g e in-pool t l (w .0) (w .1))))
       (λ y. rw y (by-deadline n))))

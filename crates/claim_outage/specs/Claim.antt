@@ -18,7 +18,7 @@ use Rattle.ledger.specs.Entry.{Entry, inOrder}
 use Rattle.ledger.specs.Coin.{coinOf}
 use Rattle.ledger.specs.Ledger.{lockFrom, ledger}
 use Rattle.position.specs.declared.Position.{Position}
-use Rattle.position.specs.Position.{inPool, isConfirmed, blockOf, lockHeightIn, deadlineIn}
+use Rattle.position.specs.Position.{inPool, poolTo, isConfirmed, confirmedTo, blockOf, lockHeightIn, deadlineIn}
 use Rattle.position.specs.Play.{FourBytes, run, play}
 use Rattle.claim_ledger.specs.Claim.{entriesOf, positionOf}
 use Rattle.soonest.specs.Soonest.{soonestParent}
@@ -51,11 +51,14 @@ pub record Between (s u : List ℕ) (p q : Position) (t : ℕ) : Type 0 where
       → soonestDeadlineIn s u p t + 1 ≤ blockOf q r
   pub none-until : q .mined ≤ soonestDeadlineIn s u p t → NoneLater s u q t
 
--- what has become of a pool entry for t: it waits, before its deadline; it is confirmed; or a rival locked no later is
-pub data Fate (s u : List ℕ) (q : Position) (t : ℕ) : Type 0 where
-  waits : inPool q t ≡ true → q .mined < deadlineIn s u q t → Fate s u q t
-  done : isConfirmed q t ≡ true → Fate s u q t
-  ousted : (r : ℕ) → r < count s → conflict s r t ≡ true → isConfirmed q r ≡ true → lockHeightIn s u q r ≤ lockHeightIn s u q t → Fate s u q t
+-- what has become of a pool entry of t that goes to a destination: it waits, before its deadline; it is confirmed for that destination; with
+-- stealth, t is confirmed for another, who handed it in; or another rival, locked no later, is confirmed
+pub data Fate (s u : List ℕ) (q : Position) (t to : ℕ) : Type 0 where
+  waits : inPool q t ≡ true → poolTo q t ≡ to → q .mined < deadlineIn s u q t → Fate s u q t to
+  done : isConfirmed q t ≡ true → confirmedTo q t ≡ to → Fate s u q t to
+  replaced : stealth u ≡ 1 → isConfirmed q t ≡ true → (confirmedTo q t ≡ to → ⊥) → Fate s u q t to
+  ousted : (r : ℕ) → r < count s → (r ≡ t → ⊥) → conflict s r t ≡ true → isConfirmed q r ≡ true → lockHeightIn s u q r ≤ lockHeightIn s u q t
+      → Fate s u q t to
 
 -- more entries, in blocks not mined yet, that the plain ledger takes in order behind those of a list, the last kept one of t's coin
 -- being t's, in its soonest block
@@ -91,7 +94,7 @@ pub record Foreseen (s u : List ℕ) (now next : List FourBytes) : Type 0 where
   -- a pool entry is before its deadline; where that stands, it stays or is confirmed unless a rival locked no later is
   pub early : (t : ℕ) → t < count s → inPool (positionOf s u now) t ≡ true → positionOf s u now .mined < deadlineIn s u (positionOf s u now) t
   pub pool : (t : ℕ) → t < count s → inPool (positionOf s u now) t ≡ true → Fixed s (positionOf s u now) t
-      → Fate s u (play s u next (positionOf s u now)) t
+      → Fate s u (play s u next (positionOf s u now)) t (poolTo (positionOf s u now) t)
   -- the soonest block is reached at the plain ledger, for t neither confirmed nor dead
   pub reached : (t : ℕ) → t < count s → isConfirmed (positionOf s u now) t ≡ false → invalidated s (isConfirmed (positionOf s u now)) t ≡ false
       → Reached s u now t
@@ -115,8 +118,9 @@ pub data Promise (s u : List ℕ) (p : Position) (blocks t : ℕ) : ℕ → Type
       → NoneLater s u (play s u next p) t × (play s u next p .mined < deadlineIn s u (play s u next p) t))
       → Promise s u p blocks t 0
   settled : isSettled s p t ≡ true → Promise s u p blocks t 1
-  -- 2: whatever list of steps follows, it waits, is confirmed, or gives way to a rival locked no later
-  safe : isSettled s p t ≡ false → ((next : List FourBytes) → Fate s u (play s u next p) t) → Promise s u p blocks t 2
+  -- 2: whatever list of steps follows, it waits, is confirmed for whom it pays now, or gives way: to a rival locked no later, or with stealth
+  -- to a hand-in of t for another
+  safe : isSettled s p t ≡ false → ((next : List FourBytes) → Fate s u (play s u next p) t (poolTo p t)) → Promise s u p blocks t 2
   covered : isSettled s p t ≡ false → p .mined < soonestDeadlineIn s u p t → soonestDeadlineIn s u p t ≤ p .mined + blocks → Promise s u p blocks t 4
   -- passed: without stealth no hand-in is left to lose; with it, any outage risks one
   passed : isSettled s p t ≡ false → soonestDeadlineIn s u p t ≤ p .mined → stealth u ≡ 0 → Promise s u p blocks t 8

@@ -32,7 +32,7 @@ use Rattle.slack.specs.Beaten.{fixed}
 use Rattle.slack.proofs.Onward.{soonestAbove, secretsShown}
 use Rattle.slack.proofs.Ahead.{Linked, Pending, Came, Ahead}
 use Rattle.claim_slack.proofs.Secrets.{secrets-stay, mined-secrets}
-use Rattle.claim_slack.proofs.Pools.{PoolIn, Pooled, pool-in, mine-in}
+use Rattle.claim_outage.proofs.Pools.{PoolIn, Pooled, pool-in, mine-in}
 use Rattle.claim_slack.proofs.Fewer.{fewer, fewer-elsewhere, block-comes, block-elsewhere}
 
 module _ (s u : List ℕ) (p : Position) where

@@ -14,7 +14,7 @@ use Rattle.slack.proofs.Falling as fall
 use Rattle.slack.proofs.Keeping.{keeping}
 use Rattle.slack.proofs.Greatest.{greatest-passes, greatest-most}
 use Rattle.claim_slack.specs.Claim.{Falling, Stays, Slack}
-use Rattle.claim_slack.proofs.Pools.{Pooled, pooled-start, pooled-play}
+use Rattle.claim_outage.proofs.Pools.{Pooled, pooled-start, pooled-play}
 use Rattle.claim_slack.proofs.Onwards.{onward}
 
 module _ (s u : List ℕ) (h : sheetRefusal s ≡ 0) (k : setupRefusal s u ≡ 0) (x : ℕ) (who : isParty s x ≡ true) where

@@ -1,9 +1,9 @@
--- Pool entries: they keep their destination while they stand, and without stealth the block being filled is of pool entries.
+-- Entries keep their destination while they stand, in the pool or confirmed, and without stealth the block being filled is of pool entries.
 -- Assumes nothing.
 use Rattle.laws.proofs.Prelude.{ℕ, _<_, _≡_, refl, sym, _∙_, true, false, not, _&&_, _||_, false≢true, List, [], _∷_, _⊎_, inl, inr, eqb, ltb, length, eqb-true, ltb-true}
 use Rattle.laws.proofs.Prelude.{not-true, arith, split, either, clash, and-parts, or-parts, or-neither, passed}
 use Rattle.position.proofs.Rules.{count, sheetRefusal, setupRefusal, stealth, Checked, Step, Share, Give, SendToPool, HandToMiner, Include, Mine, Bump, miner, contract}
-use Rattle.position.proofs.Rules.{destinationNumber, meetsConflict, invalidated, start, inPool, poolTo, inBlock, blockTo, isConfirmed, sent, fieldsRight}
+use Rattle.position.proofs.Rules.{destinationNumber, meetsConflict, invalidated, start, inPool, poolTo, inBlock, blockTo, blockOf, isConfirmed, confirmedTo, sent, fieldsRight}
 use Rattle.position.specs.declared.Position.{Position}
 use Rattle.position.proofs.Rules.{enters, sendTests, poolTests, minerTests, includeTests, stepRefusal, afterShare, afterGive, afterSend, leavesPool, afterMine, afterBump}
 use Rattle.position.proofs.Rules.{effect, FourBytes, step, play}
@@ -12,15 +12,16 @@ use Rattle.slots.proofs.Conflicts.{conflict-self, no-conflict}
 use Rattle.position.specs.StepRefusal.{tests}
 use Rattle.position.proofs.Starts.{start-slot}
 use Rattle.position.proofs.StepCases.{StepCase, taken, turned-down, step-case}
-use Rattle.step_laws.proofs.Untouched.{SamePool, SameBlock}
-use Rattle.step_laws.proofs.AfterShares.{share-pool, share-block, give-pool, give-block}
-use Rattle.step_laws.proofs.AfterSends.{send-pool, send-to, send-block, hand-pool, include-block, include-to, include-pool}
-use Rattle.step_laws.proofs.AfterBlocks.{none-stands, mine-block, mine-pool, mine-pool-to, bump-block, bump-to-entered, bump-to-kept, bump-pool, enters-in}
+use Rattle.step_laws.proofs.Untouched.{SamePool, SameBlock, SameConfirmed}
+use Rattle.step_laws.proofs.AfterShares.{share-pool, share-block, share-confirmed, give-pool, give-block, give-confirmed}
+use Rattle.step_laws.proofs.AfterSends.{send-pool, send-to, send-block, send-confirmed, hand-pool, hand-confirmed, include-block, include-to, include-pool, include-confirmed}
+use Rattle.step_laws.proofs.AfterBlocks.{none-stands, mine-to, mine-block, mine-pool, mine-pool-to, bump-block, bump-to-entered, bump-to-kept, bump-pool, bump-confirmed, enters-in}
 use Rattle.step_laws.proofs.Sending.{sent-to-pool}
 use Rattle.claim_ledger.proofs.Sound.{Sound}
 use Rattle.claim_ledger.proofs.EachKind.{wide}
 use Rattle.claim_ledger.proofs.PoolLeft.{mined-confirmed, left-by}
 use Rattle.claim_ledger.proofs.SoundSteps.{sound-step}
+use Rattle.claim_outage.proofs.Play.{later-step}
 
 -- each entry of p's pool is one of q's
 abbrev pub PoolIn : Position → Position → Type 0
@@ -82,6 +83,27 @@ module _ (s u : List ℕ) (ok : Checked s) (p : Position) (g : Sound s u p) wher
       either (or-parts (inBlock p t) false b) (λ z. clash (mined-confirmed s u ok p g t z) c) (λ z. absurd (false≢true z))) in
       let w = and-parts (inPool p t) (not (leavesPool s (inBlock p) t)) (rw (mine-pool s p (wide s u ok p g) (g .beyond)) at there) in
       (there, mine-pool-to s p (wide s u ok p g) (g .beyond) t (not-true (leavesPool s (inBlock p) t) (w .1)))
+
+  -- every step keeps what is confirmed, and for whom
+  same-chain : (y : Step) → fieldsRight s u y ≡ true → stepRefusal s u p y ≡ 0 → SameConfirmed p (effect s p y) ⊎ (effect s p y ≡ afterMine s p)
+  unfolding effect
+  same-chain (Share party t to) f r = inl (share-confirmed s party t (destinationNumber to) p)
+  same-chain (Give party i to) f r = inl (give-confirmed i (destinationNumber to) p)
+  same-chain (SendToPool party t to) f r = inl (send-confirmed s t (destinationNumber to) p)
+  same-chain (HandToMiner party t to) f r = inl (hand-confirmed t (destinationNumber to) p)
+  same-chain (Include party t to) f r = inl (include-confirmed t p)
+  same-chain (Mine party t to) f r = inr refl
+  same-chain (Bump party t to) f r = inl (bump-confirmed s p (wide s u ok p g) (g .beyond) t)
+
+  to-mined : (t : ℕ) → t < count s → 0 < blockOf p t → confirmedTo (afterMine s p) t ≡ confirmedTo p t
+  to-mined t l c =
+      split (inBlock p t)
+      (λ b. absurd (omega (arith, c, g .block .free t t l l b (conflict-self s t))))
+      (λ b. rw (mine-to s p (wide s u ok p g) (g .beyond), b))
+
+  to-case : (b : FourBytes) → StepCase s u p b → (t : ℕ) → t < count s → 0 < blockOf p t → confirmedTo (step s u p b .position) t ≡ confirmedTo p t
+  to-case b (taken y d f r e) t l c = rw e (either (same-chain y f r) (λ z. rw (z .to)) (λ z. rw z (to-mined t l c)))
+  to-case b (turned-down n m e) t l c = rw e
 
   module _ (e : stealth u ≡ 0) (in-pool : BlockIn s p p) where
     same-pooled : (q : Position) → PoolIn p q → SameBlock p q → BlockIn s q q
@@ -149,6 +171,15 @@ module _ (s u : List ℕ) (h : sheetRefusal s ≡ 0) (k : setupRefusal s u ≡ 0
   pooled-play [] p g w = w
   pooled-play (b ∷ bs) p g w =
       pooled-play bs (step s u p b .position) (sound-step s u h k p b g) (pooled-case s u (sheet-checked s h) p g w b (step-case s u p b))
+
+  -- what is confirmed stays so for whom it is
+  pub to-play : (bs : List FourBytes) (p : Position) → Sound s u p → (t : ℕ) → t < count s → 0 < blockOf p t → confirmedTo (play s u bs p) t ≡ confirmedTo p t
+  unfolding play
+  to-play [] p g t l c = refl
+  to-play (b ∷ bs) p g t l c =
+      let q = step s u p b .position in
+      let stays : 0 < blockOf q t = either (later-step s u h k p b g .blocks t l) (λ e. rw e c) (λ e. absurd (omega (arith, c, e .0))) in
+      to-play bs q (sound-step s u h k p b g) t l stays ∙ to-case s u (sheet-checked s h) p g b (step-case s u p b) t l c
 
 pub pooled-start : (s u : List ℕ) → Pooled s u (start s)
 unfolding inBlock
