@@ -4,6 +4,7 @@ pub mod Lacking
 pub mod Masks
 pub mod Parts
 pub mod Reaching
+pub mod Forgoing
 pub mod Reading
 pub mod Rounds
 pub mod Signing

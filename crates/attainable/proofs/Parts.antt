@@ -17,7 +17,7 @@ othersHave s p x members t d = senderMask (othersKeys s p x) (knownFrom s p memb
 pub data Way (s u : List ℕ) (p : Position) (x : ℕ) (also : ℕ → Bool) (members t d : ℕ) : Type 0 where
   waits : waitsFor p t d ≡ true → Way s u p x also members t d
   lent : also t ≡ true → sendsTo s x t d ≡ true → Way s u p x also members t d
-  signs : neverSent s u p t ≡ false → sharesTo s t d ≡ true → eqb d x ≡ false → signed s (othersHave s p x members t d) t ≡ true
+  signs : neverSent s u p x t ≡ false → sharesTo s t d ≡ true → eqb d x ≡ false → signed s (othersHave s p x members t d) t ≡ true
       → Way s u p x also members t d
 
 -- the parent is none, confirmed, or in the set
@@ -47,7 +47,7 @@ module _ (s u : List ℕ) (p : Position) (x : ℕ) (also : ℕ → Bool) (member
       or-right (opening s t) rest
       (either y (λ c. rw c) (λ b. or-right (isConfirmed p (parent s t)) (bit members (parent s t)) b)))
 
-  way-parts : (waitsFor p t d || ((also t && sendsTo s x t d) || (not (neverSent s u p t) && signable s p x members t d))) ≡ true
+  way-parts : (waitsFor p t d || ((also t && sendsTo s x t d) || (not (neverSent s u p x t) && signable s p x members t d))) ≡ true
       → Way s u p x also members t d
   unfolding signable
   way-parts h =
@@ -58,13 +58,13 @@ module _ (s u : List ℕ) (p : Position) (x : ℕ) (also : ℕ → Bool) (member
       either (or-parts (also t && sendsTo s x t d) _ y)
       (λ z. let w = and-parts (also t) (sendsTo s x t d) z in lent (w .0) (w .1))
       (λ z.
-      let a = and-parts (not (neverSent s u p t)) _ z in
+      let a = and-parts (not (neverSent s u p x t)) _ z in
       let b = and-parts (sharesTo s t d) apart (a .1) in
       let c = and-parts (not (eqb d x)) (signed s (othersHave s p x members t d) t) (b .1) in
-      signs (not-true (neverSent s u p t) (a .0)) (b .0) (not-true (eqb d x) (c .0)) (c .1)))
+      signs (not-true (neverSent s u p x t) (a .0)) (b .0) (not-true (eqb d x) (c .0)) (c .1)))
 
   way-from : Way s u p x also members t d
-      → (waitsFor p t d || ((also t && sendsTo s x t d) || (not (neverSent s u p t) && signable s p x members t d))) ≡ true
+      → (waitsFor p t d || ((also t && sendsTo s x t d) || (not (neverSent s u p x t) && signable s p x members t d))) ≡ true
   unfolding signable
   way-from (waits h) = rw h
   way-from (lent a b) = or-right (waitsFor p t d) _ (rw (a, b))

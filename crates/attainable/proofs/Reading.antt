@@ -41,7 +41,7 @@ module _ (s : List ℕ) (p : Position) (ok : Checked s) (v : View) (seen : v ≡
   unfolding othersKeys otherKeys keys keysIn viewBelow
   read-keys x r e = rw (e, seen)
 
-  pub read-lacks : (u : List ℕ) (x unsent held a d : ℕ) (table : List ℕ) → unsent ≡ setBelow (count s) (neverSent s u p)
+  pub read-lacks : (u : List ℕ) (x unsent held a d : ℕ) (table : List ℕ) → unsent ≡ setBelow (count s) (neverSent s u p x)
       → held ≡ unionBelow (parties s) (λ k. pick (eqb (partyAt k) x) 0 (keysIn v (partyAt k))) → a ≡ secrets s
       → Filled (λ t w. Lacks s (bit unsent t) x (bitOr (bitOr held (bitAnd a (v .shared))) (sharedFor (slot p t) d)) d t w) (count s) table
       → Filled (λ t w. OthersLack s u p x d t w) (count s) table
@@ -50,6 +50,6 @@ module _ (s : List ℕ) (p : Position) (ok : Checked s) (v : View) (seen : v ≡
       record {
         size = k .size;
         each = λ t l.
-            let never : bit unsent t ≡ neverSent s u p t = rw e (set-bit (count s) (neverSent s u p) (ok .sized .few) t l) in
+            let never : bit unsent t ≡ neverSent s u p x t = rw e (set-bit (count s) (neverSent s u p x) (ok .sized .few) t l) in
             rw (← never, ← (read-keys x held h), ← (read-secrets a f)) (k .each t l);
       }

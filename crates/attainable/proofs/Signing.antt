@@ -17,7 +17,7 @@ shownOf s members = unionBelow (count s) (shownBy s members)
 
 -- the others sign t for d by a set
 pub record Signs (s u : List ℕ) (p : Position) (x members t d : ℕ) : Type 0 where
-  pub sent : neverSent s u p t ≡ false
+  pub sent : neverSent s u p x t ≡ false
   pub goes : sharesTo s t d ≡ true
   pub apart : eqb d x ≡ false
   pub enough : signed s (othersHave s p x members t d) t ≡ true
@@ -64,11 +64,11 @@ module _ (s u : List ℕ) (p : Position) (x members secrets t : ℕ) where
         → Signs s u p x members t d
     unfolding signed
     met-to d v k h y =
-        let a = and-parts (not (neverSent s u p t)) _ (sym (k .met secrets small) ∙ y) in
+        let a = and-parts (not (neverSent s u p x t)) _ (sym (k .met secrets small) ∙ y) in
         let b = and-parts (sharesTo s t d) _ (a .1) in
         let c = and-parts (not (eqb d x)) (signed s (bitOr (othersFor s p x d t) secrets) t) (b .1) in
         record {
-          sent = not-true (neverSent s u p t) (a .0);
+          sent = not-true (neverSent s u p x t) (a .0);
           goes = b .0;
           apart = not-true (eqb d x) (c .0);
           enough =

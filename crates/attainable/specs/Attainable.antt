@@ -13,13 +13,14 @@ use Rattle.laws.specs.Mask.{bit, unionBelow}
 use Rattle.laws.specs.Sets.{setBelow}
 use Rattle.sheet.specs.Field.{parties, partyAt, count, secrets}
 use Rattle.sheet.specs.Setup.{stealth}
-use Rattle.slots.specs.Destination.{destinations}
+use Rattle.slots.specs.Destination.{alice, bob, destinations}
 use Rattle.slots.specs.Slot.{sharedAny}
 use Rattle.slots.specs.Ancestry.{hasParent}
 use Rattle.slots.specs.Invalidated.{invalidated}
 use Rattle.slots.specs.Signatures.{sharedSecrets, senderMask, signed, exposedMask}
 use Rattle.position.specs.declared.Position.{Position}
 use Rattle.position.specs.Position.{slot, inPool, poolTo, inBlock, blockTo, isConfirmed, shared, keys, deadlineIn}
+use Rattle.position.specs.Conduct.{isCareful, safeToSend}
 use Rattle.steps.specs.Decode.{sendsTo, sharesTo}
 
 -- "Gone: confirmed or dead."
@@ -44,9 +45,18 @@ shownBy s members t = pick (bit members t) (secretsOf s t) 0
 unfoldable pub knownFrom : List ℕ → Position → ℕ → ℕ
 knownFrom s p members = bitOr (sharedSecrets s (λ k. sharedAny (slot p k))) (unionBelow (count s) (shownBy s members))
 
--- "Never sent by the others: without stealth, every transaction whose deadline is ≤ m", the blocks mined
-unfoldable pub neverSent : List ℕ → List ℕ → Position → ℕ → Bool
-neverSent s u p t = eqb (stealth u) 0 && leb (deadlineIn s u p t) (p .mined)
+-- "without stealth, every transaction whose deadline is ≤ m", the blocks mined
+unfoldable pub overdue : List ℕ → List ℕ → Position → ℕ → Bool
+overdue s u p t = eqb (stealth u) 0 && leb (deadlineIn s u p t) (p .mined)
+
+-- "under careful conduct, X being Bob: refund_1 once success has a shared entry, refund_2 once Alice holds secretBob": what a careful Alice
+-- no longer sends, by document 01's Conduct
+unfoldable pub forgone : List ℕ → List ℕ → Position → ℕ → Bool
+forgone s u p t = isCareful u && not (safeToSend s p alice t)
+
+-- "Never sent by the others": these, the second where X is Bob
+unfoldable pub neverSent : List ℕ → List ℕ → Position → ℕ → ℕ → Bool
+neverSent s u p x t = overdue s u p t || (eqb x bob && forgone s u p t)
 
 -- "t in pool, block": for this destination
 unfoldable pub waitsFor : Position → ℕ → ℕ → Bool
@@ -63,7 +73,7 @@ unfoldable pub comes : List ℕ → List ℕ → Position → ℕ → (ℕ → B
 comes s u p x also members t d =
     not (gone s p t)
     && (hasParent s (λ k. isConfirmed p k || bit members k) t
-    && (waitsFor p t d || ((also t && sendsTo s x t d) || (not (neverSent s u p t) && signable s p x members t d))))
+    && (waitsFor p t d || ((also t && sendsTo s x t d) || (not (neverSent s u p x t) && signable s p x members t d))))
 
 -- the transactions that come for some destination, where a mask tells the set so far
 unfoldable pub grown : List ℕ → List ℕ → Position → ℕ → (ℕ → Bool) → ℕ → ℕ

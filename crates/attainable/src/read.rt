@@ -9,7 +9,10 @@ use slots::conflict;
 use slots::lock_height;
 use slots::party;
 use slots::signatures;
+use steps::Guards;
 use steps::View;
+use steps::names::SECRET_BOB;
+use steps::names::SUCCESS;
 ghost use Prim.Native.Nat.{_<_};
 ghost use mathlib.Core.Path.{_≡_};
 ghost use mathlib.Core.Bool.{_||_};
@@ -23,11 +26,14 @@ ghost use Rattle.steps.specs.Forms.View.{keysIn};
 ghost use Rattle.readings.specs.Forms.Report.{deadIn};
 ghost use Rattle.position.specs.Position.{slot};
 ghost use Rattle.soonest.specs.Forms.Table.{Filled};
-ghost use Rattle.attainable.specs.Attainable.{secretsOf, neverSent};
-ghost use Rattle.attainable.specs.Forms.Others.{namesApart, waitsIn, sendsIn, Reads};
+ghost use Rattle.attainable.specs.Attainable.{secretsOf, overdue, forgone, neverSent};
+ghost use Rattle.attainable.specs.Forms.Others.{aliceGuards, namesApart, waitsIn, sendsIn, Reads};
 
 // No destination's number.
 const NOWHERE: u8 = 255;
+
+// Careful conduct.
+const CAREFUL: u8 = 2;
 
 // Whether t is confirmed or dead, where `conflicted` has those whose other rival is confirmed.
 fn is_gone(sheet: &[u8], confirmed: u32, conflicted: u32, t: usize) -> bool
@@ -56,11 +62,11 @@ fn gone(sheet: &[u8], confirmed: u32, conflicted: u32) -> u32
     found
 }
 
-// Whether the others never send t: without stealth, its deadline is passed.
-fn never_sent(position: Position, sheet: &[u8], setup: &[u8], t: usize) -> bool
+// Whether without stealth the deadline of t is passed.
+fn overdue(position: Position, sheet: &[u8], setup: &[u8], t: usize) -> bool
     requires { ⌜ Fit (now sheet) (now setup) ⌝ }
     requires { ⌜ t < count (now sheet) ⌝ }
-    ensures { λ r. ⌜ r ≡ neverSent (now (sheet .entry)) (now (setup .entry)) position t ⌝ }
+    ensures { λ r. ⌜ r ≡ overdue (now (sheet .entry)) (now (setup .entry)) position t ⌝ }
 {
     if sheet::setup::stealth(setup) != 0 {
         return false;
@@ -68,16 +74,60 @@ fn never_sent(position: Position, sheet: &[u8], setup: &[u8], t: usize) -> bool
     position.deadline_in(sheet, setup, t) <= lock_height::wide(position.mined)
 }
 
-// Those that the others never send.
-fn unsent(position: Position, sheet: &[u8], setup: &[u8]) -> u32
+// What a careful Alice asks before a send, in phase 3, where nothing else holds one back.
+fn alice_guards(position: Position) -> Guards
+    ensures { λ r. ⌜ r ≡ aliceGuards position ⌝ }
+{
+    let success = position.slots[SUCCESS];
+    Guards {
+        free: false,
+        careful: true,
+        phase: 3,
+        late: false,
+        refund: false,
+        unshared: success.contract == 0,
+        knows: signatures::has(position.keys(0), SECRET_BOB),
+        bob_has: 0,
+    }
+}
+
+// Whether a careful Alice no longer sends t.
+fn forgone(position: Position, sheet: &[u8], setup: &[u8], t: usize) -> bool
     requires { ⌜ Fit (now sheet) (now setup) ⌝ }
-    ensures { λ r. ⌜ r ≡ setBelow (count (now (sheet .entry))) (neverSent (now (sheet .entry)) (now (setup .entry)) position) ⌝ }
+    requires { ⌜ t < count (now sheet) ⌝ }
+    ensures { λ r. ⌜ r ≡ forgone (now (sheet .entry)) (now (setup .entry)) position t ⌝ }
+{
+    if sheet::setup::conduct(setup) != CAREFUL {
+        return false;
+    }
+    !alice_guards(position).send_allowed(sheet, 0, t)
+}
+
+// Whether the others never send t: it is overdue, or the party is Bob and a careful Alice no longer sends it.
+fn never_sent(position: Position, sheet: &[u8], setup: &[u8], party: u8, t: usize) -> bool
+    requires { ⌜ Fit (now sheet) (now setup) ⌝ }
+    requires { ⌜ t < count (now sheet) ⌝ }
+    ensures { λ r. ⌜ r ≡ neverSent (now (sheet .entry)) (now (setup .entry)) position party t ⌝ }
+{
+    if overdue(position, sheet, setup, t) {
+        return true;
+    }
+    if party != 1 {
+        return false;
+    }
+    forgone(position, sheet, setup, t)
+}
+
+// Those that the others never send.
+fn unsent(position: Position, sheet: &[u8], setup: &[u8], party: u8) -> u32
+    requires { ⌜ Fit (now sheet) (now setup) ⌝ }
+    ensures { λ r. ⌜ r ≡ setBelow (count (now (sheet .entry))) (neverSent (now (sheet .entry)) (now (setup .entry)) position party) ⌝ }
 {
     let n = sheet::field::count(sheet);
     let mut found: u32 = 0;
     let mut t: usize = 0;
     while t < n {
-        found = set::join(found, never_sent(position, sheet, setup, t), t);
+        found = set::join(found, never_sent(position, sheet, setup, party, t), t);
         t += 1;
     }
     found
@@ -205,7 +255,7 @@ pub fn read(position: Position, sheet: &[u8], setup: &[u8], party: u8) -> Others
     let conflicted = conflict::conflicts_of(sheet, view.confirmed, true);
     let secrets = sheet::field::secrets(sheet) & view.shared;
     let held = others_keys(view, sheet, party) | secrets;
-    let unsent = unsent(position, sheet, setup);
+    let unsent = unsent(position, sheet, setup, party);
     Others {
         confirmed: view.confirmed,
         gone: gone(sheet, view.confirmed, conflicted),

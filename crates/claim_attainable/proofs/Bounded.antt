@@ -1,27 +1,29 @@
 -- What every list of steps without X keeps: the others' keys, entries and shared signatures come from a closed set of the first position.
 -- Assumes nothing.
-use Rattle.laws.proofs.Prelude.{ℕ, zero, suc, _≤_, _<_, _≡_, refl, sym, _∙_, Bool, true, false, _&&_, List, _⊎_, inl, inr, eqb, ltb, leb, length, eqb-true, ltb-true}
-use Rattle.laws.proofs.Prelude.{ltb-false, leb-true, eq-eqb, lt-ltb, arith, not-suc-le-zero, bitAnd, split, either, clash, and-parts, fails-by, or-right, bit, without}
+use Rattle.laws.proofs.Prelude.{ℕ, zero, suc, _≤_, _<_, _≡_, refl, sym, _∙_, Bool, true, false, _&&_, _||_, false≢true, List, _⊎_, inl, inr, eqb, ltb, leb, length, eqb-true, ltb-true}
+use Rattle.laws.proofs.Prelude.{ltb-false, leb-true, eq-eqb, lt-ltb, arith, not-suc-le-zero, bitAnd, split, either, clash, and-parts, or-parts, fails-by, or-right, bit, without}
 use Rattle.laws.proofs.Prelude.{bit-and, no-bit}
 use Rattle.position.proofs.Rules.{parties, place, partyAt, count, parent, opening, signatures, secrets, required, perDay, stealth, Checked, alice, bob, contract}
 use Rattle.position.proofs.Rules.{destinations, isParty, isPayee, isContract, emptySlot, sharedFor, signed, shareMask, exposedMask, inPool, poolTo, inBlock}
 use Rattle.position.specs.declared.Position.{Position}
-use Rattle.position.proofs.Rules.{blockTo, blockOf, isConfirmed, confirmedTo, shared, holds, deadlineIn, sendsTo, sharesTo}
+use Rattle.position.proofs.Rules.{blockTo, blockOf, isConfirmed, confirmedTo, shared, holds, deadlineIn, sendsTo, sharesTo, secretBob, success}
 use Rattle.sheet.proofs.Parties.{place-below, at-place, party-small, party-not-miner}
 use Rattle.slots.proofs.Conflicts.{conflict-self}
 use Rattle.slots.proofs.Parents.{parent-below, parent-lower}
 use Rattle.position.specs.Position as at
 use Rattle.step_laws.proofs.AfterBlocks.{out-pool, out-block}
+use Rattle.step_laws.proofs.Provenance.{Moved}
 use Rattle.claim_ledger.proofs.Sound.{Waits, Sound}
 use Rattle.claim_ledger.proofs.EachKind.{right-to, wide}
 use Rattle.claim_careful.proofs.Has.{Has, held, shown, secret, has-by}
 use Rattle.claim_outage.proofs.Between.{between}
 use Rattle.claim_outage.proofs.Play.{LaterIn, later-same}
-use Rattle.attainable.specs.Attainable.{secretsOf, otherKeys, othersKeys, knownFrom, neverSent, waitsFor, comes, Closed}
+use Rattle.attainable.specs.Attainable.{secretsOf, otherKeys, othersKeys, knownFrom, overdue, forgone, neverSent, waitsFor, comes, Closed}
 use Rattle.attainable.proofs.Masks.{union-has, subset-else}
 use Rattle.attainable.proofs.Parts.{othersHave, Way, waits, lent, signs, Parent, comes-from, known-shared, known-member, have-keys, have-known, have-shared}
 use Rattle.claim_attainable.proofs.Actors.{Place, in-pool, in-block, in-chain, There, pool, block, chain, SentBy, ShownBy, by-share, by-send, by-block, MovedBy}
 use Rattle.claim_attainable.proofs.Shown.{secret-shown}
+use Rattle.claim_attainable.proofs.Forgoing.{not-forgone, still-forgone}
 use Rattle.claim_attainable.proofs.Alive.{has-block, stays, sent-alive, there-alive}
 
 -- a destination that is right for a transaction is one of the four
@@ -79,6 +81,7 @@ module _ (s u : List ℕ) (ok : Checked s) (p : Position) (x : ℕ) (who : isPar
   pub record Bounded (q : Position) : Type 0 where
     pub sound : Sound s u q
     pub later : LaterIn s p q
+    pub forgone : (t : ℕ) → forgone s u p t ≡ true → forgone s u q t ≡ true
     pub keys : (y i : ℕ) → isParty s y ≡ true → eqb y x ≡ false → i < 32 → holds q y i ≡ true → bit (othersKeys s p x) i ≡ true
     pub entries : (t e : ℕ) → Place q t e → Brought t e
     pub shares : (t e i : ℕ) → e < destinations → eqb e x ≡ false → i < 32 → bit (shared q t e) i ≡ true
@@ -123,15 +126,21 @@ module _ (s u : List ℕ) (ok : Checked s) (p : Position) (x : ℕ) (who : isPar
           inl
           (λ o. either (w .above) inl (λ y. inr (stood (parent s t) (parent-below ok t low o) y)))
 
-      in-time : neverSent s u p t ≡ false
-      unfolding neverSent
-      in-time =
-          fails-by (eqb (stealth u) 0 && leb (deadlineIn s u p t) (p .mined))
+      in-time : eqb (w .party) x ≡ false → neverSent s u p x t ≡ false
+      unfolding neverSent overdue
+      in-time apart =
+          fails-by (overdue s u p t || (eqb x bob && forgone s u p t))
+          (λ z.
+          either (or-parts (overdue s u p t) (eqb x bob && forgone s u p t) z)
           (λ h.
           let y = and-parts (eqb (stealth u) 0) (leb (deadlineIn s u p t) (p .mined)) h in
           let due = leb-true (deadlineIn s u p t) (p .mined) (y .1) in
           let falls = between s u ok p t low q (b .later) (b .sound) .deadline-falls in
           omega (arith, w .early (y .0), falls, due, b .later .time))
+          (λ h.
+          let y = and-parts (eqb x bob) (forgone s u p t) h in
+          let off : eqb (w .party) bob ≡ false = rw (eqb-true x bob (y .0)) at apart in
+          false≢true (sym (not-forgone s u q (w .party) t e (w .sends) off) ∙ b .forgone t (y .1))))
 
       -- a signature that the sender has, the others have together by the set, or t comes anyway
       had : (i : ℕ) → i < 32 → eqb (w .party) x ≡ false → eqb e x ≡ false → e < destinations → Has s q (w .party) t e i
@@ -170,7 +179,7 @@ module _ (s u : List ℕ) (ok : Checked s) (p : Position) (x : ℕ) (who : isPar
           let right = right-to s (w .party) t e (w .sends .who) (w .sends .right) in
           let off = sends-other s x who (w .party) t e apart (w .sends .right) in
           either (all-had apart off (right-small s t e right))
-          (λ y. by-way (signs in-time right off y))
+          (λ y. by-way (signs (in-time apart) right off y))
           (λ y. y))
           (λ y. by-way (lent (y .1) (rw (y .0) at (w .sends .right))))
 
@@ -179,7 +188,7 @@ module _ (s u : List ℕ) (ok : Checked s) (p : Position) (x : ℕ) (who : isPar
         → bit (knownFrom s p members) i ≡ true
     shown-member t e i l m a h c = known-member s p members t i l (closed t l e m c) (shown-secret s t i a h)
 
-    module _ (r : Position) (g : Sound s u r) (on : LaterIn s p r) (m : MovedBy s u q x also r) where
+    module _ (r : Position) (g : Sound s u r) (on : LaterIn s p r) (kept : Moved s u q r) (m : MovedBy s u q x also r) where
       next-shares : (t e i : ℕ) → e < destinations → eqb e x ≡ false → i < 32 → ShownBy s u q x also t e i
           → (bit (othersHave s p x members t e) i ≡ true) ⊎ Brought t e
       unfolding holds
@@ -204,6 +213,8 @@ module _ (s u : List ℕ) (ok : Checked s) (p : Position) (x : ℕ) (who : isPar
           record {
             sound = g;
             later = on;
+            forgone = λ t h.
+                still-forgone s u q r (λ i. kept .slots success .kept contract i (omega arith)) (kept .keys-kept alice secretBob) t (b .forgone t h);
             keys = λ y i k apart n h.
                 either (m .gifts y i n h)
                 (b .keys y i k apart n)
@@ -273,6 +284,7 @@ module _ (s u : List ℕ) (ok : Checked s) (p : Position) (x : ℕ) (who : isPar
         record {
           sound = g;
           later = later-same s p;
+          forgone = λ t h. h;
           keys = λ y i k apart n h. others-has s p x y i k apart h;
           entries = start-entries;
           shares = λ t e i l off n h. inl (have-shared s p x members t e i h);

@@ -6,13 +6,13 @@ use Rattle.position.proofs.Rules.{spendRevoke, spendRefund2, spendTimeout, isCo
 use Rattle.position.specs.declared.Position.{Position}
 use Rattle.position.proofs.Opened.{opened}
 use Rattle.claim_ledger.specs.Claim.{positionOf}
-use Rattle.attainable.specs.Attainable.{gone, secretsOf, otherKeys, othersKeys, shownBy, knownFrom, neverSent, waitsFor, signable, comes, grown, rounds, attainable, attainableElsewhere, Closed}
+use Rattle.attainable.specs.Attainable.{gone, secretsOf, otherKeys, othersKeys, shownBy, knownFrom, overdue, forgone, neverSent, waitsFor, signable, comes, grown, rounds, attainable, attainableElsewhere, Closed}
 use Rattle.claim_attainable.specs.Words.{stepOf, sendOf, without, sendsOnly}
 use Rattle.claim_attainable.specs.Claim.{Foreseen}
 use Rattle.claim_attainable.proofs.Theorems.{attainability}
 
 unfoldable brought : Unit {0}
-unfolding opened joined setBelow allBelow anyBelow gone secretsOf otherKeys othersKeys shownBy knownFrom neverSent waitsFor signable comes grown rounds attainable attainableElsewhere stepOf sendOf without sendsOnly
+unfolding opened joined setBelow allBelow anyBelow gone secretsOf otherKeys othersKeys shownBy knownFrom overdue forgone neverSent waitsFor signable comes grown rounds attainable attainableElsewhere stepOf sendOf without sendsOnly
 brought = tt
 
 -- no transaction is lent
@@ -68,6 +68,27 @@ too-late = refl
 pub by-hand-in : reach stealthy (shared ++ mine) alice none ≡ 2 ^ success + 2 ^ revoke + 2 ^ timeout + 2 ^ spendSuccess + 2 ^ spendTimeout
 unfolding brought
 by-hand-in = refl
+
+-- without Bob: once success is shared a careful Alice no longer sends refund_1, and once she holds secretBob no longer refund_2; a loose
+-- one does
+abbrev loose : List ℕ
+loose = 1 ∷ 0 ∷ 1 ∷ 0 ∷ []
+
+abbrev given : List ℕ
+given = shared ++ (2 ∷ 1 ∷ 3 ∷ 0 ∷ [])
+
+pub no-refund1 : reach careful shared bob none ≡ 2 ^ revoke + 2 ^ refund2 + 2 ^ timeout + 2 ^ spendRefund2
+unfolding brought
+no-refund1 = refl
+
+pub no-refund2 : reach careful given bob none ≡ 2 ^ revoke + 2 ^ timeout + 2 ^ spendB
+unfolding brought
+no-refund2 = refl
+
+pub loose-refunds : reach loose given bob none
+    ≡ 2 ^ refund1 + 2 ^ revoke + 2 ^ refund2 + 2 ^ timeout + 2 ^ spendB + 2 ^ spendRefund1Alice + 2 ^ spendRefund2
+unfolding brought
+loose-refunds = refl
 
 -- where Alice sends refund_1 she shows her secret, and Bob can take coin B
 pub with-refund : reach careful locked alice (eqb refund1) ≡ 2 ^ refund1 + 2 ^ revoke + 2 ^ timeout + 2 ^ spendB + 2 ^ spendTimeout

@@ -1,6 +1,7 @@
 pub mod Actors
 pub mod Shown
 pub mod Moves
+pub mod Forgoing
 pub mod Alive
 pub mod Bounded
 pub mod Shrinking

@@ -8,6 +8,7 @@ use Rattle.position.proofs.Rules.{decodeBytes, step, play, Read, stepBytes}
 use Rattle.sheet.proofs.Theorems.{sheet-checked}
 use Rattle.position.proofs.StepCases.{StepCase, taken, turned-down, step-case}
 use Rattle.position.proofs.Decoding.{decodes}
+use Rattle.step_laws.proofs.Moved.{moved}
 use Rattle.step_laws.proofs.Rises.{fourOf}
 use Rattle.claim_ledger.proofs.EachKind.{wide}
 use Rattle.claim_ledger.proofs.SoundSteps.{sound-step}
@@ -60,7 +61,7 @@ module _ (s u : List ℕ) (h : sheetRefusal s ≡ 0) (k : setupRefusal s u ≡ 0
       let g = sound-step s u h k q b (w .sound) in
       let on = later-then s p q (step s u q b .position) (w .later) (later-step s u h k q b (w .sound)) in
       let m = moved-by s u q x also (wide s u ok q (w .sound)) (w .sound .beyond) y (ok .signatures-few) f r (idle-by x also y (rw (bytes-of s u b y d) at i)) in
-      next s u ok p x who also members closed q w (step s u q b .position) g on (rw e m)
+      next s u ok p x who also members closed q w (step s u q b .position) g on (rw e (moved s u q y f r)) (rw e m)
   held-case q b w i (turned-down n m e) = rw e w
 
   pub held-play : (bs : List FourBytes) (q : Position) → Held q → sendsOnly x also bs ≡ true → Held (play s u bs q)

@@ -1,8 +1,8 @@
 -- What can come without X after such a list could come before it.
 -- Assumes nothing.
 use Rattle.laws.proofs.Prelude.{ℕ, _<_, _≡_, sym, _∙_, Bool, true, false, not, _&&_, _||_, List, _⊎_, inl, inr, eqb, leb, eqb-true, leb-true, lt-ltb, le-leb, arith}
-use Rattle.laws.proofs.Prelude.{bitAnd, bitOr, split, either, clash, and-parts, or-parts, fails-by, bit, unionBelow, bit-and, or-bit, union-bit, no-bit, subset-bit}
-use Rattle.position.proofs.Rules.{parties, partyAt, count, parent, opening, signatures, secrets, required, stealth, Checked, destinations, isParty, meetsOther}
+use Rattle.laws.proofs.Prelude.{bitAnd, bitOr, split, either, clash, and-parts, or-parts, or-neither, fails-by, bit, unionBelow, bit-and, or-bit, union-bit, no-bit, subset-bit}
+use Rattle.position.proofs.Rules.{parties, partyAt, count, parent, opening, signatures, secrets, required, stealth, Checked, bob, destinations, isParty, meetsOther}
 use Rattle.position.proofs.Rules.{invalidated, sharedAny, sharedSecrets, senderMask, signed, slot, inPool, poolTo, inBlock, blockTo, blockOf, isConfirmed}
 use Rattle.position.specs.declared.Position.{Position}
 use Rattle.position.proofs.Rules.{shared, keys, holds, deadlineIn}
@@ -12,7 +12,7 @@ use Rattle.slots.proofs.Parents.{parent-below}
 use Rattle.claim_careful.proofs.Has.{somewhere}
 use Rattle.claim_outage.proofs.Between.{between}
 use Rattle.claim_outage.proofs.Play.{LaterIn}
-use Rattle.attainable.specs.Attainable.{gone, secretsOf, otherKeys, othersKeys, shownBy, knownFrom, neverSent, waitsFor, comes, Closed}
+use Rattle.attainable.specs.Attainable.{gone, secretsOf, otherKeys, othersKeys, shownBy, knownFrom, overdue, forgone, neverSent, waitsFor, comes, Closed}
 use Rattle.attainable.proofs.Masks.{subset-else}
 use Rattle.attainable.proofs.Parts.{othersHave, Way, waits, lent, signs, Parent, Comes, comes-parts, comes-from, known-member, have-keys, have-known, picked-bit}
 use Rattle.claim_attainable.proofs.Actors.{in-pool, in-block, chain}
@@ -80,16 +80,25 @@ module _ (s u : List ℕ) (ok : Checked s) (p : Position) (x : ℕ) (who : isPar
         inl
         (λ y. inr (either y (λ z. stood s u ok p x who also members closed q b (parent s t) (parent-below ok t l o) (chain z)) inr)))
 
-    in-time : neverSent s u q t ≡ false → neverSent s u p t ≡ false
-    unfolding neverSent
-    in-time n =
-        fails-by (eqb (stealth u) 0 && leb (deadlineIn s u p t) (p .mined))
-        (λ h.
+    still-due : overdue s u p t ≡ true → overdue s u q t ≡ true
+    unfolding overdue
+    still-due h =
         let y = and-parts (eqb (stealth u) 0) (leb (deadlineIn s u p t) (p .mined)) h in
         let due = leb-true (deadlineIn s u p t) (p .mined) (y .1) in
         let falls = between s u ok p t l q (b .later) (b .sound) .deadline-falls in
-        let now = le-leb (deadlineIn s u q t) (q .mined) (omega (arith, falls, due, b .later .time)) in
-        clash {b = eqb (stealth u) 0 && leb (deadlineIn s u q t) (q .mined)} (rw (y .0, now)) n)
+        rw (y .0, le-leb (deadlineIn s u q t) (q .mined) (omega (arith, falls, due, b .later .time)))
+
+    in-time : neverSent s u q x t ≡ false → neverSent s u p x t ≡ false
+    unfolding neverSent
+    in-time n =
+        let out = or-neither (overdue s u q t) (eqb x bob && forgone s u q t) n in
+        fails-by (overdue s u p t || (eqb x bob && forgone s u p t))
+        (λ h.
+        either (or-parts (overdue s u p t) (eqb x bob && forgone s u p t) h)
+        (λ y. clash (still-due y) (out .0))
+        (λ y.
+        let z = and-parts (eqb x bob) (forgone s u p t) y in
+        clash {b = eqb x bob && forgone s u q t} (rw (z .0, b .forgone t (z .1))) (out .1)))
 
     had : eqb d x ≡ false → (i : ℕ) → i < 32 → bit (othersHave s q x members t d) i ≡ true
         → (bit (othersHave s p x members t d) i ≡ true) ⊎ (comes s u p x also members t d ≡ true)

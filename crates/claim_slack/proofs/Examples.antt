@@ -9,7 +9,7 @@ use Rattle.position.proofs.Opened.{opened}
 use Rattle.soonest.specs.Soonest.{greater, lockAt, soonestOver, soonestBlock, soonestParent, sinceLocked}
 use Rattle.claim_ledger.specs.Claim.{positionOf}
 use Rattle.claim_attainable.specs.Words.{stepOf, without}
-use Rattle.attainable.specs.Attainable.{gone, secretsOf, otherKeys, othersKeys, shownBy, knownFrom, neverSent, waitsFor, signable, comes, grown, rounds, attainable, attainableElsewhere}
+use Rattle.attainable.specs.Attainable.{gone, secretsOf, otherKeys, othersKeys, shownBy, knownFrom, overdue, forgone, neverSent, waitsFor, signable, comes, grown, rounds, attainable, attainableElsewhere}
 use Rattle.slack.specs.Beaten.{destinationOf, above, canCome, canComeElsewhere, fixed, runs, lockBeside, pooled, signs, lockedLater, late, anyLate, stands, waitsBefore, sooner, comesBeside, beats, last}
 use Rattle.slack.specs.Kept.{knownAt, unbeaten, free, comesForParty, goodChild, elsewhereFree, answered, goodBy, goodRounds, good, paid, reached, keptTo, kept, longest, slack}
 use Rattle.claim_slack.specs.Claim.{AtLeast, Falling, Stays, Lasting}
@@ -17,7 +17,7 @@ use Rattle.claim_slack.proofs.Theorems.{slack-lasts}
 
 unfoldable judged : Unit {0}
 unfolding opened joined setBelow allBelow anyBelow greater lockAt soonestOver soonestBlock soonestParent sinceLocked
-    gone secretsOf otherKeys othersKeys shownBy knownFrom neverSent waitsFor signable comes grown rounds attainable attainableElsewhere
+    gone secretsOf otherKeys othersKeys shownBy knownFrom overdue forgone neverSent waitsFor signable comes grown rounds attainable attainableElsewhere
     destinationOf above canCome canComeElsewhere fixed runs lockBeside pooled signs lockedLater late anyLate stands waitsBefore sooner comesBeside beats last
     knownAt unbeaten free comesForParty goodChild elsewhereFree answered goodBy goodRounds good paid reached keptTo kept greatestTo slack stepOf without
 judged = tt

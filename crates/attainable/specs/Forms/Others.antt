@@ -2,7 +2,7 @@
 -- Assumes nothing.
 use Prim.Native.Nat.{ℕ, _-_, _<_}
 use mathlib.Core.Path.{_≡_}
-use mathlib.Core.Bool.{Bool, not, _&&_, _||_}
+use mathlib.Core.Bool.{Bool, true, false, not, _&&_, _||_}
 use mathlib.Core.List.{List}
 use lib.Bits.{bitAnd, bitOr}
 use lib.Dec.{eqb, ltb}
@@ -14,9 +14,12 @@ use Rattle.slots.specs.declared.Slot.{Slot}
 use Rattle.slots.specs.Destination.{alice, bob, carol, contract, destinations, isPayee, isContract}
 use Rattle.slots.specs.Slot.{standing, entryTo, sharedAny}
 use Rattle.slots.specs.Signatures.{sharedSecrets, signed}
+use Rattle.steps.specs.declared.Guards.{Guards}
+use Rattle.steps.specs.Names.{secretBob}
 use Rattle.steps.specs.Decode.{sendsTo, sharesTo}
 use Rattle.position.specs.declared.Position.{Position}
-use Rattle.position.specs.Position.{slot, isConfirmed, shared}
+use Rattle.position.specs.Position.{slot, isConfirmed, shared, holds}
+use Rattle.position.specs.Conduct.{successUnshared}
 use Rattle.soonest.specs.Forms.Table.{Filled}
 use Rattle.attainable.specs.declared.Others.{Others}
 use Rattle.attainable.specs.Attainable.{gone, secretsOf, othersKeys, neverSent, waitsFor}
@@ -47,7 +50,7 @@ othersFor s p x d t = bitOr (bitOr (othersKeys s p x) (sharedSecrets s (λ k. sh
 
 -- what they lack of t for it
 abbrev pub OthersLack : List ℕ → List ℕ → Position → ℕ → ℕ → ℕ → ℕ → Type 0
-OthersLack s u p x d t v = Lacks s (neverSent s u p t) x (othersFor s p x d t) d t v
+OthersLack s u p x d t v = Lacks s (neverSent s u p x t) x (othersFor s p x d t) d t v
 
 -- the record holds what its fields say
 pub record Reads (s u : List ℕ) (p : Position) (x : ℕ) (o : Others) : Type 0 where
@@ -65,6 +68,20 @@ pub record Reads (s u : List ℕ) (p : Position) (x : ℕ) (o : Others) : Type 0
   pub carol : Filled (λ t v. OthersLack s u p x carol t v) (count s) (o .carol)
 
 -- ---- as the code works it out
+
+-- what a careful Alice asks before a send, in phase 3: there nothing else holds one back
+unfoldable pub aliceGuards : Position → Guards
+aliceGuards p =
+    record {
+      free = false;
+      careful = true;
+      phase = 3;
+      late = false;
+      refund = false;
+      unshared = successUnshared p;
+      knows = holds p alice secretBob;
+      «bob_has» = 0;
+    }
 
 -- an entry names a destination other than `off`
 unfoldable pub namesApart : ℕ → ℕ → Bool

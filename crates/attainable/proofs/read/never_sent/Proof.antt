@@ -1,4 +1,4 @@
--- Without stealth, by the deadline.
+-- Test by test.
 use Rattle.laws.proofs.Prelude.{tests, needs}
 use Rattle.attainable.specs.Attainable.{neverSent}
 use Rattle.attainable.proofs.read.never_sent.Statement.{statement}
@@ -6,13 +6,15 @@ use Rattle.attainable.proofs.read.never_sent.Tie as tie
 
 returns : tie.Need-returns
 unfolding neverSent
-returns c = simp (tests, ← (c .before .stealth .ensures), c .if1 .taken)
+returns c = simp (← (c .before .overdue .ensures), c .if1 .taken)
 
 returns-2 : tie.Need-returns-2
 unfolding neverSent
-returns-2 c =
-    let c2 = c .before .before in
-    simp (tests, ← (c2 .before .stealth .ensures), c2 .if1 .left, ← (c .before .deadline-in .ensures .is), ← (c .wide .ensures .0))
+returns-2 c = simp (tests, ← (c .before .before .overdue .ensures), c .before .if1 .left, c .if2 .taken)
+
+returns-3 : tie.Need-returns-3
+unfolding neverSent
+returns-3 c = simp (← (c .before .before .before .overdue .ensures), c .before .before .if1 .left, c .before .if2 .left, c .forgone .ensures)
 
 pub never-sent-spec : {M : Type 1} → statement M
-never-sent-spec = tie.close (tie.spec (λ c κs. search needs) returns (λ c κs. search needs) (λ c κs. search needs) returns-2)
+never-sent-spec = tie.close (tie.spec (λ c κs. search needs) returns returns-2 (λ c κs. search needs) returns-3)

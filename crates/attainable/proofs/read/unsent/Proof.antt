@@ -5,10 +5,10 @@ use Rattle.attainable.proofs.read.unsent.Statement.{statement}
 use Rattle.attainable.proofs.read.unsent.Tie as tie
 
 abbrev Inv-loop : tie.InvT-loop
-Inv-loop position sheet setup n found₀ t₀ found t = (t ≤ n) × (found ≡ setBelow t (neverSent sheet setup position))
+Inv-loop position sheet setup party n found₀ t₀ found t = (t ≤ n) × (found ≡ setBelow t (neverSent sheet setup position party))
 
 abbrev μ-loop : tie.MeasureT-loop
-μ-loop position sheet setup n found₀ t₀ found t = n - t
+μ-loop position sheet setup party n found₀ t₀ found t = n - t
 
 loop-holds : tie.Need-loop-holds Inv-loop μ-loop
 loop-holds c = (search needs, set-start _)
