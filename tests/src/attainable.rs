@@ -1,11 +1,12 @@
 //! What can come without a party: the transactions that the others and the miner can bring into a block while it takes no
 //! step, or none but sends of some transactions.
 
+use crate::model::conduct::{REFUND_1, REFUND_2, SECRET_BOB, SUCCESS};
 use crate::model::heights;
 use crate::model::position::{within, Position};
-use crate::model::setup::Setup;
+use crate::model::setup::{Conduct, Setup};
 use crate::model::sheet::Sheet;
-use crate::model::CONTRACT;
+use crate::model::{ALICE, BOB, CONTRACT};
 use std::collections::BTreeSet;
 
 /// A position as those see it who act without a party.
@@ -22,13 +23,17 @@ pub struct Others<'a> {
 }
 
 impl<'a> Others<'a> {
-    /// "Never sent by the others: without stealth, every transaction whose deadline is ≤ m."
+    /// "Never sent by the others: without stealth, every transaction whose deadline is ≤ m; under careful conduct, X being
+    /// Bob: refund_1 once success has a shared entry, refund_2 once Alice holds secretBob."
     pub fn of(sheet: &'a Sheet, setup: &Setup, position: &'a Position, party: u8) -> Others<'a> {
         let due = |&t: &u8| heights::deadline(sheet, setup, position, t) <= position.mined;
-        let never = match setup.stealth {
+        let mut never: BTreeSet<u8> = match setup.stealth {
             true => BTreeSet::new(),
             false => (0..sheet.count()).filter(due).collect(),
         };
+        if party == BOB && setup.conduct == Conduct::Careful {
+            never.extend(forgone(position));
+        }
         Others::with(sheet, position, party, never)
     }
 
@@ -140,6 +145,17 @@ impl<'a> Others<'a> {
         };
         (0..self.sheet.count()).filter(holds).collect()
     }
+}
+
+/// "refund_1 once success has a shared entry, refund_2 once Alice holds secretBob": what a careful Alice no longer sends.
+fn forgone(position: &Position) -> Vec<u8> {
+    let shared = position.shared.keys().any(|&(t, _)| t == SUCCESS);
+    let refunds = [
+        (REFUND_1, shared),
+        (REFUND_2, position.holds(ALICE, SECRET_BOB)),
+    ];
+    let masked = refunds.into_iter().filter(|&(_, on)| on);
+    masked.map(|(t, _)| t).collect()
 }
 
 /// "Without X: no step of kinds 1 to 4 has X as its party."

@@ -212,6 +212,11 @@ fn examples() {
     assert_eq!(can(&careful, &shared, ALICE, &[]), [2, 4, 6, 9, 14]);
     assert_eq!(can(&careful, &late, ALICE, &[]), [4, 6, 14]);
     assert_eq!(can(&stealthy, &late, ALICE, &[]), [2, 4, 6, 9, 14]);
+    let loose = Game::saswap(1, 1, 0);
+    let held = [&shared[..], &[[2, 1, 3, 0]]].concat();
+    assert_eq!(can(&careful, &shared, BOB, &[]), [4, 5, 6, 13]);
+    assert_eq!(can(&careful, &held, BOB, &[]), [4, 6, 8]);
+    assert_eq!(can(&loose, &held, BOB, &[]), [3, 4, 5, 6, 8, 11, 13]);
     assert_eq!(can(&careful, &locked, ALICE, &[REFUND_1]), [3, 4, 6, 8, 14]);
     let refunded = [&locked[..], &[MINE, [3, 0, 3, 2]]].concat();
     let done = [&refunded[..], &[[7, 2, 3, 2], MINE]].concat();
