@@ -35,7 +35,7 @@ right-small s t d h =
     (λ c. party-small s d (and-parts (isParty s d) (isPayee s t d) (rw c at h) .0))
 
 -- a party sends for itself or for the contract
-sends-other : (s : List ℕ) (x : ℕ) → isParty s x ≡ true → (party t e : ℕ) → eqb party x ≡ false → sendsTo s party t e ≡ true → eqb e x ≡ false
+pub sends-other : (s : List ℕ) (x : ℕ) → isParty s x ≡ true → (party t e : ℕ) → eqb party x ≡ false → sendsTo s party t e ≡ true → eqb e x ≡ false
 unfolding sendsTo
 sends-other s x who party t e apart h =
     split (isContract s t)
@@ -45,7 +45,7 @@ sends-other s x who party t e apart h =
     (λ c. rw (eqb-true e party (and-parts (eqb e party) (isPayee s t party) (rw c at h) .0)) apart)
 
 -- a share is of keys held
-share-held : (s : List ℕ) (mine t i : ℕ) → bit (shareMask s mine t) i ≡ true → bit mine i ≡ true
+pub share-held : (s : List ℕ) (mine t i : ℕ) → bit (shareMask s mine t) i ≡ true → bit mine i ≡ true
 unfolding shareMask without
 share-held s mine t i h =
     let m = bitAnd mine (required s t) in
@@ -53,19 +53,19 @@ share-held s mine t i h =
     and-parts (bit mine i) (bit (required s t) i) (sym (bit-and mine (required s t) i) ∙ a) .0
 
 -- a shown secret of a transaction is one of its secrets
-shown-secret : (s : List ℕ) (t i : ℕ) → bit (secrets s) i ≡ true → bit (exposedMask s t) i ≡ true → bit (secretsOf s t) i ≡ true
+pub shown-secret : (s : List ℕ) (t i : ℕ) → bit (secrets s) i ≡ true → bit (exposedMask s t) i ≡ true → bit (secretsOf s t) i ≡ true
 unfolding secretsOf
 shown-secret s t i a b = bit-and (secrets s) (exposedMask s t) i ∙ rw (a, b)
 
 -- the keys of another party are among the others'
-others-has : (s : List ℕ) (p : Position) (x y i : ℕ) → isParty s y ≡ true → eqb y x ≡ false → holds p y i ≡ true → bit (othersKeys s p x) i ≡ true
+pub others-has : (s : List ℕ) (p : Position) (x y i : ℕ) → isParty s y ≡ true → eqb y x ≡ false → holds p y i ≡ true → bit (othersKeys s p x) i ≡ true
 unfolding otherKeys othersKeys holds
 others-has s p x y i who apart h =
     union-has (parties s) (λ k. otherKeys p x (partyAt k)) i (place y) (place-below s y who)
     (rw (at-place s y who, apart) h)
 
 -- an empty slot shares nothing
-nothing-shared : (e : ℕ) → sharedFor emptySlot e ≡ 0
+pub nothing-shared : (e : ℕ) → sharedFor emptySlot e ≡ 0
 unfolding sharedFor
 nothing-shared e =
     split (eqb e alice)
@@ -214,7 +214,7 @@ module _ (s u : List ℕ) (ok : Checked s) (p : Position) (x : ℕ) (who : isPar
             sound = g;
             later = on;
             forgone = λ t h.
-                still-forgone s u q r (λ i. kept .slots success .kept contract i (omega arith)) (kept .keys-kept alice secretBob) t (b .forgone t h);
+                still-forgone s u q r t (λ e i. kept .slots success .kept contract i (omega arith)) (kept .keys-kept alice secretBob) (b .forgone t h);
             keys = λ y i k apart n h.
                 either (m .gifts y i n h)
                 (b .keys y i k apart n)

@@ -36,35 +36,36 @@ below-power : (n : ℕ) → n < 2 ^ n
 below-power zero = omega arith
 below-power (suc n) = let h = below-power n in rw (pow-succ' 2 n) (omega (arith, h))
 
--- they stay so in a position that keeps what is shared of success and Alice's keys
-module _ (s u : List ℕ) (p q : Position) (shares : (i : ℕ) → bit (shared p success contract) i ≡ true → bit (shared q success contract) i ≡ true)
+-- they stay so in a position that keeps Alice's keys and, for refund_1, what is shared of success
+module _ (s u : List ℕ) (p q : Position) (t : ℕ)
+    (shares : eqb t refund1 ≡ true → (i : ℕ) → bit (shared p success contract) i ≡ true → bit (shared q success contract) i ≡ true)
     (keys : holds p alice secretBob ≡ true → holds q alice secretBob ≡ true) where
-  still-unshared : successUnshared q ≡ true → successUnshared p ≡ true
+  still-unshared : eqb t refund1 ≡ true → successUnshared q ≡ true → successUnshared p ≡ true
   unfolding successUnshared
-  still-unshared h =
+  still-unshared e h =
       let none = eqb-true (shared q success contract) 0 h in
       let now = shared p success contract in
       eq-eqb now 0
       (no-bits now now (below-power now)
-      (λ i l. fails-by (bit now i) (λ y. clash (rw none at (shares i y)) (no-bit i))))
+      (λ i l. fails-by (bit now i) (λ y. clash (rw none at (shares e i y)) (no-bit i))))
 
-  still-held : (t : ℕ) → secretSafe s q t ≡ true → secretSafe s p t ≡ true
+  still-held : secretSafe s q t ≡ true → secretSafe s p t ≡ true
   unfolding secretSafe
-  still-held t h =
+  still-held h =
       split (holds p alice secretBob)
       (λ y. rw y (rw (keys y) at h))
       (λ y. or-right (not (bit (required s t) secretAlice)) (not (holds p alice secretBob) || eqb t spendB) (rw y))
 
-  still-safe : (t : ℕ) → safeToSend s q alice t ≡ true → safeToSend s p alice t ≡ true
+  still-safe : safeToSend s q alice t ≡ true → safeToSend s p alice t ≡ true
   unfolding safeToSend
-  still-safe t h =
+  still-safe h =
       split (eqb t refund1)
-      (λ y. rw y (still-unshared (rw y at h)))
-      (λ y. rw y (still-held t (rw y at h)))
+      (λ y. rw y (still-unshared y (rw y at h)))
+      (λ y. rw y (still-held (rw y at h)))
 
-  pub still-forgone : (t : ℕ) → forgone s u p t ≡ true → forgone s u q t ≡ true
+  pub still-forgone : forgone s u p t ≡ true → forgone s u q t ≡ true
   unfolding forgone
-  still-forgone t h =
+  still-forgone h =
       let y = and-parts (isCareful u) (not (safeToSend s p alice t)) h in
-      let off = fails-by (safeToSend s q alice t) (λ z. clash (still-safe t z) (not-true (safeToSend s p alice t) (y .1))) in
+      let off = fails-by (safeToSend s q alice t) (λ z. clash (still-safe z) (not-true (safeToSend s p alice t) (y .1))) in
       rw (y .0, off)

@@ -4,6 +4,7 @@ pub mod Moves
 pub mod Forgoing
 pub mod Alive
 pub mod Bounded
+pub mod Carrying
 pub mod Shrinking
 pub mod Played
 pub mod Theorems

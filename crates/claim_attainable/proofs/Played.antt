@@ -10,12 +10,13 @@ use Rattle.position.proofs.StepCases.{StepCase, taken, turned-down, step-case}
 use Rattle.position.proofs.Decoding.{decodes}
 use Rattle.step_laws.proofs.Moved.{moved}
 use Rattle.step_laws.proofs.Rises.{fourOf}
+use Rattle.claim_ledger.proofs.Sound.{Sound}
 use Rattle.claim_ledger.proofs.EachKind.{wide}
 use Rattle.claim_ledger.proofs.SoundSteps.{sound-step}
 use Rattle.claim_outage.proofs.Play.{later-step, later-then}
 use Rattle.attainable.specs.Attainable.{Closed}
 use Rattle.claim_attainable.specs.Words.{stepOf, sendOf, sendsOnly}
-use Rattle.claim_attainable.proofs.Actors.{Apart, Idle}
+use Rattle.claim_attainable.proofs.Actors.{Apart, Idle, MovedBy}
 use Rattle.claim_attainable.proofs.Moves.{moved-by}
 use Rattle.claim_attainable.proofs.Bounded.{Bounded, next}
 
@@ -48,6 +49,17 @@ module _ (x : ℕ) (also : ℕ → Bool) where
   idle-by (Mine party t to) h = tt
   idle-by (Bump party t to) h = tt
 
+-- a step of four bytes, taken or refused, in which X is idle
+module _ (s u : List ℕ) (ok : Checked s) (p : Position) (g : Sound s u p) (x : ℕ) (also : ℕ → Bool) where
+  moved-case : (b : FourBytes) → keeps x also b ≡ true → StepCase s u p b → MovedBy s u p x also (step s u p b .position)
+  moved-case b i (taken y d f r e) =
+      rw e (moved-by s u p x also (wide s u ok p g) (g .beyond) y (ok .signatures-few) f r (idle-by x also y (rw (bytes-of s u b y d) at i)))
+  moved-case b i (turned-down n m e) = rw e (record { entries = λ t d y. inl y; shares = λ t d j l y. inl y; gifts = λ holder j l y. inl y })
+
+  pub moved-step : (b : FourBytes) → stepOf x b ≡ false → MovedBy s u p x also (step s u p b .position)
+  unfolding keeps
+  moved-step b i = moved-case b (rw i) (step-case s u p b)
+
 module _ (s u : List ℕ) (h : sheetRefusal s ≡ 0) (k : setupRefusal s u ≡ 0) (p : Position) (x : ℕ) (who : isParty s x ≡ true) (also : ℕ → Bool)
     (members : ℕ) (closed : Closed s u p x also members) where
   abbrev ok : Checked s
@@ -60,8 +72,7 @@ module _ (s u : List ℕ) (h : sheetRefusal s ≡ 0) (k : setupRefusal s u ≡ 0
   held-case q b w i (taken y d f r e) =
       let g = sound-step s u h k q b (w .sound) in
       let on = later-then s p q (step s u q b .position) (w .later) (later-step s u h k q b (w .sound)) in
-      let m = moved-by s u q x also (wide s u ok q (w .sound)) (w .sound .beyond) y (ok .signatures-few) f r (idle-by x also y (rw (bytes-of s u b y d) at i)) in
-      next s u ok p x who also members closed q w (step s u q b .position) g on (rw e (moved s u q y f r)) (rw e m)
+      next s u ok p x who also members closed q w (step s u q b .position) g on (rw e (moved s u q y f r)) (moved-case s u ok q (w .sound) x also b i (taken y d f r e))
   held-case q b w i (turned-down n m e) = rw e w
 
   pub held-play : (bs : List FourBytes) (q : Position) → Held q → sendsOnly x also bs ≡ true → Held (play s u bs q)

@@ -106,11 +106,10 @@ module _ (s u : List ℕ) (ok : Checked s) (p : Position) (g : Sound s u p) wher
   to-case b (turned-down n m e) t l c = rw e
 
   module _ (e : stealth u ≡ 0) (in-pool : BlockIn s p p) where
-    same-pooled : (q : Position) → PoolIn p q → SameBlock p q → BlockIn s q q
-    same-pooled q a b t l h =
+    same-from : (q : Position) → SameBlock p q → BlockIn s q p
+    same-from q b t l h =
         let w = in-pool t l (rw (b .there) at h) in
-        let z = a t (w .0) in
-        (z .0, rw (b .to) (z .1 ∙ w .1))
+        (w .0, rw (b .to) (w .1))
 
     no-hand-in : (party t : ℕ) (to : _) → stepRefusal s u p (HandToMiner party t to) ≡ 0 → ⊥
     unfolding stepRefusal tests minerTests sendTests
@@ -118,48 +117,61 @@ module _ (s u : List ℕ) (ok : Checked s) (p : Position) (g : Sound s u p) wher
         let b = eqb-true (stealth u) 1 (passed (tests s u p (HandToMiner party t to)) refl r 12) in
         omega (arith, e, b)
 
-    -- an included entry stands in both places for one destination
-    include-pooled : (party t : ℕ) (to : _) → fieldsRight s u (Include party t to) ≡ true → stepRefusal s u p (Include party t to) ≡ 0
-        → BlockIn s (effect s p (Include party t to)) (effect s p (Include party t to))
+    -- an included entry has its destination from the pool
+    include-from : (party t : ℕ) (to : _) → fieldsRight s u (Include party t to) ≡ true → stepRefusal s u p (Include party t to) ≡ 0
+        → BlockIn s (effect s p (Include party t to)) p
     unfolding effect stepRefusal tests includeTests fieldsRight
-    include-pooled party t to f r k l h =
+    include-from party t to f r k l h =
         let there = passed (tests s u p (Include party t to)) refl r 19 in
         let d = eqb (destinationNumber to) contract in
         let low = ltb-true t (count s) (and-parts (ltb t (count s)) d (and-parts (eqb party miner) (ltb t (count s) && d) f .1) .0) in
         let room : t < length (p .slots) = omega (arith, wide s u ok p g, low) in
-        let a = include-pool t p in
         split (eqb k t)
-        (λ y. (rw (a .there, eqb-true k t y) there, rw (include-to t p room, a .to, y)))
+        (λ y. (rw (eqb-true k t y) there, rw (include-to t p room, y)))
         (λ y.
         let w = in-pool k l (rw (include-block t p room there, y) at h) in
-        (rw (a .there) (w .0), rw (include-to t p room, a .to, y) (w .1)))
+        (w .0, rw (include-to t p room, y) (w .1)))
 
-    bump-pooled : (t : ℕ) → BlockIn s (afterBump s t p) (afterBump s t p)
-    bump-pooled t k l h =
+    bump-from : (t : ℕ) → BlockIn s (afterBump s t p) p
+    bump-from t k l h =
         let few = wide s u ok p g in
-        let a = bump-pool s p few (g .beyond) t in
         split (enters s p t k)
-        (λ y. (rw (a .there) (enters-in s p few (g .beyond) t k y), rw (bump-to-entered s p few (g .beyond) t k y, a .to)))
+        (λ y. (enters-in s p few (g .beyond) t k y, sym (bump-to-entered s p few (g .beyond) t k y)))
         (λ y.
         let w = and-parts (inBlock p k) (not (meetsConflict s (enters s p t) k)) (rw (bump-block s p few (g .beyond) t, y) at h) in
         let z = in-pool k l (w .0) in
-        (rw (a .there) (z .0), rw (bump-to-kept s p few (g .beyond) t k y (not-true (meetsConflict s (enters s p t) k) (w .1)), a .to) (z .1)))
+        (z .0, rw (bump-to-kept s p few (g .beyond) t k y (not-true (meetsConflict s (enters s p t) k) (w .1))) (z .1)))
+
+    -- each entry of the block after a step was one of the pool before it
+    block-from : (y : Step) → fieldsRight s u y ≡ true → stepRefusal s u p y ≡ 0 → BlockIn s (effect s p y) p
+    unfolding effect
+    block-from (Share party t to) f r =
+        let d = destinationNumber to in
+        same-from (afterShare s party t d p) (share-block s party t d p)
+    block-from (Give party i to) f r =
+        let d = destinationNumber to in
+        same-from (afterGive i d p) (give-block i d p)
+    block-from (SendToPool party t to) f r =
+        let d = destinationNumber to in
+        same-from (afterSend s t d p) (send-block s t d p)
+    block-from (HandToMiner party t to) f r = absurd (no-hand-in party t to r)
+    block-from (Include party t to) f r = include-from party t to f r
+    block-from (Mine party t to) f r = λ k l h. absurd (false≢true (rw (mine-block s p (wide s u ok p g) (g .beyond)) at h))
+    block-from (Bump party t to) f r = bump-from t
 
     pooled-after : (y : Step) → fieldsRight s u y ≡ true → stepRefusal s u p y ≡ 0 → BlockIn s (effect s p y) (effect s p y)
-    unfolding effect
-    pooled-after (Share party t to) f r =
-        let d = destinationNumber to in
-        same-pooled (afterShare s party t d p) (same-in p (afterShare s party t d p) (share-pool s party t d p)) (share-block s party t d p)
-    pooled-after (Give party i to) f r =
-        let d = destinationNumber to in
-        same-pooled (afterGive i d p) (same-in p (afterGive i d p) (give-pool i d p)) (give-block i d p)
-    pooled-after (SendToPool party t to) f r =
-        let d = destinationNumber to in
-        same-pooled (afterSend s t d p) (send-in party t to f r) (send-block s t d p)
-    pooled-after (HandToMiner party t to) f r = absurd (no-hand-in party t to r)
-    pooled-after (Include party t to) f r = include-pooled party t to f r
-    pooled-after (Mine party t to) f r = λ k l h. absurd (false≢true (rw (mine-block s p (wide s u ok p g) (g .beyond)) at h))
-    pooled-after (Bump party t to) f r = bump-pooled t
+    pooled-after y f r k l h =
+        let w = block-from y f r k l h in
+        either (pool-in y f r)
+        (λ a. let z = a k (w .0) in (z .0, z .1 ∙ w .1))
+        (λ e. absurd (false≢true (rw (e, mine-block s p (wide s u ok p g) (g .beyond)) at h)))
+
+  pub came-pooled : Pooled s u p → (b : FourBytes) → stealth u ≡ 0 → BlockIn s (step s u p b .position) p
+  came-pooled w b z = by (step-case s u p b)
+    where
+      by : StepCase s u p b → BlockIn s (step s u p b .position) p
+      by (taken y d f r e) = rw e (block-from z (w z) y f r)
+      by (turned-down n m e) = rw e (w z)
 
   pooled-case : Pooled s u p → (b : FourBytes) → StepCase s u p b → Pooled s u (step s u p b .position)
   pooled-case w b (taken y d f r e) z = rw e (pooled-after z (w z) y f r)

@@ -177,6 +177,9 @@ module _ (s u : List ℕ) (h : sheetRefusal s ≡ 0) (k : setupRefusal s u ≡ 0
   passes b (turned-down n m e) =
       rw e (moved-none s u p, quiet (record { mined = refl; heights = λ t. refl; pool = λ t i. i }) (λ t i. (i, refl)))
 
+  pub step-moved : (b : FourBytes) → Moved s u p (step s u p b .position)
+  step-moved b = passes b (step-case s u p b) .0
+
   -- an entry of the block comes for its destination
   block-came : Pooled s u p → (x : ℕ) → isParty s x ≡ true → (t : ℕ) → t < count s → inBlock p t ≡ true → Came s u p x t (blockTo p t)
   unfolding inBlock blockTo blockOf

@@ -12,17 +12,22 @@ use Rattle.attainable.proofs.Masks.{or-last}
 use Rattle.claim_attainable.proofs.Shown.{secret-shown}
 use Rattle.slack.proofs.Onward.{secretsShown}
 
-pub secrets-stay : (s u : List ℕ) (p q : Position) → Moved s u p q → (i : ℕ) → bit (secretsShown s p) i ≡ true → bit (secretsShown s q) i ≡ true
+-- what is shared of each transaction stays so: the secrets do
+pub secrets-by : (s : List ℕ) (p q : Position) (i : ℕ) → ((t d : ℕ) → t < count s → d < destinations → bit (shared p t d) i ≡ true → bit (shared q t d) i ≡ true)
+    → bit (secretsShown s p) i ≡ true → bit (secretsShown s q) i ≡ true
 unfolding sharedSecrets shared
-secrets-stay s u p q m i h =
+secrets-by s p q i kept h =
     let all = unionBelow (count s) (λ j. sharedAny (slot p j)) in
     let w = and-parts (bit (secrets s) i) (bit all i) (sym (bit-and (secrets s) all i) ∙ h) in
     let k = union-bit (count s) (λ j. sharedAny (slot p j)) i (w .1) in
     let z = shared-any (slot p (k .0)) i (k .2) in
-    secret-shown s q (k .0) (z .0) i (k .1) (z .1) (w .0) (m .slots (k .0) .kept (z .0) i (z .1) (z .2))
+    secret-shown s q (k .0) (z .0) i (k .1) (z .1) (w .0) (kept (k .0) (z .0) (k .1) (z .1) (z .2))
+
+pub secrets-stay : (s u : List ℕ) (p q : Position) → Moved s u p q → (i : ℕ) → bit (secretsShown s p) i ≡ true → bit (secretsShown s q) i ≡ true
+secrets-stay s u p q m i h = secrets-by s p q i (λ t d l n y. m .slots t .kept d i n y) h
 
 -- a mask added for a destination is shared for it
-shared-has : (to m : ℕ) (x : Slot) (i : ℕ) → to < destinations → bit m i ≡ true → bit (sharedFor (withShared to m x) to) i ≡ true
+pub shared-has : (to m : ℕ) (x : Slot) (i : ℕ) → to < destinations → bit m i ≡ true → bit (sharedFor (withShared to m x) to) i ≡ true
 unfolding sharedFor withShared
 shared-has zero m x i l h = or-last (x .alice) m i h
 shared-has (suc zero) m x i l h = or-last (x .bob) m i h
@@ -37,7 +42,7 @@ slot-shows s p t x i on l h =
     let w = shared-has (entryTo (x .block)) (exposedMask s t) x i l h in
     split (leavesPool s (inBlock p) t) (λ y. rw (y, on) w) (λ y. rw (y, on) w)
 
-block-shows : (s : List ℕ) (p : Position) (t i : ℕ) → t < count s → t < length (p .slots) → inBlock p t ≡ true → blockTo p t < destinations
+pub block-shows : (s : List ℕ) (p : Position) (t i : ℕ) → t < count s → t < length (p .slots) → inBlock p t ≡ true → blockTo p t < destinations
     → bit (exposedMask s t) i ≡ true → bit (shared (afterMine s p) t (blockTo p t)) i ≡ true
 unfolding shared inBlock blockTo afterMine withMined slot
 block-shows s p t i l m on to h = rw (all-slot s (mineSlot s p) p t l m) (slot-shows s p t (slot p t) i on to h)
