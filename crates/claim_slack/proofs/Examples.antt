@@ -11,7 +11,9 @@ use Rattle.claim_ledger.specs.Claim.{positionOf}
 use Rattle.claim_attainable.specs.Words.{stepOf, without}
 use Rattle.attainable.specs.Attainable.{gone, secretsOf, otherKeys, othersKeys, shownBy, knownFrom, overdue, forgone, neverSent, waitsFor, signable, comes, grown, rounds, attainable, attainableElsewhere}
 use Rattle.slack.specs.Beaten.{destinationOf, above, canCome, canComeElsewhere, fixed, runs, lockBeside, pooled, signs, lockedLater, late, anyLate, stands, waitsBefore, sooner, comesBeside, beats, last}
-use Rattle.slack.specs.Kept.{knownAt, unbeaten, free, comesForParty, goodChild, elsewhereFree, answered, goodBy, goodRounds, good, paid, reached, keptTo, kept, longest, slack}
+use Rattle.slack.specs.Kept.{knownAt, unbeaten, free, comesForParty, goodChild, elsewhereFree, answered, goodBy, goodRounds, good, paid, reached, keptTo, kept, longest}
+use Rattle.slack.specs.Settled.{throwsOut, settles, settled}
+use Rattle.slack.specs.Slack.{keptSettled, lasts, slack}
 use Rattle.claim_slack.specs.Claim.{AtLeast, Falling, Stays, Lasting}
 use Rattle.claim_slack.proofs.Theorems.{slack-lasts}
 
@@ -19,7 +21,7 @@ unfoldable judged : Unit {0}
 unfolding opened joined setBelow allBelow anyBelow greater lockAt soonestOver soonestBlock soonestParent sinceLocked
     gone secretsOf otherKeys othersKeys shownBy knownFrom overdue forgone neverSent waitsFor signable comes grown rounds attainable attainableElsewhere
     destinationOf above canCome canComeElsewhere fixed runs lockBeside pooled signs lockedLater late anyLate stands waitsBefore sooner comesBeside beats last
-    knownAt unbeaten free comesForParty goodChild elsewhereFree answered goodBy goodRounds good paid reached keptTo kept greatestTo slack stepOf without
+    knownAt unbeaten free comesForParty goodChild elsewhereFree answered goodBy goodRounds good paid reached keptTo kept throwsOut settles settled keptSettled lasts greatestTo slack stepOf without
 judged = tt
 
 -- a swap by hash and time locks: 0 locks coin A by Alice's signature, 1 coin B by Bob's; 2 pays Bob coin A by his and the secret, 3 Alice
@@ -62,7 +64,7 @@ abbrev after : ℕ → List ℕ → Position
 after perDay journal = positionOf htlc (open-at perDay) (journalSteps journal)
 
 abbrev keeps : ℕ → List ℕ → ℕ → ℕ → Bool
-keeps perDay journal x k = kept htlc (open-at perDay) (after perDay journal) x k
+keeps perDay journal x k = lasts htlc (open-at perDay) (after perDay journal) x k
 
 -- ---- kept
 
@@ -102,7 +104,7 @@ alice-gives = (refl, refl)
 
 -- what is kept for k blocks and not for one more
 module _ (s u : List ℕ) (p : Position) (x : ℕ) (f : Falling s u p x) where
-  slack-is : (k : ℕ) → k ≤ longest → kept s u p x k ≡ true → kept s u p x (k + 1) ≡ false → slack s u p x ≡ k
+  slack-is : (k : ℕ) → k ≤ longest → lasts s u p x k ≡ true → lasts s u p x (k + 1) ≡ false → slack s u p x ≡ k
   slack-is k l y n =
       let a = f .greatest k l y in
       let w = f .written (a .0) in
@@ -110,7 +112,7 @@ module _ (s u : List ℕ) (p : Position) (x : ℕ) (f : Falling s u p x) where
       (λ z. let most = leb-true (slack s u p x) k z in let least = a .1 in omega (arith, most, least))
       (λ z. let more = leb-false (slack s u p x) k z in clash (f .fewer (slack s u p x) (k + 1) (omega (arith, more)) (w .1)) n)
 
-  slack-never : kept s u p x 0 ≡ false → slack s u p x ≡ never
+  slack-never : lasts s u p x 0 ≡ false → slack s u p x ≡ never
   slack-never n =
       split (eqb (slack s u p x) never)
       (eqb-true (slack s u p x) never)
@@ -149,7 +151,7 @@ claim-words : (without bob (journalSteps claimed) ≡ true) × (then claimed .mi
 unfolding judged
 claim-words = (refl, refl)
 
-pub bob-keeps : kept htlc (open-at 3) (then claimed) bob 3 ≡ true
+pub bob-keeps : lasts htlc (open-at 3) (then claimed) bob 3 ≡ true
 bob-keeps = lasts-bob .stays (journalSteps claimed) (claim-words .0) .keeps 4 1 (omega arith) (claim-words .1) (omega arith) (bob-locked .0)
 
 pub bob-remains : AtLeast htlc (open-at 3) (then claimed) bob 3
@@ -158,7 +160,7 @@ bob-remains =
     (lasts-bob .falling .greatest 4 (omega arith) (bob-locked .0))
 
 -- it does not keep 4 blocks, and her gift, a step of hers, keeps her no 3
-pub bob-not-more : kept htlc (open-at 3) (then claimed) bob 4 ≡ false
+pub bob-not-more : lasts htlc (open-at 3) (then claimed) bob 4 ≡ false
 unfolding judged
 bob-not-more = refl
 
@@ -189,10 +191,10 @@ abbrev ringed : List ℕ → Position
 ringed journal = positionOf ring (open-at 3) (journalSteps journal)
 
 -- Alice and Bob sign for their coins alone; Carol has nothing to count on before Bob has shared his signature for hers
-pub ring-kept : (kept ring (open-at 3) (ringed []) alice 10000 ≡ true)
-    × (kept ring (open-at 3) (ringed []) bob 10000 ≡ true)
-    × (kept ring (open-at 3) (ringed []) carol 0 ≡ false)
-    × (kept ring (open-at 3) (ringed (1 ∷ 1 ∷ 5 ∷ 3 ∷ [])) carol 10000 ≡ true)
+pub ring-kept : (lasts ring (open-at 3) (ringed []) alice 10000 ≡ true)
+    × (lasts ring (open-at 3) (ringed []) bob 10000 ≡ true)
+    × (lasts ring (open-at 3) (ringed []) carol 0 ≡ false)
+    × (lasts ring (open-at 3) (ringed (1 ∷ 1 ∷ 5 ∷ 3 ∷ [])) carol 10000 ≡ true)
 unfolding judged
 ring-kept = (refl, refl, refl, refl)
 
@@ -207,8 +209,8 @@ revoked =
     (journalSteps ((1 ∷ 0 ∷ 255 ∷ 2 ∷ 1 ∷ 1 ∷ 255 ∷ 2 ∷ []) ++ locked ++ mine ++ mine ++ confirmed 1 4 2))
 
 -- Alice counts on refund_2 up to the block before timeout's; Bob keeps his for good, since refund_2 shows him her secret
-pub saswap-kept : (kept (saswap 1) careful revoked alice 1 ≡ true)
-    × (kept (saswap 1) careful revoked alice 2 ≡ false)
-    × (kept (saswap 1) careful revoked bob 10000 ≡ true)
+pub saswap-kept : (lasts (saswap 1) careful revoked alice 1 ≡ true)
+    × (lasts (saswap 1) careful revoked alice 2 ≡ false)
+    × (lasts (saswap 1) careful revoked bob 10000 ≡ true)
 unfolding judged
 saswap-kept = (refl, refl, refl)

@@ -15,4 +15,5 @@ pub mod SettledAhead
 pub mod Reached
 pub mod Lasting
 pub mod Theorems
+pub mod SettledExamples
 pub mod Examples
