@@ -1,4 +1,4 @@
--- What is found over the tables of a prospect is the slack, and what is counted on.
+-- What is found over the tables of a prospect is what is kept for how many blocks, and what is counted on.
 -- Assumes nothing.
 use Rattle.laws.proofs.Prelude.{ℕ, suc, _+_, _*_, _≤_, _<_, _≡_, refl, sym, ap, _∙_, Bool, not, _&&_, List, eqb, leb, getD, arith}
 use Rattle.laws.specs.Booleans.{pick}
@@ -11,12 +11,12 @@ use Rattle.sheet.specs.LockHeight.{never}
 use Rattle.sheet.specs.Checked.{Checked}
 use Rattle.position.specs.declared.Position.{Position}
 use Rattle.slack.specs.Beaten.{beats}
-use Rattle.slack.specs.Kept.{reached, kept, longest, slack}
+use Rattle.slack.specs.Kept.{reached, kept, longest, keptFor}
 use Rattle.slack.specs.Counted.{lowest, sure, countedOn}
 use Rattle.slack.proofs.Falling.{kept-falls}
 use Rattle.kept.specs.declared.Prospect.{Prospect}
 use Rattle.kept.specs.Forms.Prospect.{Seen}
-use Rattle.kept.specs.Forms.Evaluation.{reachedIn, sureIn, lowestIn, countedIn, keptFor, Falls}
+use Rattle.kept.specs.Forms.Evaluation.{reachedIn, sureIn, lowestIn, countedIn, keptOver, Falls}
 use Rattle.kept.proofs.Evaluated.{reached-is, kept-is}
 use Rattle.kept.proofs.LeastPassing.{least-same}
 
@@ -24,18 +24,18 @@ module _ (s u : List ℕ) (ok : Checked s) (p : Position) (x : ℕ) (q : Prospec
   early : p .mined < 65536
   early = rw (see .mined-is) at (see .bounded .early)
 
-  kept-for-is : (k : ℕ) → k ≤ longest → keptFor q k ≡ kept s u p x k
-  unfolding keptFor kept
-  kept-for-is k l =
+  kept-over-is : (k : ℕ) → k ≤ longest → keptOver q k ≡ kept s u p x k
+  unfolding keptOver kept
+  kept-over-is k l =
       kept-is s u ok p x q see (q .mined + k) (omega (arith, see .bounded .early, l)) ∙ rw (see .mined-is) refl
 
   pub falls : Falls q
   falls k l h =
-      kept-for-is k (omega (arith, l)) ∙ kept-falls s u ok p (omega (arith, early)) x k (sym (kept-for-is (suc k) l) ∙ h)
+      kept-over-is k (omega (arith, l)) ∙ kept-falls s u ok p (omega (arith, early)) x k (sym (kept-over-is (suc k) l) ∙ h)
 
-  pub slack-is : greatestTo longest (keptFor q) never ≡ slack s u p x
-  unfolding slack
-  slack-is = greatest-same longest (keptFor q) (kept s u p x) never kept-for-is
+  pub kept-for-is : greatestTo longest (keptOver q) never ≡ keptFor s u p x
+  unfolding keptFor
+  kept-for-is = greatest-same longest (keptOver q) (kept s u p x) never kept-over-is
 
   lowest-is : (set : ℕ) (f : ℕ → Bool) → set ≡ setBelow (count s) f → lowestIn (q .count) set ≡ lowest s f
   unfolding lowestIn lowest

@@ -85,9 +85,10 @@ keptTo s u p x off = paid s p x || anyBelow (count s) (reached s u p x off)
 unfoldable pub kept : List ℕ → List ℕ → Position → ℕ → ℕ → Bool
 kept s u p x k = keptTo s u p x (p .mined + k)
 
--- "The slack of X is the greatest k ≤ 10,000 with kept(k); none where kept(0) is false.": never then
+-- "10,000"
 abbrev pub longest : ℕ
 longest = 10000
 
-unfoldable pub slack : List ℕ → List ℕ → Position → ℕ → ℕ
-slack s u p x = greatestTo longest (kept s u p x) never
+-- "the greatest k ≤ 10,000 with kept(k)", as the position stands; never where there is none
+unfoldable pub keptFor : List ℕ → List ℕ → Position → ℕ → ℕ
+keptFor s u p x = greatestTo longest (kept s u p x) never

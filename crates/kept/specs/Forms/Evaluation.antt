@@ -102,9 +102,9 @@ pub record Bounded (q : Prospect) : Type 0 where
   pub ending : (t : ℕ) → t < q .count → getD (q .ends) t 0 ≤ never
 
 -- kept for so many blocks
-unfoldable pub keptFor : Prospect → ℕ → Bool
-keptFor q k = keptIn q (q .mined + k)
+unfoldable pub keptOver : Prospect → ℕ → Bool
+keptOver q k = keptIn q (q .mined + k)
 
 -- what is kept for so many blocks, up to the longest outage that is asked for, is kept for fewer
 abbrev pub Falls : Prospect → Type 0
-Falls q = (k : ℕ) → k < longest → keptFor q (suc k) ≡ true → keptFor q k ≡ true
+Falls q = (k : ℕ) → k < longest → keptOver q (suc k) ≡ true → keptOver q k ≡ true
