@@ -1,4 +1,5 @@
 pub mod RowLengths
 pub mod SlackAnswers
 pub mod NoneDue
+pub mod Longer
 pub mod Found

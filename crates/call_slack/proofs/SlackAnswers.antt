@@ -1,13 +1,15 @@
 -- The answers of slack, case by case.
 -- Assumes nothing.
-use Rattle.laws.proofs.Prelude.{ℕ, _*_, _≤_, _<_, _≡_, _∙_, List, length}
+use Rattle.laws.proofs.Prelude.{ℕ, _*_, _≤_, _<_, _≡_, _∙_, List, length, arith}
 use Rattle.laws.specs.Over.{over}
 use Rattle.sheet.specs.Field.{parties}
 use Rattle.sheet.specs.Refusal.{accepted, bufferShort}
+use Rattle.sheet.specs.Checked.{Checked}
 use Rattle.position.specs.declared.Ran.{Ran}
 use Rattle.position.specs.Play.{run}
 use Rattle.position.specs.Answers.{passOn}
 use Rattle.position.proofs.Passing.{not-passed-on, passed-short, passed-whole}
+use Rattle.step_laws.proofs.Wellformeds.{wellformed-run}
 use Rattle.call_run.proofs.Bounds.{written-bounds}
 use Rattle.call_slack.specs.Row.{slackBytes}
 use Rattle.call_slack.specs.Answer.{slackAnswer}
@@ -30,6 +32,10 @@ module _ (s u j : List ℕ) (r : Ran) (e : r ≡ run s u j) (out : List ℕ) whe
 
   pub slack-whole : r .refusal ≡ 0 → 8 * parties s ≤ length out → slackAnswer s u j out ≡ record { refusal = accepted; count = 0; buffer = over rows out }
   slack-whole z l = is-slack ∙ passed-whole r rows out 0 z (rw (rows-length s u (r .position)) l)
+
+-- a journal mines few blocks
+pub mined-few : (s u j : List ℕ) → Checked s → (r : Ran) → r ≡ run s u j → r .position .mined < 65535
+mined-few s u j ok r e = let few = wellformed-run s u ok j .mined in rw e (omega (arith, few))
 
 -- the number of a slack
 pub slack-below : (s u j : List ℕ) (out : List ℕ) → slackAnswer s u j out .refusal < 33

@@ -13,12 +13,21 @@ use Rattle.sheet.specs.LockHeight.{never}
 use Rattle.position.specs.declared.Position.{Position}
 use Rattle.position.specs.Play.{step}
 use Rattle.slack.specs.Beaten.{destinationOf}
-use Rattle.slack.specs.Kept.{slack}
+use Rattle.soonest.specs.Soonest.{greater}
+use Rattle.slack.specs.Kept.{kept}
 use Rattle.slack.specs.Counted.{none, countedOn}
+use Rattle.slack.specs.Settled.{settled}
+use Rattle.slack.specs.Slack.{slack}
 
--- "the transaction that the party counts on": over the outage that its slack allows, "255 .. if none"
+-- "the transaction that the party counts on": over the outage that its slack allows, as the position stands or, where it is not kept so, in the
+-- settled position; "255 .. if none"
 unfoldable pub countedAt : List ℕ → List ℕ → Position → ℕ → ℕ → ℕ
-countedAt s u p x blocks = pick (eqb blocks never) none (countedOn s u p x (p .mined + blocks))
+countedAt s u p x blocks =
+    pick (eqb blocks never)
+    none
+    (pick (kept s u p x blocks)
+    (countedOn s u p x (p .mined + blocks))
+    (countedOn s u (settled s u p x) x (p .mined + greater blocks 1)))
 
 -- "and its destination (255 and 255 if none)"
 unfoldable pub destinationFor : List ℕ → ℕ → ℕ → ℕ

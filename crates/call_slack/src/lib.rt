@@ -1,4 +1,5 @@
 // For how many blocks each party can take no step, from the position that a journal leads to.
+mod both;
 mod due;
 mod row;
 mod rows;

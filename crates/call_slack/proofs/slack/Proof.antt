@@ -1,6 +1,6 @@
 -- Refused with the run, too short a buffer, or the rows.
 use Rattle.call_run.proofs.Runs.{ran-fit}
-use Rattle.call_slack.proofs.SlackAnswers.{slack-refused, slack-short, slack-whole}
+use Rattle.call_slack.proofs.SlackAnswers.{slack-refused, slack-short, slack-whole, mined-few}
 use Rattle.laws.proofs.Prelude.{refl, needs, arith}
 use Rattle.call_slack.proofs.slack.Statement.{statement}
 use Rattle.call_slack.proofs.slack.Tie as tie
@@ -25,8 +25,9 @@ returns-2 c =
 
 write-rows-requires : tie.Need-write-rows-requires
 write-rows-requires c κs =
-    let h = ran-fit _ _ _ _ (c .before .before .before .before .before .before .ran .ensures) (c .before .before .before .before .if1 .left) in
-    (h, omega (arith, c .before .before .if2 .left, c .before .before .before .parties .ensures .is))
+    let ran = c .before .before .before .before .before .before .ran .ensures in
+    let h = ran-fit _ _ _ _ ran (c .before .before .before .before .if1 .left) in
+    (h, (mined-few _ _ _ (h .checked) _ ran, omega (arith, c .before .before .if2 .left, c .before .before .before .parties .ensures .is)))
 
 returns-3 : tie.Need-returns-3
 returns-3 c =

@@ -15,7 +15,7 @@ abbrev μ-loop : tie.MeasureT-loop
 loop-holds : tie.Need-loop-holds Inv-loop μ-loop
 loop-holds c =
     let k = c .before .before .before .before in
-    turns-start _ _ _ (rows-room (k .args .sheet .now) (k .args .setup .now) (k .args .position) (c .parties .result) _ (c .parties .ensures .is) (k .pre .1))
+    turns-start _ _ _ (rows-room (k .args .sheet .now) (k .args .setup .now) (k .args .position) (c .parties .result) _ (c .parties .ensures .is) (k .pre .1 .1))
 
 party-at-requires : tie.Need-party-at-requires Inv-loop μ-loop
 party-at-requires c κs = omega (arith, c .loop-test .taken, c .before .before .parties .ensures .few)
@@ -31,7 +31,7 @@ write-at-requires c κs =
     let k = c .before .before .before .before .before .before .before .before in
     let i = c .before .before .before .loop in
     let l = row-length (k .args .sheet .now) (k .args .setup .now) (k .args .position) (i .k) in
-    (k .pre .0, omega (arith, l, turn-room _ _ _ _ _ _ (i .inv) (c .before .before .loop-test .taken)))
+    (k .pre .0, (k .pre .1 .0, omega (arith, l, turn-room _ _ _ _ _ _ (i .inv) (c .before .before .loop-test .taken))))
 
 add-at : tie.Need-add-at Inv-loop μ-loop
 add-at c =

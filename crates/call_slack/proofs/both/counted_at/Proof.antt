@@ -1,8 +1,8 @@
 -- None where there is no slack, else what the prospect tells.
 use Rattle.call_slack.specs.Forms.Counted.{countedAtIn}
 use Rattle.laws.proofs.Prelude.{eq-eqb, ne-eqb, arith}
-use Rattle.call_slack.proofs.rows.counted_at.Statement.{statement}
-use Rattle.call_slack.proofs.rows.counted_at.Tie as tie
+use Rattle.call_slack.proofs.both.counted_at.Statement.{statement}
+use Rattle.call_slack.proofs.both.counted_at.Tie as tie
 
 returns : tie.Need-returns
 unfolding countedAtIn
