@@ -1,6 +1,6 @@
 -- What is found for a party, by what is read of the position as it stands and of the settled one.
 -- Assumes nothing.
-use Rattle.laws.proofs.Prelude.{ℕ, _+_, _≤_, _<_, _≡_, ap, sym, _∙_, Bool, true, false, List, eqb, ltb, eqb-true, eqb-false, ltb-true, ltb-false, arith, split, either, fails-by}
+use Rattle.laws.proofs.Prelude.{ℕ, _+_, _≤_, _<_, _≡_, refl, ap, sym, _∙_, Bool, true, false, List, eqb, ltb, eqb-true, eqb-false, ltb-true, ltb-false, arith, split, either, fails-by}
 use Rattle.laws.specs.Greatest.{greatestTo}
 use Rattle.laws.specs.Least.{leastBelow, least-reached, least-top}
 use Rattle.sheet.specs.Field.{count}
@@ -19,7 +19,7 @@ use Rattle.kept.specs.Forms.Evaluation.{keptOver}
 use Rattle.kept.proofs.Answers.{kept-for-is, counted-is}
 use Rattle.call_slack.specs.Row.{countedAt}
 use Rattle.call_slack.specs.Forms.Counted.{longer, countedAtIn, countedBoth}
-use Rattle.call_slack.proofs.Longer.{longer-is, longer-few, greater-one, slack-longer}
+use Rattle.call_slack.proofs.Longer.{longer-is, longer-few, longer-same, greater-one, slack-longer, slack-longest}
 
 -- the lowest is a transaction, or none
 lowest-low : (s : List ℕ) (f : ℕ → Bool) → (lowest s f ≡ none → ⊥) → lowest s f < count s
@@ -71,6 +71,28 @@ module _ (s u : List ℕ) (ok : Checked s) (p : Position) (x : ℕ) (q : Prospec
   counted-never : (blocks : ℕ) → eqb blocks never ≡ true → countedAtIn q blocks ≡ none
   unfolding countedAtIn
   counted-never blocks y = rw y
+
+-- where the position as it stands keeps for the longest
+module _
+    (s u : List ℕ) (ok : Checked s) (p : Position) (x : ℕ) (q : Prospect) (see : Seen s u p x q)
+    (a : ℕ) (e : a ≡ greatestTo longest (keptOver q) never) (top : a ≡ longest) where
+  is-longest : keptFor s u p x ≡ longest
+  is-longest = sym (kept-for-is s u ok p x q see) ∙ (sym e ∙ top)
+
+  pub longest-slack : longer a a ≡ slack s u p x
+  longest-slack = longer-same a ∙ (top ∙ sym (slack-longest s u p x is-longest))
+
+  stands-longest : kept s u p x longest ≡ true
+  unfolding keptFor
+  stands-longest =
+      let i : greatestTo longest (kept s u p x) never ≡ longest = is-longest in
+      rw i at (greatest-passes (kept s u p x) never longest (λ y. omega (arith, i, y)) .1)
+
+  pub longest-counted : countedBoth q q a (longer a a) ≡ countedAt s u p x (slack s u p x)
+  unfolding countedBoth countedAt
+  longest-counted =
+      rw (longer-same a, top, slack-longest s u p x is-longest, stands-longest)
+      (counted-over s u ok p x q see longest refl (omega arith))
 
 module _
     (s u : List ℕ) (ok : Checked s) (p : Position) (x : ℕ) (q r : Prospect) (see : Seen s u p x q) (then : Seen s u (settled s u p x) x r)

@@ -60,6 +60,9 @@ longer-few a b n k l some =
     (λ w. rw (w .0) (k (rw (w .0) at some)))
     (λ w. rw (w .0) (l (rw (w .0) at some)))
 
+pub longer-same : (a : ℕ) → longer a a ≡ a
+longer-same a = either (longer-is a a) (λ w. w .0) (λ w. w .0)
+
 -- a number from 1 on
 pub greater-one : (k : ℕ) → 1 ≤ k → greater k 1 ≡ k
 greater-one k l = le-antisymm (greater-le k 1 k (omega arith) l) (greater-left k 1)
@@ -104,3 +107,16 @@ module _ (f g : ℕ → Bool) where
 pub slack-longer : (s u : List ℕ) (p : Position) (x : ℕ) → slack s u p x ≡ longer (keptFor s u p x) (keptFor s u (settled s u p x) x)
 unfolding slack lasts keptSettled keptFor kept settled changeSlots withSlots
 slack-longer s u p x = greatest-longer (kept s u p x) (kept s u (settled s u p x) x)
+
+-- where the position as it stands keeps for the longest, that is the slack
+pub slack-longest : (s u : List ℕ) (p : Position) (x : ℕ) → keptFor s u p x ≡ longest → slack s u p x ≡ longest
+unfolding keptFor
+slack-longest s u p x e =
+    let a = keptFor s u p x in
+    let b = keptFor s u (settled s u p x) x in
+    either (longer-is a b)
+    (λ w. slack-longer s u p x ∙ (w .0 ∙ e))
+    (λ w.
+    let more = w .3 (λ y. absurd (omega (arith, y, e))) in
+    let most = greatest-passes (kept s u (settled s u p x) x) never longest (w .2) .0 in
+    absurd (omega (arith, more, most, e)))

@@ -2,6 +2,7 @@
 use kept::Prospect;
 use kept::counted::NOBODY;
 use kept::counted::counted;
+use kept::greatest::LONGEST;
 use kept::greatest::kept_for;
 use position::Position;
 use prospect::seen::prospect;
@@ -72,7 +73,8 @@ fn both(standing: Prospect, settled: Prospect, a: u32, b: u32) -> Found
     Found { blocks, t }
 }
 
-// From the position as it stands and, where something of the block being filled settles, from the settled one.
+// From the position as it stands and, where that does not keep for the longest and something of the block being filled settles, from the
+// settled one.
 pub fn found_at(position: Position, sheet: &[u8], setup: &[u8], party: u8) -> Found
     requires { ⌜ Fit (now sheet) (now setup) ⌝ }
     requires { ⌜ position .mined < 65535 ⌝ }
@@ -81,6 +83,9 @@ pub fn found_at(position: Position, sheet: &[u8], setup: &[u8], party: u8) -> Fo
 {
     let standing = prospect(position, sheet, setup, party);
     let a = kept_for(standing);
+    if a == LONGEST {
+        return both(standing, standing, a, a);
+    }
     let members = settle::settling(position, sheet, setup, party);
     if members == 0 {
         return both(standing, standing, a, a);
