@@ -1,6 +1,9 @@
 #include "action.h"
 
+#include <string.h>
+
 #include "../common/steps.h"
+#include "outages.h"
 #include "words.h"
 
 /* The engine's refusal of a step after the journal. */
@@ -10,20 +13,34 @@ static uint32_t refusal_of(const struct swap *swap, const uint8_t step[4])
                                  swap->journal_length, step, SWAP_STEP_SIZE));
 }
 
-/* The last block in which it can be confirmed with the margin left, and no sooner than it can be: where it is sent for
- * another party, the next one. */
-static uint32_t last_safe(const struct question *question, const struct position *position, uint8_t t, bool sent)
+/* The last block for what is counted on: the one after the slack. */
+static uint32_t end_of(const struct entry *entry, const struct stand *stand)
 {
-    uint32_t soonest = soonest_block_of(position, t);
-    uint32_t deadline = soonest_deadline_of(position, t);
+    return is_bounded(stand) ? entry->position.mined + 1 + stand->slack : SWAP_NEVER;
+}
 
-    if (sent) {
-        return soonest;
+/* The last block for the open step that helps: where it sends another transaction, no later than that one's deadline. */
+static uint32_t end_of_step(const struct entry *entry, const struct stand *stand)
+{
+    uint32_t end = end_of(entry, stand);
+    uint32_t deadline;
+
+    if (stand->step[0] == SWAP_GIVE || stand->step[0] == SWAP_SHARE || stand->step[2] == stand->t) {
+        return end;
     }
-    if (deadline == SWAP_NEVER) {
+    deadline = soonest_deadline_of(&entry->position, stand->step[2]);
+    return deadline < end ? deadline : end;
+}
+
+/* The last block that is safe with the margin left after it, the next one where that is passed. */
+static uint32_t with_margin(const struct question *question, const struct entry *entry, uint32_t end)
+{
+    uint32_t next = entry->position.mined + 1;
+
+    if (end == SWAP_NEVER) {
         return SWAP_NEVER;
     }
-    return deadline > soonest && deadline - soonest > question->margin ? deadline - question->margin : soonest;
+    return end > next && end - next > question->margin ? end - question->margin : next;
 }
 
 /* Asks for the send, and for the hand-in where the deadline is reached: whether the refusal can pass with time, and what
@@ -32,20 +49,22 @@ static bool waits(const struct position *position, struct action *action)
 {
     const struct swap *swap = position->swap;
     uint8_t t = action->step[2];
+    uint32_t refusal;
 
     action->step[0] = SWAP_SEND;
-    action->refusal = refusal_of(swap, action->step);
-    if (action->refusal == SWAP_STEP_DEADLINE && stealth_of(swap) != 0) {
+    refusal = refusal_of(swap, action->step);
+    if (refusal == SWAP_STEP_DEADLINE && stealth_of(swap) != 0) {
         action->step[0] = SWAP_HAND_IN;
-        action->refusal = refusal_of(swap, action->step);
+        refusal = refusal_of(swap, action->step);
     }
-    if (action->refusal == SWAP_STEP_PARENT) {
+    action->why = swap_refusal_words(refusal);
+    if (refusal == SWAP_STEP_PARENT) {
         action->once = parent_of(swap, t);
     }
     if (soonest_block_of(position, t) > position->mined + 1) {
         action->after = soonest_block_of(position, t) - 1;
     }
-    return action->refusal == SWAP_STEP_PARENT || action->refusal == SWAP_STEP_LOCK;
+    return refusal == SWAP_STEP_PARENT || refusal == SWAP_STEP_LOCK;
 }
 
 /* Whether the step is open, to the pool or else to the miner. */
@@ -59,26 +78,51 @@ static bool is_open_now(const struct position *position, struct action *action)
     return is_open(position, action->step);
 }
 
-struct action action_of(const struct question *question, const struct entry *entry, uint8_t t, uint8_t side)
+/* Of what is counted on, where no open step makes the slack more. */
+static enum act act_of(const struct position *position, const struct stand *stand, struct action *action)
+{
+    uint8_t sent = sent_to(position, stand->t);
+
+    if (sent == stand->payee) {
+        action->why = "sent";
+        return DONE;
+    }
+    if (stand->slack >= SWAP_SLACK_MOST) {
+        action->why = "no deadline ahead";
+        return DONE;
+    }
+    if (is_open_now(position, action)) {
+        return DO;
+    }
+    return waits(position, action) ? LATER : NO_MEANS;
+}
+
+struct action action_of(const struct question *question, const struct entry *entry, uint8_t side)
 {
     const struct position *position = &entry->position;
-    uint8_t destination = payees_of(&entry->swap, t) == 0 ? SWAP_CONTRACT : side;
+    const struct stand *stand = &entry->stands[side];
     struct action action = {
-        .step = {SWAP_SEND, side, t, destination},
+        .act = NO_PAYOUT,
+        .step = {SWAP_SEND, side, stand->t, stand->payee},
         .once = SWAP_NONE,
         .after = SWAP_NEVER,
-        .payee = sent_to(position, t),
+        .by = with_margin(question, entry, stand->helps ? end_of_step(entry, stand) : end_of(entry, stand)),
+        .payee = SWAP_NONE,
+        .helps = stand->helps,
+        .why = standing_word(stand->standing),
     };
 
-    action.by = last_safe(question, position, t, action.payee != SWAP_NONE);
-    if (action.payee == destination) {
-        action.act = DONE;
-    } else if (is_open_now(position, &action)) {
+    if (stand->t != SWAP_NONE && sent_to(position, stand->t) != stand->payee) {
+        action.payee = sent_to(position, stand->t);
+    }
+    if (stand->helps) {
         action.act = DO;
-    } else if (action.payee != SWAP_NONE) {
-        action.act = NO_MEANS;
-    } else {
-        action.act = waits(position, &action) ? LATER : NO_MEANS;
+        memcpy(action.step, stand->step, SWAP_STEP_SIZE);
+    } else if (stand->standing == PAID) {
+        action.act = DONE;
+        action.why = is_paid(position, side) ? "paid" : "sent";
+    } else if (stand->standing == KEPT) {
+        action.act = act_of(position, stand, &action);
     }
     return action;
 }
@@ -86,40 +130,57 @@ struct action action_of(const struct question *question, const struct entry *ent
 const char *act_word(const struct action *action)
 {
     static const char *const words[] = {
-        [DO] = "do", [LATER] = "do", [DONE] = "nothing to do", [NO_MEANS] = "nothing can be done now"};
+        [DO] = "do",
+        [LATER] = "do",
+        [DONE] = "nothing to do",
+        [NO_MEANS] = "nothing can be done now",
+    };
 
-    return words[action->act];
+    return action->act == NO_PAYOUT ? action->why : words[action->act];
 }
 
-const char *reason_of(const struct action *action)
+bool is_now(const struct entry *entry, const struct action *action)
 {
-    static const char *const sent[] = {"sent, pays Alice", "sent, pays Bob", NULL, "sent, pays Carol"};
-
-    if (action->act == DONE) {
-        return "sent";
-    }
-    if (action->act != NO_MEANS) {
-        return NULL;
-    }
-    return action->payee != SWAP_NONE ? sent[action->payee] : swap_refusal_words(action->refusal);
+    return action->act == DO && action->by == entry->position.mined + 1;
 }
 
-void print_action(FILE *to, const struct question *question, const struct entry *entry, const struct action *action)
+/* Until when the step is to be taken, and what it brings. */
+static void print_until(FILE *to, const struct question *question, const struct entry *entry, uint8_t side,
+                        const struct action *action)
 {
-    const char *reason = reason_of(action);
-
-    fprintf(to, "%s: %s", act_word(action), reason != NULL ? reason : step_words(&entry->swap, action->step).text);
-    if (reason != NULL) {
-        return;
-    }
-    if (action->once != SWAP_NONE) {
-        fprintf(to, ", once %s is sent", transaction_label(&entry->swap, action->once).text);
-    }
-    if (action->after != SWAP_NEVER) {
-        fprintf(to, ", after block %s", height_label(entry->base, action->after).text);
-    }
-    if (action->by != SWAP_NEVER) {
+    if (is_now(entry, action)) {
+        fprintf(to, ", now");
+    } else if (action->by != SWAP_NEVER) {
         fprintf(to, ", by block %s", height_label(entry->base, action->by).text);
         print_estimate(to, &question->clock, action->by - entry->position.mined);
     }
+    if (action->helps) {
+        struct slack then = slack_after(question, entry->stands[side].then);
+
+        fprintf(to, ", then free %s", slack_label(&then).text);
+    }
+}
+
+void print_action(FILE *to, const struct question *question, const struct entry *entry, uint8_t side)
+{
+    struct action action = action_of(question, entry, side);
+
+    if (action.payee != SWAP_NONE) {
+        fprintf(to, "sent, pays %s; ", destination_name(action.payee));
+    }
+    fputs(act_word(&action), to);
+    if (action.act == NO_PAYOUT) {
+        return;
+    }
+    fprintf(to, ": %s", action.act > LATER ? action.why : step_words(&entry->swap, action.step).text);
+    if (action.act > LATER) {
+        return;
+    }
+    if (action.once != SWAP_NONE) {
+        fprintf(to, ", once %s is sent", transaction_label(&entry->swap, action.once).text);
+    }
+    if (action.after != SWAP_NEVER) {
+        fprintf(to, ", after block %s", height_label(entry->base, action.after).text);
+    }
+    print_until(to, question, entry, side, &action);
 }

@@ -22,19 +22,6 @@ void print_if(FILE *to, const char *words, const struct position *position, uint
     }
 }
 
-void print_before(FILE *to, const struct position *position, const struct outage *outage, uint8_t t, uint32_t base)
-{
-    uint32_t from = soonest_block_of(position, t);
-    uint32_t last = soonest_deadline_of(position, t);
-
-    if (last >= outage->first) {
-        last = outage->first - 1;
-    }
-    if (from <= last && last > position->mined) {
-        fprintf(to, "before the outage in %s to %s, ", height_label(base, from).text, height_label(base, last).text);
-    }
-}
-
 void print_in_the_way(FILE *to, const struct position *position, uint8_t t, uint8_t side)
 {
     const struct swap *swap = position->swap;

@@ -13,9 +13,6 @@ void print_else(FILE *to, const struct position *position, uint8_t t, uint32_t b
  * 289". */
 void print_if(FILE *to, const char *words, const struct position *position, uint8_t t, uint32_t base);
 
-/* Prints, for an outage that begins later, the part of the window before it: "before the outage in 445 to 499; ". */
-void print_before(FILE *to, const struct position *position, const struct outage *outage, uint8_t t, uint32_t base);
-
 /* Prints the rivals that no deadline covers: "; rival success can be sent". */
 void print_in_the_way(FILE *to, const struct position *position, uint8_t t, uint8_t side);
 

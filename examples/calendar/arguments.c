@@ -33,8 +33,8 @@ const char help[] =
     "               are estimated, marked with ~, in brackets the hours in which so\n"
     "               many blocks come in 5 and in 95 of 100 cases\n"
     "--minutes M    of a block on average; left out: 10\n"
-    "--ics FILE     also writes an iCalendar file: the end of each window with what to\n"
-    "               do, and the stretches of --slots\n"
+    "--ics FILE     also writes an iCalendar file: what to do by when, and the stretches\n"
+    "               of --slots\n"
     "--full         for each swap the position, the steps that each party could take\n"
     "               now, the payouts so far and all that can still be confirmed\n"
     "--json         the position and the windows of each swap as JSON, for programs;\n"
@@ -43,13 +43,12 @@ const char help[] =
     "               the outage as a band; FILE is new or a plain file\n"
     "The older form [FOLDER] [BLOCKS] [SIDE] works too; a dash leaves a place out.\n"
     "\n"
-    "A line for each swap and side, the most urgent first: its most urgent\n"
-    "transaction, the window of blocks in which it can be confirmed, the blocks left\n"
-    "until the window ends, and what can be confirmed instead after that. A WARNING\n"
-    "says that the window can end in the outage or its margin, and that the\n"
-    "transaction or one below it can pay the side: with the box off, that payout can\n"
-    "be lost. Where the outage begins later, a window that ends before it and cannot\n"
-    "move is no warning; it is shown as due before the outage.\n"
+    "A line for each swap and side, the most urgent first: the transaction that the\n"
+    "side counts on for its payout, the window of blocks in which it can be confirmed,\n"
+    "the blocks left until the window ends, for how many blocks the side can be off,\n"
+    "and what to do by when. A WARNING says that the outage and its margin are longer\n"
+    "than that: with the box off, the payout can be lost. An outage that begins later\n"
+    "counts from now. Nothing secured yet, or given up: there is no payout to lose.\n"
     "Last, for each side, the longest outage from now without a warning over all its\n"
     "swaps, and which of them bounds it.\n"
     "\n"
@@ -226,11 +225,6 @@ static bool read_values(const char *const values[ARGUMENTS], struct question *qu
         return question->sides != 0 || wrong("--side", values[SIDE], "not alice, bob or carol");
     }
     return true;
-}
-
-bool begins_later(const struct question *question)
-{
-    return question->in > 0 || question->from > 0;
 }
 
 /* The argument of this name, or ARGUMENTS. */

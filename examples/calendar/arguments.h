@@ -37,9 +37,6 @@ extern const char help[];
 /* Whether a text is a decimal number of one to nine digits in a range; then it is read. */
 bool is_number_named(const char *text, uint32_t least, uint32_t most, uint32_t *number);
 
-/* Whether the outage begins later than with the next block. */
-bool begins_later(const struct question *question);
-
 /* The mask of a party's name; 0 where it is none. */
 uint8_t side_named(const char *name);
 

@@ -69,9 +69,7 @@ static bool show_form(const struct question *question, const struct desk *desk, 
     } else if (!show_screen(question, desk)) {
         return false;
     }
-    if (!print_outages(stdout, AS_TEXT, question, desk)) {
-        return false;
-    }
+    print_outages(stdout, AS_TEXT, question, desk);
     print_totals(stdout, totals);
     printf("\n");
     return true;
@@ -101,8 +99,7 @@ static int show(const struct question *question, const struct desk *desk, const 
 /* Asks about the outage and shows the swaps: the exit status. */
 static int show_outages(const struct question *question, struct desk *desk, const struct file files[FILES])
 {
-    ask_outages(question, desk);
-    return show(question, desk, files);
+    return ask_outages(question, desk) ? show(question, desk, files) : fault("memory", strerror(errno));
 }
 
 /* Answers a question: the exit status. */

@@ -193,16 +193,27 @@ bool fits_desk(const struct question *question, const struct desk *desk)
     return sound;
 }
 
-void ask_outages(const struct question *question, struct desk *desk)
+/* Of one swap. */
+static bool ask_about(const struct question *question, struct entry *entry)
 {
-    for (size_t i = 0; i < desk->count; i++) {
-        struct entry *entry = desk->entries[i];
-
-        if (is_sound(entry)) {
-            entry->outage = outage_of(question, &entry->position, entry->base);
-            entry->answer = ask_outage(&entry->position, entry->outage.reach);
+    entry->outage = outage_of(question, &entry->position, entry->base);
+    entry->answer = ask_outage(&entry->position, entry->outage.reach);
+    for (uint8_t side = SWAP_ALICE; side <= SWAP_CAROL; side++) {
+        if (is_shown(entry, side) && !ask_stand(&entry->position, &entry->outage, side, &entry->stands[side])) {
+            return false;
         }
     }
+    return true;
+}
+
+bool ask_outages(const struct question *question, struct desk *desk)
+{
+    for (size_t i = 0; i < desk->count; i++) {
+        if (is_sound(desk->entries[i]) && !ask_about(question, desk->entries[i])) {
+            return false;
+        }
+    }
+    return true;
 }
 
 bool same_height(const struct desk *desk, uint32_t *height)

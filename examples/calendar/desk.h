@@ -3,7 +3,7 @@
 #define DESK_H
 
 #include "arguments.h"
-#include "outage.h"
+#include "stand.h"
 
 /* One swap. */
 struct entry {
@@ -17,6 +17,7 @@ struct entry {
     uint32_t answer;          /* the first answer that is a refusal, else one that is none */
     struct position position; /* after a journal that is accepted whole */
     struct outage outage;     /* what is asked about it */
+    struct stand stands[SWAP_CAROL + 1]; /* of the sides that are shown, by their numbers */
 };
 
 struct desk {
@@ -46,8 +47,8 @@ void ask_desk(const struct question *question, struct desk *desk);
  * a message names each swap. */
 bool fits_desk(const struct question *question, const struct desk *desk);
 
-/* Then asks about the outage. */
-void ask_outages(const struct question *question, struct desk *desk);
+/* Then asks about the outage, and where each side that is shown stands; false where there is no memory. */
+bool ask_outages(const struct question *question, struct desk *desk);
 
 /* Whether all sound swaps stand at the same height, of the real chain or by their own blocks; then which. */
 bool same_height(const struct desk *desk, uint32_t *height);

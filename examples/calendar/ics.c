@@ -111,10 +111,10 @@ static void end_event(struct ics *ics)
     fputs("END:VEVENT\r\n", ics->to);
 }
 
-/* The name of a window's end: the same in every file for the swap's name, the side and the transaction. */
-static void write_window_uid(struct ics *ics, struct text *uid, const struct entry *entry, uint8_t t, uint8_t side)
+/* The name of what is to be done: the same in every file for the swap's name, the side and what it counts on. */
+static void write_uid(struct ics *ics, struct text *uid, const struct entry *entry, uint8_t side)
 {
-    fprintf(uid->to, "window-%s-%u-", party_name(side), (unsigned)t);
+    fprintf(uid->to, "payout-%s-%u-", party_name(side), (unsigned)entry->stands[side].t);
     for (const char *byte = entry->name; *byte != '\0'; byte++) {
         fprintf(uid->to, "%02x", (unsigned)(unsigned char)*byte);
     }
@@ -122,55 +122,60 @@ static void write_window_uid(struct ics *ics, struct text *uid, const struct ent
     write_made(ics, "UID", uid);
 }
 
-/* What the event of a window's end says: whose it is and the block; then what to do and what comes else. */
-static void write_window_words(struct ics *ics, const struct entry *entry, uint8_t t, uint8_t side, uint32_t by)
+/* What the event says: whose it is and the block; then what to do and what comes else. */
+static void write_words(struct ics *ics, const struct entry *entry, uint8_t side, uint32_t by)
 {
+    uint8_t t = entry->stands[side].t;
     struct text text;
 
     if (open_text(ics, &text)) {
         write_text(text.to, AS_TEXT, entry->name);
-        fprintf(text.to, ", %s: %s by block %s", party_name(side), transaction_label(&entry->swap, t).text,
-                height_label(entry->base, by).text);
+        fprintf(text.to, ", %s: act by block %s", party_name(side), height_label(entry->base, by).text);
+        if (t != SWAP_NONE) {
+            fprintf(text.to, ", counting on %s", transaction_label(&entry->swap, t).text);
+        }
         write_made(ics, "SUMMARY", &text);
     }
     if (open_text(ics, &text)) {
-        print_outlook(text.to, ics->question, entry, t, side);
+        print_payout(text.to, ics->question, entry, side);
         fprintf(text.to, "; an estimate: from the time of 5 to that of 95 in 100 cases");
         write_made(ics, "DESCRIPTION", &text);
     }
 }
 
-/* The end of a window. */
-static void write_window(struct ics *ics, const struct entry *entry, uint8_t t, uint8_t side)
+/* The last block in which a side can act. */
+static void write_end(struct ics *ics, const struct entry *entry, uint8_t side, uint32_t by)
 {
     const struct clock *clock = &ics->question->clock;
-    struct action action = action_of(ics->question, entry, t, side);
-    uint32_t blocks = action.by - entry->position.mined;
+    uint32_t blocks = by - entry->position.mined;
     struct text uid;
 
     if (!begin_event(ics, &uid)) {
         return;
     }
-    write_window_uid(ics, &uid, entry, t, side);
+    write_uid(ics, &uid, entry, side);
     write_time(ics, "DTSTART", early_time(clock, blocks));
     write_time(ics, "DTEND", late_time(clock, blocks));
-    write_window_words(ics, entry, t, side, action.by);
+    write_words(ics, entry, side, by);
     end_event(ics);
 }
 
-static void write_windows(struct ics *ics, const struct entry *entry)
+/* Of each side of a swap whose payout is not sure without it. */
+static void write_ends(struct ics *ics, const struct entry *entry)
 {
     for (uint8_t side = SWAP_ALICE; side <= SWAP_CAROL; side++) {
-        for (uint8_t t = 0; t < count_of(&entry->swap) && is_shown(entry, side); t++) {
-            if (kind_of(&entry->position, &entry->outage, t, side) < TAKEN) {
-                write_window(ics, entry, t, side);
+        if (is_shown(entry, side)) {
+            struct action action = action_of(ics->question, entry, side);
+
+            if (action.by != SWAP_NEVER && action.act != DONE) {
+                write_end(ics, entry, side, action.by);
             }
         }
     }
 }
 
 /* A stretch, from its late beginning to its early end. */
-static void write_slot(struct ics *ics, const struct slot *slot, uint8_t side, size_t number)
+static void write_slot(struct ics *ics, const struct slot *slot, uint8_t side, bool done)
 {
     const struct question *question = ics->question;
     struct text text;
@@ -178,44 +183,44 @@ static void write_slot(struct ics *ics, const struct slot *slot, uint8_t side, s
     if (!begin_event(ics, &text)) {
         return;
     }
-    fprintf(text.to, "slot-%s-%lu@swap-calendar", party_name(side), (unsigned long)number);
+    fprintf(text.to, "slot-%s-%s@swap-calendar", party_name(side), done ? "done" : "now");
     write_made(ics, "UID", &text);
     write_time(ics, "DTSTART", late_time(&question->clock, slot->first - 1));
     if (slot->last != SLOT_OPEN) {
         write_time(ics, "DTEND", early_time(&question->clock, slot->last));
     }
     if (open_text(ics, &text)) {
-        fprintf(text.to, "%s: an outage of %lu %s%s has no warning%s", party_name(side), (unsigned long)question->slots,
-                question->slots_in_days ? "day" : "block", question->slots == 1 ? "" : "s",
-                slot->last == SLOT_OPEN ? " from here on" : "");
+        fprintf(text.to, "%s: an outage of %lu %s%s has no warning%s%s", party_name(side),
+                (unsigned long)question->slots, question->slots_in_days ? "day" : "block",
+                question->slots == 1 ? "" : "s", slot->last == SLOT_OPEN ? " from here on" : "",
+                done ? ", with what helps now done" : "");
         write_made(ics, "SUMMARY", &text);
     }
     end_event(ics);
 }
 
-/* Whether the stretch is not over, as the estimate goes, before it begins. */
+/* Whether there is a stretch that is not over, as the estimate goes, before it begins. */
 static bool has_time(const struct clock *clock, const struct slot *slot)
 {
-    return slot->last == SLOT_OPEN || late_time(clock, slot->first - 1) < early_time(clock, slot->last);
+    return slot->last == SLOT_OPEN ||
+           (slot->last > 0 && late_time(clock, slot->first - 1) < early_time(clock, slot->last));
 }
 
 static void write_slots(struct ics *ics, const struct desk *desk, uint8_t side)
 {
+    const struct clock *clock = &ics->question->clock;
     struct slots slots;
 
     if (ics->question->slots == 0 || !has_side(desk, side)) {
         return;
     }
-    if (!slots_of(ics->question, desk, side, &slots)) {
-        ics->sound = false;
-        return;
+    slots = slots_of(ics->question, desk, side);
+    if (has_time(clock, &slots.now)) {
+        write_slot(ics, &slots.now, side, false);
     }
-    for (size_t i = 0; i < slots.count; i++) {
-        if (has_time(&ics->question->clock, &slots.slots[i])) {
-            write_slot(ics, &slots.slots[i], side, i + 1);
-        }
+    if (is_longer_done(&slots) && has_time(clock, &slots.done)) {
+        write_slot(ics, &slots.done, side, true);
     }
-    free(slots.slots);
 }
 
 /* A calendar has an event at least. */
@@ -227,7 +232,7 @@ static void write_nothing(struct ics *ics)
         fputs("none@swap-calendar", uid.to);
         write_made(ics, "UID", &uid);
         write_time(ics, "DTSTART", ics->question->clock.at);
-        write_property(ics, "SUMMARY", "no window ends");
+        write_property(ics, "SUMMARY", "nothing to do");
         end_event(ics);
     }
 }
@@ -240,7 +245,7 @@ bool write_ics(FILE *to, const struct question *question, const struct desk *des
     fputs("BEGIN:VCALENDAR\r\nVERSION:2.0\r\nPRODID:-//Nuldheben//swap calendar//EN\r\n", to);
     for (size_t i = 0; i < desk->count; i++) {
         if (is_sound(desk->entries[i])) {
-            write_windows(&ics, desk->entries[i]);
+            write_ends(&ics, desk->entries[i]);
         }
     }
     for (uint8_t side = SWAP_ALICE; side <= SWAP_CAROL; side++) {

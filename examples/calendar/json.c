@@ -1,7 +1,5 @@
 #include "json.h"
 
-#include <stdlib.h>
-
 #include "../common/steps.h"
 #include "action.h"
 #include "markup.h"
@@ -222,7 +220,7 @@ static void key_by_time(struct json *json, const struct question *question, cons
     const struct clock *clock = &question->clock;
     uint64_t blocks = action->by - entry->position.mined;
 
-    if (!clock->set || action->by == SWAP_NEVER || reason_of(action) != NULL) {
+    if (!clock->set || action->by == SWAP_NEVER || action->act > LATER) {
         key_string(json, "time", NULL);
         return;
     }
@@ -234,39 +232,33 @@ static void key_by_time(struct json *json, const struct question *question, cons
     end(json, '}');
 }
 
-/* What the side can do about a transaction; null where there is nothing to be said of it. */
-static void key_action(struct json *json, const struct question *question, const struct entry *entry, uint8_t t,
-                       uint8_t side)
+/* What the side can do about its payout. */
+static void key_action(struct json *json, const struct question *question, const struct entry *entry, uint8_t side)
 {
-    struct action action;
-    const char *reason;
+    struct action action = action_of(question, entry, side);
+    bool step = action.act <= LATER;
 
-    if (kind_of(&entry->position, &entry->outage, t, side) > SENT) {
-        key_string(json, "action", NULL);
-        return;
-    }
-    action = action_of(question, entry, t, side);
-    reason = reason_of(&action);
     key(json, "action");
     begin(json, '{');
     key_string(json, "word", act_word(&action));
-    key_string(json, "step", reason == NULL ? step_words(&entry->swap, action.step).text : NULL);
-    key_string(json, "once", reason == NULL && action.once != SWAP_NONE
-                                 ? transaction_label(&entry->swap, action.once).text
-                                 : NULL);
-    key_height(json, "after", reason == NULL ? action.after : SWAP_NEVER);
-    key_height(json, "by", reason == NULL ? action.by : SWAP_NEVER);
+    key_string(json, "step", step ? step_words(&entry->swap, action.step).text : NULL);
+    key_string(json, "once",
+               step && action.once != SWAP_NONE ? transaction_label(&entry->swap, action.once).text : NULL);
+    key_height(json, "after", step ? action.after : SWAP_NEVER);
+    key_height(json, "by", step ? action.by : SWAP_NEVER);
+    key_bool(json, "now", is_now(entry, &action));
     key_by_time(json, question, entry, &action);
-    key_string(json, "reason", reason);
+    key_blocks(json, "then", action.helps ? entry->stands[side].then : SWAP_NEVER);
+    key_string(json, "reason", step || action.act == NO_PAYOUT ? NULL : action.why);
     end(json, '}');
 }
 
-/* What the outage does to a transaction for each side that is shown. */
-static void key_verdicts(struct json *json, const struct question *question, const struct entry *entry, uint8_t t)
+/* What the outage does to a transaction's window for each side that is shown, and whom it pays where it is sent. */
+static void key_verdicts(struct json *json, const struct entry *entry, uint8_t t)
 {
     static const char *const words[] = {
-        [WARNING] = "warning", [BEFORE] = "before", [AHEAD] = "ahead",   [TAKEN] = "taken",
-        [SENT] = "sent",       [FREE] = "free",     [OTHERS] = "others", [SETTLED] = "settled",
+        [COVERED] = "covered", [AHEAD] = "ahead",   [TAKEN] = "taken",     [SENT] = "sent",
+        [FREE] = "free",       [OTHERS] = "others", [SETTLED] = "settled",
     };
     const struct position *position = &entry->position;
 
@@ -278,7 +270,6 @@ static void key_verdicts(struct json *json, const struct question *question, con
             key_string(json, "side", party_name(side));
             key_string(json, "outage", words[kind_of(position, &entry->outage, t, side)]);
             key_bool(json, "can_send", can_be_sent(position, side, t));
-            key_action(json, question, entry, t, side);
             key_rivals(json, position, t, side);
             end(json, '}');
         }
@@ -286,7 +277,7 @@ static void key_verdicts(struct json *json, const struct question *question, con
     end(json, ']');
 }
 
-static void transaction(struct json *json, const struct question *question, const struct entry *entry, uint8_t t)
+static void transaction(struct json *json, const struct entry *entry, uint8_t t)
 {
     const struct position *position = &entry->position;
     bool confirmed = is_confirmed(position, t);
@@ -300,66 +291,83 @@ static void transaction(struct json *json, const struct question *question, cons
     key_height(json, "deadline", deadline_of(position, t));
     key_sides(json, "pays", can_pay(position, t));
     key_window(json, entry, t);
-    key_verdicts(json, question, entry, t);
+    key_verdicts(json, entry, t);
     end(json, '}');
 }
 
-/* The longest outage from now without a warning for a side: any, or so many blocks, null where there is none; and what bounds
- * it. */
+/* The longest outage from now without a warning for a side: any, or so many blocks, null where there is none. */
 static void slack(struct json *json, const struct slack *slack)
 {
-    bool bound = slack->reach != ANY;
-
-    key_bool(json, "any", !bound);
+    key_bool(json, "any", slack->reach == ANY);
     key_blocks(json, "blocks", slack->reach == SOME ? slack->blocks : SWAP_NEVER);
-    key_string(json, "swap", bound ? slack->entry->name : NULL);
-    key_string(json, "transaction", bound ? transaction_label(&slack->entry->swap, slack->t).text : NULL);
 }
 
-/* The same of each side of a swap. */
-static void key_longest(struct json *json, const struct question *question, const struct entry *entry)
+/* The name of what is counted on; null where it is nothing. */
+static void key_counted(struct json *json, const struct entry *entry, uint8_t t)
 {
-    key(json, "longest");
+    key_string(json, "counts_on", t == SWAP_NONE ? NULL : transaction_label(&entry->swap, t).text);
+}
+
+/* Where each side of a swap stands, and what it can do. */
+static void key_payouts(struct json *json, const struct question *question, const struct entry *entry)
+{
+    key(json, "payouts");
     begin(json, '[');
     for (uint8_t side = SWAP_ALICE; side <= SWAP_CAROL; side++) {
         if (is_shown(entry, side)) {
+            const struct stand *stand = &entry->stands[side];
             struct slack own = slack_of(question, entry, side);
 
             begin(json, '{');
             key_string(json, "side", party_name(side));
+            key_string(json, "standing", standing_word(stand->standing));
+            key_bool(json, "warning", stand->warned);
+            key_blocks(json, "slack", stand->standing >= NOT_YET ? SWAP_NEVER : stand->slack);
+            key_counted(json, entry, stand->t);
             slack(json, &own);
+            key_action(json, question, entry, side);
             end(json, '}');
         }
     }
     end(json, ']');
 }
 
-/* The stretches in which an outage has no warning for a side, in blocks from now; null where they are not asked for. */
+/* A stretch in blocks from now, its last block null where it has no end; null where there is none. */
+static void key_slot(struct json *json, const char *name, const struct slot *slot)
+{
+    if (slot->last == 0) {
+        key_string(json, name, NULL);
+        return;
+    }
+    key(json, name);
+    begin(json, '{');
+    key_number(json, "first", slot->first);
+    if (slot->last == SLOT_OPEN) {
+        key_string(json, "last", NULL);
+    } else {
+        key_number(json, "last", slot->last);
+    }
+    end(json, '}');
+}
+
+/* The stretches in which an outage has no warning for a side; null where they are not asked for. */
 static void key_slots(struct json *json, const struct question *question, const struct desk *desk, uint8_t side)
 {
     struct slots slots;
 
-    if (question->slots == 0 || !slots_of(question, desk, side, &slots)) {
+    if (question->slots == 0) {
         key_string(json, "slots", NULL);
         return;
     }
+    slots = slots_of(question, desk, side);
     key(json, "slots");
-    begin(json, '[');
-    for (size_t i = 0; i < slots.count; i++) {
-        begin(json, '{');
-        key_number(json, "first", slots.slots[i].first);
-        if (slots.slots[i].last == SLOT_OPEN) {
-            key_string(json, "last", NULL);
-        } else {
-            key_number(json, "last", slots.slots[i].last);
-        }
-        end(json, '}');
-    }
-    end(json, ']');
-    free(slots.slots);
+    begin(json, '{');
+    key_slot(json, "now", &slots.now);
+    key_slot(json, "done", &slots.done);
+    end(json, '}');
 }
 
-/* How long and when the box of each side can be off, over all its swaps. */
+/* How long and when the box of each side can be off, over all its swaps, and what bounds it. */
 static void key_outages(struct json *json, const struct question *question, const struct desk *desk)
 {
     key(json, "outages");
@@ -371,6 +379,9 @@ static void key_outages(struct json *json, const struct question *question, cons
             begin(json, '{');
             key_string(json, "side", party_name(side));
             slack(json, &least);
+            key_string(json, "swap", least.entry == NULL ? NULL : least.entry->name);
+            key_counted(json, least.entry, least.t);
+            key_number(json, "unsecured", unsecured_of(desk, side));
             key_slots(json, question, desk, side);
             end(json, '}');
         }
@@ -406,11 +417,11 @@ static void sound(struct json *json, const struct question *question, const stru
     key_number(json, "mined", position->mined);
     key_blocks(json, "base", entry->based ? entry->base : SWAP_NEVER);
     key_outage(json, &entry->outage);
-    key_longest(json, question, entry);
+    key_payouts(json, question, entry);
     key(json, "transactions");
     begin(json, '[');
     for (uint8_t t = 0; t < count_of(swap); t++) {
-        transaction(json, question, entry, t);
+        transaction(json, entry, t);
     }
     end(json, ']');
 }
@@ -452,7 +463,8 @@ static void key_totals(struct json *json, const struct totals *totals)
     begin(json, '{');
     key_number(json, "swaps", totals->swaps);
     key_number(json, "warnings", totals->warnings);
-    key_number(json, "before", totals->before);
+    key_number(json, "not_yet", totals->not_yet);
+    key_number(json, "given_up", totals->given_up);
     key_number(json, "faulty", totals->refused);
     end(json, '}');
 }

@@ -32,17 +32,6 @@ uint8_t can_pay(const struct position *position, uint8_t t)
     return payees;
 }
 
-bool ends_for_good(const struct position *position, uint8_t t)
-{
-    return stealth_of(position->swap) == 0 && soonest_deadline_of(position, t) == deadline_of(position, t);
-}
-
-/* Whether the deadline is passed when the outage begins, whatever happens until then, and nothing can be sent after. */
-static bool is_before(const struct position *position, const struct outage *outage, uint8_t t)
-{
-    return soonest_deadline_of(position, t) < outage->first && ends_for_good(position, t);
-}
-
 /* Whether it is sent and pays another party. */
 static bool is_taken(const struct position *position, uint8_t t, uint8_t side)
 {
@@ -66,7 +55,7 @@ enum kind kind_of(const struct position *position, const struct outage *outage, 
         return is_taken(position, t, side) ? TAKEN : SENT;
     }
     if ((verdict & SWAP_OUTAGE_COVERED) != 0 && outage->reach > 0) {
-        return is_before(position, outage, t) ? BEFORE : WARNING;
+        return COVERED;
     }
     return deadline == SWAP_NEVER || deadline <= position->mined ? FREE : AHEAD;
 }

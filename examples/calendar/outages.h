@@ -6,11 +6,11 @@
 #include "slack.h"
 #include "words.h"
 
-/* A slack in blocks: "143", "any" or "none". */
+/* A slack in blocks: "143", "any", "none", or "-" where no payout is secured. */
 struct label slack_label(const struct slack *slack);
 
 /* Prints for each side the longest outage from now without a warning and what bounds it, and, where they are asked for, the
- * stretches in which one can lie. False where there is no memory. */
-bool print_outages(FILE *to, enum markup markup, const struct question *question, const struct desk *desk);
+ * stretches in which one can lie. */
+void print_outages(FILE *to, enum markup markup, const struct question *question, const struct desk *desk);
 
 #endif

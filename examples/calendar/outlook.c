@@ -27,45 +27,62 @@ void print_question(FILE *to, const struct question *question)
     }
 }
 
-void print_what_to_do(FILE *to, const struct question *question, const struct entry *entry, uint8_t t, uint8_t side)
-{
-    struct action action = action_of(question, entry, t, side);
-
-    if (action.act == DO && action.payee != SWAP_NONE) {
-        fprintf(to, "sent, pays %s; ", destination_name(action.payee));
-    }
-    print_action(to, question, entry, &action);
-}
-
-/* What can be confirmed after its window. */
-static void print_after(FILE *to, const struct question *question, const struct entry *entry, uint8_t t, enum kind kind)
+/* What can be confirmed after its window, where that has an end. */
+static void print_after(FILE *to, const char *between, const struct entry *entry, uint8_t t)
 {
     const struct position *position = &entry->position;
+    uint32_t deadline = soonest_deadline_of(position, t);
 
-    if (kind == WARNING && soonest_deadline_of(position, t) <= position->mined) {
+    if (deadline == SWAP_NEVER || (deadline <= position->mined && stealth_of(&entry->swap) == 0)) {
+        return;
+    }
+    fputs(between, to);
+    if (deadline <= position->mined) {
         fprintf(to, "passed, a hand-in may save it, ");
-    } else if (begins_later(question) && kind != AHEAD) {
-        print_before(to, position, &entry->outage, t, entry->base);
     }
     print_else(to, position, t, entry->base);
     print_if(to, "", position, t, entry->base);
 }
 
-void print_outlook(FILE *to, const struct question *question, const struct entry *entry, uint8_t t, uint8_t side)
+/* What could pay the side and is sent for another party. */
+static void print_taken(FILE *to, const struct entry *entry, uint8_t side)
 {
-    enum kind kind = kind_of(&entry->position, &entry->outage, t, side);
+    const struct stand *stand = &entry->stands[side];
 
-    switch (kind) {
-    case WARNING:
-    case BEFORE:
+    for (uint8_t t = 0; t < count_of(&entry->swap); t++) {
+        if (t != stand->t && kind_of(&entry->position, &entry->outage, t, side) == TAKEN) {
+            fprintf(to, "; %s is sent, pays %s", transaction_label(&entry->swap, t).text,
+                    destination_name(sent_to(&entry->position, t)));
+        }
+    }
+}
+
+void print_payout(FILE *to, const struct question *question, const struct entry *entry, uint8_t side)
+{
+    const struct stand *stand = &entry->stands[side];
+
+    print_action(to, question, entry, side);
+    if (stand->t != SWAP_NONE && is_bounded(stand) && sent_to(&entry->position, stand->t) != stand->payee) {
+        print_after(to, "; ", entry, stand->t);
+    }
+    if (stand->t != SWAP_NONE) {
+        print_in_the_way(to, &entry->position, stand->t, side);
+    }
+    print_taken(to, entry, side);
+}
+
+void print_outlook(FILE *to, const struct entry *entry, uint8_t t, uint8_t side)
+{
+    switch (kind_of(&entry->position, &entry->outage, t, side)) {
+    case COVERED:
     case AHEAD:
-        print_what_to_do(to, question, entry, t, side);
-        fprintf(to, "; ");
-        print_after(to, question, entry, t, kind);
+        print_after(to, "", entry, t);
         break;
     case TAKEN:
+        fprintf(to, "sent, pays %s", destination_name(sent_to(&entry->position, t)));
+        break;
     case SENT:
-        print_what_to_do(to, question, entry, t, side);
+        fprintf(to, "sent");
         break;
     case FREE:
         fprintf(to, "no deadline ahead");

@@ -25,7 +25,7 @@ static const char *const head[] = {
     "--bar: #274a70; --bar-edge: #9cc4f0; }\n",
     "}\n",
     "body { font: 14px/1.35 sans-serif; color: var(--ink); background: var(--paper); margin: 16px; }\n",
-    "body { overflow-wrap: anywhere; }\n",
+    "body { overflow-wrap: break-word; }\n",
     "h1 { font-size: 20px; margin: 0 0 4px; }\n",
     "h2 { font-size: 16px; margin: 0; display: inline; }\n",
     "section { border-top: 1px solid var(--faint); padding: 8px 0; }\n",
@@ -71,7 +71,7 @@ static const char *const head[] = {
     "@media screen and (max-width: 800px) {\n",
     "body { margin: 8px; }\n",
     "table, thead, tbody, tr, th, td { display: block; width: auto; min-width: 0; }\n",
-    "thead th { display: none; }\n",
+    "thead th, thead .n { display: none; }\n",
     "thead th.lane { display: block; }\n",
     ".lane, section .lane { width: auto; min-width: 0; padding: 2px 0; }\n",
     "tbody tr { padding: 4px 0; }\n",
@@ -87,6 +87,7 @@ static const char *const head[] = {
     "body { print-color-adjust: exact; -webkit-print-color-adjust: exact; }\n",
     "section.calm { display: none; }\n",
     "tr, h2, .facts { break-inside: avoid; }\n",
+    ".facts, .settled { break-after: avoid; }\n",
     "thead { display: table-header-group; }\n",
     "th, td { padding: 0 6px 0 0; }\n",
     "svg { height: 14px; }\n",
@@ -116,7 +117,7 @@ static const char *const legend[] = {
     "<span><svg class=\"sample\"><rect class=\"margin\" x=\"2\" width=\"40\" height=\"20\"/></svg>",
     "margin after it</span>",
     "<span><svg class=\"sample\"><rect class=\"covered\" x=\"2\" y=\"5\" width=\"40\" height=\"10\"/></svg>",
-    "WARNING: the window can end in the outage or its margin, and a payout be lost</span>",
+    "WARNING: the outage and its margin are longer than the side can be off, and its payout can be lost</span>",
     "</p>\n",
 };
 
@@ -162,14 +163,8 @@ static void write_mark(FILE *page, const struct line *line)
 {
     if (line->urgency == FAULTY) {
         fputs(line->entry->fault.file != NULL ? "UNREADABLE" : "REFUSED", page);
-    } else if (line->urgency == DUE_BEFORE) {
-        fputs("BEFORE", page);
-    } else if (line->warnings > 0) {
+    } else if (line->urgency == WARNED) {
         fputs("WARNING", page);
-    }
-    if (line->warnings > 1) {
-        fputs(" x", page);
-        write_number(page, line->warnings);
     }
 }
 
@@ -195,7 +190,9 @@ static void write_fault(FILE *page, const struct entry *entry)
 static void write_block(FILE *page, const char *name, const struct line *line, uint32_t block, bool from_now)
 {
     fprintf(page, NUMBER, name);
-    if (from_now && block != SWAP_NEVER) {
+    if (line->t == SWAP_NONE) {
+        fputc('-', page);
+    } else if (from_now && block != SWAP_NEVER) {
         uint32_t mined = line->entry->position.mined;
 
         fputc(block < mined ? '-' : '+', page);
@@ -209,29 +206,20 @@ static void write_block(FILE *page, const char *name, const struct line *line, u
 /* The numbers of a line and its bar. */
 static void write_window(FILE *page, const struct question *question, const struct line *line, const struct axis *axis)
 {
-    const struct position *position = &line->entry->position;
-
-    if (line->t == SWAP_NONE) {
-        fputs("<td colspan=\"5\">no deadline ahead</td><td class=\"lane\">", page);
-        write_lane(page, axis, question, line->entry, SWAP_NONE, false);
-        fputs("</td><td></td>", page);
-        return;
-    }
-    fprintf(page, "<td>%s</td>", transaction_label(position->swap, line->t).text);
-    write_block(page, "from", line, soonest_block_of(position, line->t), axis->from_now);
-    write_block(page, "to", line, soonest_deadline_of(position, line->t), axis->from_now);
-    fprintf(page, NUMBER "%s</td>" NUMBER "%s</td><td class=\"lane\">", "left",
-            line->left == SWAP_NEVER ? "-" : height_label(0, line->left).text, "free", slack_label(&line->slack).text);
-    write_lane(page, axis, question, line->entry, line->t,
-               line->urgency == WARNED);
+    fprintf(page, "<td>%s</td>", line->t == SWAP_NONE ? "-" : transaction_label(&line->entry->swap, line->t).text);
+    write_block(page, "from", line, from_block(line), axis->from_now);
+    write_block(page, "to", line, to_block(line), axis->from_now);
+    fprintf(page, NUMBER "%s</td>" NUMBER "%s</td><td class=\"lane\">", "left", left_label(line).text, "free",
+            slack_label(&line->slack).text);
+    write_lane(page, axis, question, line->entry, line->t, line->urgency == WARNED);
     fputs("</td><td>", page);
-    print_outlook(page, question, line->entry, line->t, line->side);
+    print_payout(page, question, line->entry, line->side);
     fputs(line->own_blocks ? OWN_BLOCKS "</td>" : "</td>", page);
 }
 
 static void write_line(FILE *page, const struct question *question, const struct line *line, const struct axis *axis)
 {
-    const char *class = line->urgency == FAULTY ? "faulty" : line->warnings > 0 ? "warning" : "calm";
+    const char *class = line->urgency == FAULTY ? "faulty" : line->urgency == WARNED ? "warning" : "calm";
 
     fprintf(page, "<tr class=\"%s\"><td class=\"mark\">", class);
     write_mark(page, line);
@@ -255,13 +243,13 @@ static void write_overview(FILE *page, const struct question *question, const st
     uint32_t now = 0;
 
     axis.from_now = !same_height(desk, &now);
-    fputs("<table id=\"overview\">\n<thead><tr><th></th><th>swap</th><th>side</th><th>transaction</th>"
+    fputs("<table id=\"overview\">\n<thead><tr><th></th><th>swap</th><th>side</th><th>counts on</th>"
           "<th class=\"n\">from</th><th class=\"n\">to</th><th class=\"n\">left</th><th class=\"n\">free</th>"
           "<th class=\"lane\">",
           page);
     fputs(axis.from_now ? "blocks from now" : "blocks", page);
     write_axis(page, &axis, axis.from_now ? NULL : &now);
-    fputs("</th><th class=\"after\">after that</th></tr></thead>\n<tbody>\n", page);
+    fputs("</th><th class=\"after\">what to do</th></tr></thead>\n<tbody>\n", page);
     for (size_t i = 0; i < count; i++) {
         write_line(page, question, &lines[i], &axis);
     }
@@ -282,7 +270,7 @@ static void write_sections(FILE *page, const struct question *question, const st
             first++;
         }
         if (first == i && lines[i].urgency != FAULTY) {
-            write_section(page, question, lines[i].entry, lines[i].place + 1, lines[i].warnings > 0 || alone);
+            write_section(page, question, lines[i].entry, lines[i].place + 1, lines[i].urgency == WARNED || alone);
         }
     }
 }
@@ -291,16 +279,15 @@ bool write_page(FILE *page, const struct question *question, const struct desk *
 {
     size_t count;
     struct line *lines = lines_by_urgency(question, desk, &count);
-    bool sound;
 
     if (lines == NULL) {
         return false;
     }
     write_head(page, question, totals);
     write_overview(page, question, desk, lines, count);
-    sound = print_outages(page, AS_HTML, question, desk);
+    print_outages(page, AS_HTML, question, desk);
     write_sections(page, question, desk, lines, count);
     fputs("</body>\n</html>\n", page);
     free(lines);
-    return sound;
+    return true;
 }

@@ -36,8 +36,13 @@ uint32_t ask_position(const struct swap *swap, uint32_t steps, struct position *
     position->steps = steps;
     position->mined = blocks_mined(swap);
     position->open_count = SWAP_COUNT(answer);
-    return swap_report(swap->sheet, swap->sheet_length, swap->setup, swap->setup_length, swap->journal,
-                       swap->journal_length, position->report, sizeof position->report);
+    answer = swap_report(swap->sheet, swap->sheet_length, swap->setup, swap->setup_length, swap->journal,
+                         swap->journal_length, position->report, sizeof position->report);
+    if (SWAP_REFUSAL(answer) != SWAP_ACCEPTED) {
+        return answer;
+    }
+    return swap_slack(swap->sheet, swap->sheet_length, swap->setup, swap->setup_length, swap->journal,
+                      swap->journal_length, position->slack, sizeof position->slack);
 }
 
 uint32_t ask_outage(struct position *position, uint32_t blocks)
@@ -98,6 +103,21 @@ uint32_t soonest_deadline_of(const struct position *position, uint8_t t)
     return swap_number(position->outage + SWAP_OUTAGE_ROW * t + SWAP_OUTAGE_SOONEST_DEADLINE);
 }
 
+const uint8_t *slack_row(const uint8_t slack[SWAP_SLACK_SIZE], uint8_t party)
+{
+    return slack + SWAP_SLACK_ROW * (party == SWAP_CAROL ? 2 : party);
+}
+
+uint32_t slack_blocks(const uint8_t *row)
+{
+    return swap_number(row + SWAP_SLACK_BLOCKS);
+}
+
+uint8_t counted_on(const uint8_t *row)
+{
+    return row[SWAP_SLACK_TRANSACTION];
+}
+
 uint32_t blocks_left(const struct position *position, uint8_t t)
 {
     uint32_t deadline = soonest_deadline_of(position, t);
@@ -111,6 +131,16 @@ uint32_t blocks_left(const struct position *position, uint8_t t)
 bool is_confirmed(const struct position *position, uint8_t t)
 {
     return (status_of(position, t) & SWAP_CONFIRMED) != 0;
+}
+
+bool is_paid(const struct position *position, uint8_t party)
+{
+    for (uint8_t t = 0; t < count_of(position->swap); t++) {
+        if (is_confirmed(position, t) && payee_of(position, t) == party) {
+            return true;
+        }
+    }
+    return false;
 }
 
 /* The destinations of a transaction's last entries in the pool and in the block, by the steps that put it there. */

@@ -5,90 +5,55 @@
 
 #include "outages.h"
 #include "outlook.h"
-#include "rivals.h"
-#include "words.h"
 
 /* The names of swaps and transactions, and the marks before them. */
 enum { MARK_WIDTH = 11, NAME_WIDTH = 16 };
 
-static bool is_contested(const struct position *position, uint8_t t, uint8_t side)
+static unsigned urgency_of(const struct stand *stand)
 {
-    for (uint8_t rival = 0; rival < count_of(position->swap); rival++) {
-        if (in_the_way(position, t, rival, side)) {
-            return true;
-        }
-    }
-    return false;
-}
-
-static unsigned urgency_of(const struct entry *entry, uint8_t t, uint8_t side)
-{
-    const struct position *position = &entry->position;
-
-    switch (kind_of(position, &entry->outage, t, side)) {
-    case WARNING:
+    if (stand->warned) {
         return WARNED;
-    case BEFORE:
-        return DUE_BEFORE;
-    case AHEAD:
-        return DUE_AFTER;
-    case TAKEN:
-        return AWAY;
-    case SENT:
-        return UNDER_WAY;
-    case FREE:
-        return is_contested(position, t, side) ? CONTESTED : NO_DEADLINE;
-    default:
-        return NO_DEADLINE;
     }
+    if (is_bounded(stand)) {
+        return BOUNDED;
+    }
+    if (stand->standing == GIVEN_UP) {
+        return LOST;
+    }
+    return stand->standing == NOT_YET ? UNSTARTED : SURE;
 }
 
-/* Puts the transaction on the line where it is more urgent than what stands there. */
-static void consider(struct line *line, uint8_t t)
-{
-    unsigned urgency = urgency_of(line->entry, t, line->side);
-    uint32_t left = blocks_left(&line->entry->position, t);
-
-    line->warnings += urgency == WARNED;
-    if (urgency < line->urgency || (urgency < NO_DEADLINE && urgency == line->urgency && left < line->left)) {
-        line->urgency = urgency;
-        line->left = left;
-        line->t = t;
-    }
-}
-
-static struct line line_of(const struct desk *desk, bool mixed, size_t place, uint8_t side)
+/* The line of a side of a sound swap. */
+static struct line line_of(const struct question *question, const struct desk *desk, size_t place, uint8_t side)
 {
     const struct entry *entry = desk->entries[place];
-    struct line line = {.entry = entry, .place = place, .side = side, .t = SWAP_NONE, .urgency = NO_DEADLINE};
 
-    if (!is_sound(entry)) {
-        line.side = SWAP_NONE;
-        line.urgency = FAULTY;
-        return line;
-    }
-    line.own_blocks = mixed && !entry->based;
-    for (uint8_t t = 0; t < count_of(&entry->swap); t++) {
-        consider(&line, t);
-    }
-    return line;
+    return (struct line){
+        .entry = entry,
+        .place = place,
+        .side = side,
+        .t = entry->stands[side].t,
+        .urgency = urgency_of(&entry->stands[side]),
+        .slack = slack_of(question, entry, side),
+        .own_blocks = is_mixed(desk) && !entry->based,
+    };
 }
 
 /* The lines of all swaps; a swap that is no good has one. */
 static size_t lines_of(const struct question *question, const struct desk *desk, struct line *lines)
 {
-    bool mixed = is_mixed(desk);
     size_t count = 0;
 
     for (size_t i = 0; i < desk->count; i++) {
-        for (uint8_t side = SWAP_ALICE; side <= SWAP_CAROL; side++) {
-            const struct entry *entry = desk->entries[i];
+        const struct entry *entry = desk->entries[i];
 
-            if (is_sound(entry) && is_shown(entry, side)) {
-                lines[count] = line_of(desk, mixed, i, side);
-                lines[count++].slack = slack_of(question, entry, side);
-            } else if (!is_sound(entry) && side == SWAP_ALICE) {
-                lines[count++] = line_of(desk, mixed, i, side);
+        if (!is_sound(entry)) {
+            lines[count++] = (struct line){.entry = entry, .place = i, .side = SWAP_NONE, .t = SWAP_NONE};
+            continue;
+        }
+        for (uint8_t side = SWAP_ALICE; side <= SWAP_CAROL; side++) {
+            if (is_shown(entry, side)) {
+                lines[count++] = line_of(question, desk, i, side);
             }
         }
     }
@@ -100,6 +65,12 @@ static int order(size_t a, size_t b)
     return (a > b) - (a < b);
 }
 
+/* The slack of a line's side; 0 of a swap that is no good. */
+static size_t slack_in(const struct line *line)
+{
+    return line->side == SWAP_NONE ? 0 : line->entry->stands[line->side].slack;
+}
+
 static int by_urgency(const void *a, const void *b)
 {
     const struct line *first = a;
@@ -107,7 +78,7 @@ static int by_urgency(const void *a, const void *b)
     int by = order(first->urgency, second->urgency);
 
     if (by == 0) {
-        by = order(first->left, second->left);
+        by = order(slack_in(first), slack_in(second));
     }
     if (by == 0) {
         by = order(first->place, second->place);
@@ -128,39 +99,41 @@ static void show_fault(const struct entry *entry)
     }
 }
 
-/* What stands before the name: the warnings, where there are some. A number of two digits takes up a place more. */
-static void show_mark(const struct line *line)
+uint32_t from_block(const struct line *line)
 {
-    struct label mark = {""};
+    return line->t == SWAP_NONE ? 0 : soonest_block_of(&line->entry->position, line->t);
+}
 
-    if (line->warnings > 1) {
-        snprintf(mark.text, sizeof mark.text, "WARNING x%u", line->warnings);
-    } else if (line->warnings == 1) {
-        snprintf(mark.text, sizeof mark.text, "WARNING");
-    }
-    printf("%-*s%s", MARK_WIDTH, mark.text, line->warnings > 9 ? " " : "");
+uint32_t to_block(const struct line *line)
+{
+    return line->t == SWAP_NONE ? 0 : soonest_deadline_of(&line->entry->position, line->t);
+}
+
+struct label left_label(const struct line *line)
+{
+    uint32_t left = line->t == SWAP_NONE ? SWAP_NEVER : blocks_left(&line->entry->position, line->t);
+
+    return left == SWAP_NEVER ? (struct label){"-"} : height_label(0, left);
+}
+
+/* A block of the window; "-" where nothing is counted on. */
+static struct label block_label(const struct line *line, uint32_t block)
+{
+    return line->t == SWAP_NONE ? (struct label){"-"} : height_label(line->entry->base, block);
 }
 
 static void show_line(const struct question *question, const struct line *line)
 {
-    const struct position *position = &line->entry->position;
-
     if (line->urgency == FAULTY) {
         show_fault(line->entry);
         return;
     }
-    show_mark(line);
+    printf("%-*s", MARK_WIDTH, line->urgency == WARNED ? "WARNING" : "");
     print_name(line->entry->name, NAME_WIDTH);
-    printf(" %-6s", party_name(line->side));
-    if (line->t == SWAP_NONE) {
-        printf("no deadline ahead\n");
-        return;
-    }
-    printf("%-21s%8s%8s%7s%7s  ", transaction_label(position->swap, line->t).text,
-           height_label(line->entry->base, soonest_block_of(position, line->t)).text,
-           height_label(line->entry->base, soonest_deadline_of(position, line->t)).text,
-           line->left == SWAP_NEVER ? "-" : height_label(0, line->left).text, slack_label(&line->slack).text);
-    print_outlook(stdout, question, line->entry, line->t, line->side);
+    printf(" %-6s%-21s%8s%8s%7s%7s  ", party_name(line->side),
+           line->t == SWAP_NONE ? "-" : transaction_label(&line->entry->swap, line->t).text, block_label(line, from_block(line)).text,
+           block_label(line, to_block(line)).text, left_label(line).text, slack_label(&line->slack).text);
+    print_payout(stdout, question, line->entry, line->side);
     printf("%s\n", line->own_blocks ? OWN_BLOCKS : "");
 }
 
@@ -185,8 +158,8 @@ bool show_screen(const struct question *question, const struct desk *desk)
     }
     print_question(stdout, question);
     printf("\n");
-    printf("%-*s%-*s %-6s%-21s%8s%8s%7s%7s  %s\n", MARK_WIDTH, "", NAME_WIDTH, "swap", "side", "transaction", "from",
-           "to", "left", "free", "after that");
+    printf("%-*s%-*s %-6s%-21s%8s%8s%7s%7s  %s\n", MARK_WIDTH, "", NAME_WIDTH, "swap", "side", "counts on", "from",
+           "to", "left", "free", "what to do");
     for (size_t i = 0; i < count; i++) {
         show_line(question, &lines[i]);
     }

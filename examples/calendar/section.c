@@ -59,29 +59,36 @@ static void write_settled(FILE *page, const struct entry *entry)
     fputs("</ul>\n", page);
 }
 
-/* Whether a transaction is of this kind for all sides that are shown, or else for one of them. */
-static bool has_kind(const struct entry *entry, uint8_t t, enum kind kind, bool all)
+/* Whether a side that is shown is warned and counts on the transaction. */
+static bool is_warned(const struct entry *entry, uint8_t t)
 {
-    for (uint8_t side = SWAP_ALICE; side <= SWAP_CAROL; side++) {
-        if (is_shown(entry, side) && (kind_of(&entry->position, &entry->outage, t, side) == kind) != all) {
-            return !all;
-        }
-    }
-    return all;
+    return is_warned_of(entry, t, SWAP_ALICE) || is_warned_of(entry, t, SWAP_BOB) || is_warned_of(entry, t, SWAP_CAROL);
 }
 
-/* What can happen to it, for one side. */
+/* Whether it is another's for all sides that are shown. */
+static bool is_others(const struct entry *entry, uint8_t t)
+{
+    for (uint8_t side = SWAP_ALICE; side <= SWAP_CAROL; side++) {
+        if (is_shown(entry, side) && kind_of(&entry->position, &entry->outage, t, side) != OTHERS) {
+            return false;
+        }
+    }
+    return true;
+}
+
+/* What can happen to it, for one side; what to do where the side counts on it. */
 static void write_side(FILE *page, const struct question *question, const struct entry *entry, uint8_t t, uint8_t side)
 {
-    enum kind kind = kind_of(&entry->position, &entry->outage, t, side);
-
     fprintf(page, "<div>%s: ", party_name(side));
-    if (kind == WARNING) {
+    if (is_warned_of(entry, t, side)) {
         fputs("<b>WARNING</b>, ", page);
-    } else if (kind == BEFORE) {
-        fputs("due before the outage, ", page);
     }
-    print_outlook(page, question, entry, t, side);
+    if (entry->stands[side].t == t) {
+        fputs("counted on, ", page);
+        print_payout(page, question, entry, side);
+    } else {
+        print_outlook(page, entry, t, side);
+    }
     if (can_be_sent(&entry->position, side, t)) {
         fputs("; can be sent now", page);
     }
@@ -113,8 +120,8 @@ static void write_row(FILE *page, const struct question *question, const struct 
                       const struct axis *axis)
 {
     const struct position *position = &entry->position;
-    bool warning = has_kind(entry, t, WARNING, false);
-    const char *class = warning ? "warning" : has_kind(entry, t, OTHERS, true) ? "others" : "calm";
+    bool warning = is_warned(entry, t);
+    const char *class = warning ? "warning" : is_others(entry, t) ? "others" : "calm";
 
     fprintf(page, "<tr class=\"%s\"><th>%s</th><td>%s</td><td>%s</td>", class, transaction_label(&entry->swap, t).text,
             payees_name(&entry->swap, can_pay(position, t)), status_label(status_of(position, t)).text);
@@ -130,7 +137,17 @@ static void write_row(FILE *page, const struct question *question, const struct 
     fputs("</td></tr>\n", page);
 }
 
-/* The name of a swap, and its warnings for each side. */
+/* Where a side stands, where that is not that it keeps its way to a payout for long enough. */
+static void write_standing(FILE *page, const struct stand *stand)
+{
+    if (stand->warned) {
+        fputs(": <b>WARNING</b>", page);
+    } else if (stand->standing != KEPT) {
+        fprintf(page, ": %s", standing_word(stand->standing));
+    }
+}
+
+/* The name of a swap, and its sides. */
 static void write_title(FILE *page, const struct entry *entry)
 {
     fputs("<h2><bdi>", page);
@@ -138,12 +155,8 @@ static void write_title(FILE *page, const struct entry *entry)
     fputs("</bdi>", page);
     for (uint8_t side = SWAP_ALICE; side <= SWAP_CAROL; side++) {
         if (is_shown(entry, side)) {
-            size_t warnings = warnings_of(entry, side);
-
             fprintf(page, ", %s", party_name(side));
-            if (warnings > 0) {
-                fprintf(page, ": <b>%lu WARNING%s</b>", (unsigned long)warnings, warnings > 1 ? "S" : "");
-            }
+            write_standing(page, &entry->stands[side]);
         }
     }
     fputs("</h2>", page);

@@ -117,54 +117,25 @@ static void show_no_window(const struct position *position, uint8_t t, uint32_t 
     }
 }
 
-/* What the side can do about a transaction, before what can happen to it. */
-static void show_action(const struct entry *entry, uint8_t t, uint8_t side, const struct question *question)
-{
-    enum kind kind = kind_of(&entry->position, &entry->outage, t, side);
-
-    if (kind == WARNING) {
-        printf("WARNING: ");
-    } else if (kind == BEFORE) {
-        printf("due before the outage: ");
-    }
-    if (kind <= SENT) {
-        print_what_to_do(stdout, question, entry, t, side);
-    }
-    if (kind < TAKEN) {
-        printf("; ");
-    }
-}
-
-/* A transaction that the outage covers. */
-static void show_warning(const struct entry *entry, uint8_t t, const struct question *question)
+/* What the outage does to a transaction. */
+static void show_kind(const struct entry *entry, uint8_t t, enum kind kind)
 {
     const struct position *position = &entry->position;
 
-    if (soonest_deadline_of(position, t) <= position->mined) {
-        printf("block %s was the latest, a hand-in may save it, ",
-               height_label(entry->base, soonest_deadline_of(position, t)).text);
-        print_else(stdout, position, t, entry->base);
-        return;
-    }
-    if (begins_later(question)) {
-        print_before(stdout, position, &entry->outage, t, entry->base);
-    }
-    show_window(position, t, entry->base);
-}
-
-/* What the outage does to a transaction. */
-static void show_kind(const struct entry *entry, uint8_t t, enum kind kind, const struct question *question)
-{
     switch (kind) {
-    case WARNING:
-        show_warning(entry, t, question);
-        break;
-    case BEFORE:
+    case COVERED:
     case AHEAD:
-        show_window(&entry->position, t, entry->base);
+        if (soonest_deadline_of(position, t) > position->mined) {
+            show_window(position, t, entry->base);
+        } else {
+            printf("block %s was the latest, a hand-in may save it, ",
+                   height_label(entry->base, soonest_deadline_of(position, t)).text);
+            print_else(stdout, position, t, entry->base);
+        }
         break;
     case TAKEN:
     case SENT:
+        printf("sent");
         break;
     case FREE:
         show_no_window(&entry->position, t, entry->base);
@@ -229,8 +200,7 @@ static void show_deadlines(const struct entry *entry, uint8_t side, const struct
         if (kind != SETTLED) {
             printf("    %-22s%-8s", transaction_label(position->swap, t).text,
                    payees_name(position->swap, can_pay(position, t)));
-            show_action(entry, t, side, question);
-            show_kind(entry, t, kind, question);
+            show_kind(entry, t, kind);
             show_standing(position, t, side, entry->base);
             if (kind != OTHERS) {
                 print_in_the_way(stdout, position, t, side);
@@ -244,14 +214,18 @@ static void show_deadlines(const struct entry *entry, uint8_t side, const struct
     }
 }
 
-/* The longest outage from now without a warning for the side, and what bounds it. */
-static void show_longest(const struct entry *entry, uint8_t side, const struct question *question)
+/* The side's payout: on what it counts, and what to do; then the longest outage from now without a warning. */
+static void show_payout(const struct entry *entry, uint8_t side, const struct question *question)
 {
+    const struct stand *stand = &entry->stands[side];
     struct slack slack = slack_of(question, entry, side);
 
-    printf("  longest outage from now without a warning for %s: %s%s%s\n", party_name(side), slack_label(&slack).text,
-           slack.reach == ANY ? "" : ", bounded by ",
-           slack.reach == ANY ? "" : transaction_label(&entry->swap, slack.t).text);
+    printf("  payout of %s: %s", party_name(side), stand->warned ? "WARNING: " : "");
+    if (stand->t != SWAP_NONE) {
+        printf("counting on %s, ", transaction_label(&entry->swap, stand->t).text);
+    }
+    print_payout(stdout, question, entry, side);
+    printf("\n  longest outage from now without a warning for %s: %s\n", party_name(side), slack_label(&slack).text);
 }
 
 /* The refused step, in words where its fields are in range. */
@@ -294,7 +268,7 @@ static void show_position_of(const struct entry *entry, const struct question *q
     for (uint8_t side = SWAP_ALICE; side <= SWAP_CAROL; side++) {
         if (is_shown(entry, side)) {
             show_deadlines(entry, side, question);
-            show_longest(entry, side, question);
+            show_payout(entry, side, question);
         }
     }
 }

@@ -1,13 +1,8 @@
 #include "sides.h"
 
-size_t warnings_of(const struct entry *entry, uint8_t side)
+bool is_warned_of(const struct entry *entry, uint8_t t, uint8_t side)
 {
-    size_t warnings = 0;
-
-    for (uint8_t t = 0; t < count_of(&entry->swap); t++) {
-        warnings += kind_of(&entry->position, &entry->outage, t, side) == WARNING;
-    }
-    return warnings;
+    return is_shown(entry, side) && entry->stands[side].warned && entry->stands[side].t == t;
 }
 
 bool is_settled(const struct entry *entry, uint8_t t)

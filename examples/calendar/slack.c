@@ -1,65 +1,51 @@
 #include "slack.h"
 
-uint32_t threat_of(const struct position *position, uint8_t t, uint8_t side)
+struct slack slack_after(const struct question *question, uint32_t blocks)
 {
-    uint8_t verdict = verdict_of(position, t);
-    uint32_t left = blocks_left(position, t);
+    struct slack slack = {.reach = SOME, .t = SWAP_NONE};
 
-    if (verdict == SWAP_OUTAGE_SETTLED || verdict == SWAP_OUTAGE_SAFE ||
-        (can_pay(position, t) & payee_bit(side)) == 0) {
-        return SWAP_NEVER;
-    }
-    if (left == 0) {
-        return stealth_of(position->swap) != 0 ? 1 : SWAP_NEVER;
-    }
-    return left;
-}
-
-/* The slack where so many blocks of outage and margin are too many. */
-static struct slack bounded(const struct question *question, const struct entry *entry, uint8_t t, uint32_t threat)
-{
-    struct slack slack = {.threat = threat, .reach = SOME, .entry = entry, .t = t};
-
-    if (threat == SWAP_NEVER) {
+    if (blocks >= SWAP_SLACK_MOST) {
         slack.reach = ANY;
-    } else if (threat <= question->margin) {
+    } else if (blocks < question->margin) {
         slack.reach = NONE;
     } else {
-        slack.blocks = threat - 1 - question->margin;
+        slack.blocks = blocks - question->margin;
     }
     return slack;
 }
 
 struct slack slack_of(const struct question *question, const struct entry *entry, uint8_t side)
 {
-    uint32_t least = SWAP_NEVER;
-    uint8_t bound = SWAP_NONE;
+    const struct stand *stand = &entry->stands[side];
+    struct slack slack = slack_after(question, stand->slack);
 
-    for (uint8_t t = 0; t < count_of(&entry->swap); t++) {
-        uint32_t threat = threat_of(&entry->position, t, side);
-
-        if (threat < least) {
-            least = threat;
-            bound = t;
-        }
+    if (stand->standing >= NOT_YET) {
+        slack.reach = UNSECURED;
     }
-    return bounded(question, entry, bound, least);
+    slack.entry = entry;
+    slack.t = stand->t;
+    return slack;
+}
+
+/* Whether the side's slack here is less than there; nothing is there at first. */
+static bool is_less(const struct entry *here, const struct entry *there, uint8_t side)
+{
+    return there == NULL || here->stands[side].slack < there->stands[side].slack;
 }
 
 struct slack desk_slack(const struct question *question, const struct desk *desk, uint8_t side)
 {
-    struct slack least = {.threat = SWAP_NEVER, .reach = ANY, .t = SWAP_NONE};
+    const struct entry *least = NULL;
 
     for (size_t i = 0; i < desk->count; i++) {
         const struct entry *entry = desk->entries[i];
 
-        if (is_sound(entry) && is_shown(entry, side)) {
-            struct slack slack = slack_of(question, entry, side);
-
-            least = slack.threat < least.threat ? slack : least;
+        if (is_sound(entry) && is_shown(entry, side) && is_bounded(&entry->stands[side]) &&
+            is_less(entry, least, side)) {
+            least = entry;
         }
     }
-    return least;
+    return least != NULL ? slack_of(question, least, side) : slack_after(question, SWAP_SLACK_MOST);
 }
 
 bool has_side(const struct desk *desk, uint8_t side)
@@ -70,4 +56,16 @@ bool has_side(const struct desk *desk, uint8_t side)
         }
     }
     return false;
+}
+
+size_t unsecured_of(const struct desk *desk, uint8_t side)
+{
+    size_t count = 0;
+
+    for (size_t i = 0; i < desk->count; i++) {
+        const struct entry *entry = desk->entries[i];
+
+        count += is_sound(entry) && is_shown(entry, side) && entry->stands[side].standing >= NOT_YET;
+    }
+    return count;
 }

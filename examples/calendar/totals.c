@@ -1,14 +1,11 @@
 #include "totals.h"
 
-/* Adds the transactions of one side of a swap. */
-static void add(struct totals *totals, const struct entry *entry, uint8_t side)
+/* Adds one side of a swap. */
+static void add(struct totals *totals, const struct stand *stand)
 {
-    for (uint8_t t = 0; t < count_of(&entry->swap); t++) {
-        enum kind kind = kind_of(&entry->position, &entry->outage, t, side);
-
-        totals->warnings += kind == WARNING;
-        totals->before += kind == BEFORE;
-    }
+    totals->warnings += stand->warned;
+    totals->not_yet += stand->standing == NOT_YET;
+    totals->given_up += stand->standing == GIVEN_UP;
 }
 
 struct totals totals_of(const struct desk *desk)
@@ -21,7 +18,7 @@ struct totals totals_of(const struct desk *desk)
         totals.refused += !is_sound(entry);
         for (uint8_t side = SWAP_ALICE; side <= SWAP_CAROL && is_sound(entry); side++) {
             if (is_shown(entry, side)) {
-                add(&totals, entry, side);
+                add(&totals, &entry->stands[side]);
             }
         }
     }
@@ -30,7 +27,7 @@ struct totals totals_of(const struct desk *desk)
 
 void print_totals(FILE *to, const struct totals *totals)
 {
-    fprintf(to, "swaps: %lu; warnings: %lu; due before the outage: %lu; refused or unreadable: %lu",
-            (unsigned long)totals->swaps, (unsigned long)totals->warnings, (unsigned long)totals->before,
-            (unsigned long)totals->refused);
+    fprintf(to, "swaps: %lu; warnings: %lu; nothing secured yet: %lu; given up: %lu; refused or unreadable: %lu",
+            (unsigned long)totals->swaps, (unsigned long)totals->warnings, (unsigned long)totals->not_yet,
+            (unsigned long)totals->given_up, (unsigned long)totals->refused);
 }

@@ -8,8 +8,9 @@
 
 struct totals {
     size_t swaps;
-    size_t warnings;
-    size_t before;  /* due before the outage */
+    size_t warnings; /* a side of a swap each, as the next two */
+    size_t not_yet;  /* nothing secured yet */
+    size_t given_up;
     size_t refused; /* or unreadable */
 };
 

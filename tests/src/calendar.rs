@@ -10,6 +10,7 @@ pub mod outages;
 pub mod page;
 pub mod rule;
 mod screen;
+pub mod stand;
 mod view;
 pub mod words;
 
@@ -90,11 +91,6 @@ impl Default for Question {
 }
 
 impl Question {
-    /// Whether the outage begins later than with the next block.
-    pub fn is_later(&self) -> bool {
-        self.start != Start::After(0)
-    }
-
     /// The arguments that ask it.
     pub fn arguments(&self) -> Vec<String> {
         let mut words = match self.length {
@@ -138,7 +134,8 @@ impl Question {
 pub struct Totals {
     pub swaps: usize,
     pub warnings: usize,
-    pub before: usize,
+    pub not_yet: usize,
+    pub given_up: usize,
     pub refused: usize,
 }
 
@@ -182,21 +179,21 @@ pub fn complaints(swaps: &[(String, Files)], question: &Question) -> String {
     found_all(swaps, question).iter().map(of).collect()
 }
 
-/// How long and when the box of a side can be off: whether for any number of blocks, the most blocks else, and the
-/// stretches for an outage of this length.
+/// How long and when the box of a side can be off: the longest outage, None where any does no harm or the margin alone
+/// is too long, and the stretches for an outage of this length.
 #[derive(Clone, Debug, PartialEq, Eq)]
 pub struct HowLong {
     pub any: bool,
     pub blocks: Option<u32>,
-    pub slots: Vec<(u32, Option<u32>)>,
+    pub slots: outages::Slots,
 }
 
 pub fn how_long(swaps: &[(String, Files)], length: Length, margin: u32, side: u8) -> HowLong {
     let found = found_all(swaps, &Question::default());
-    let longest = outages::longest(&found, margin, side);
+    let longest = outages::longest(&found, side);
     HowLong {
-        any: longest.bound.is_none(),
-        blocks: longest.blocks(),
+        any: longest.is_none(),
+        blocks: longest.and_then(|(_, _, stand)| stand.slack.checked_sub(margin)),
         slots: outages::slots(&found, length, margin, side),
     }
 }
@@ -239,10 +236,12 @@ pub fn text(swaps: &[(String, Files)], question: &Question) -> (String, Totals) 
     let Totals {
         swaps,
         warnings,
-        before,
+        not_yet,
+        given_up,
         refused,
     } = totals;
-    text += &format!("swaps: {swaps}; warnings: {warnings}; due before the outage: {before}; ");
+    text += &format!("swaps: {swaps}; warnings: {warnings}; nothing secured yet: {not_yet}; ");
+    text += &format!("given up: {given_up}; ");
     text += &format!("refused or unreadable: {refused}\n");
     (text, totals)
 }
@@ -259,7 +258,8 @@ fn totals(swaps: &[(String, Found)], question: &Question) -> Totals {
                 for &side in sides {
                     let more = view.totals(question, side);
                     totals.warnings += more.warnings;
-                    totals.before += more.before;
+                    totals.not_yet += more.not_yet;
+                    totals.given_up += more.given_up;
                 }
             }
         }
@@ -310,7 +310,8 @@ fn found(files: &Files, question: &Question) -> Found {
         Ok(outcome) if outcome.refusal == 0 => {
             let mut sides = question.side.map_or(sides, |side| vec![side]);
             sides.retain(|&side| outcome.sheet.is_party(side));
-            Found::Sound(Box::new(View::new(sheet, outcome, base)), sides)
+            let view = View::new([sheet, setup, journal], outcome, &sides, base);
+            Found::Sound(Box::new(view), sides)
         }
         _ => Found::Faulty(
             "REFUSED",
@@ -334,7 +335,7 @@ fn refusal(number: u32) -> String {
 /// All of one swap.
 fn full(name: &str, found: &Found, files: &Files, question: &Question) -> String {
     let lines = match found {
-        Found::Sound(view, sides) => view.lines(name, question, sides),
+        Found::Sound(view, sides) => view.lines(question, sides),
         Found::Faulty("REFUSED", reason) => refused(files, reason),
         Found::Faulty(_, reason) => vec![
             format!("  unreadable: {reason}"),

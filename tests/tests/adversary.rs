@@ -2,10 +2,11 @@
 //! while a side stands still, in all careful positions of the SASwap sheet at 1 block per day up to 9 blocks.
 
 use swap_tests::adversary::{Fate, Graph};
-use swap_tests::calendar::rule::{Kind, Outage, Swap};
+use swap_tests::calendar::rule::Swap;
 use swap_tests::compare::Game;
 use swap_tests::every;
 use swap_tests::model::{heights, open, ALICE, BOB};
+use swap_tests::slack::row::Row;
 
 /// The outages in days, which have one block here.
 const OUTAGES: [u32; 3] = [1, 2, 3];
@@ -27,17 +28,6 @@ impl Counts {
         self.false_alarms += usize::from(warned && !danger);
         self.missed_by_report += usize::from(danger && !by_report);
     }
-}
-
-/// Whether the calendar warns the side of an outage of so many blocks, after so many others.
-fn warns(swap: &Swap, wait: u32, blocks: u32, side: u8) -> bool {
-    let mined = swap.position.mined;
-    let outage = Outage {
-        first: mined + wait + 1,
-        last: mined + wait + blocks,
-        reach: wait + blocks,
-    };
-    (0..swap.sheet.count()).any(|t| swap.kind(&outage, t, side) == Kind::Warning)
 }
 
 /// Whether it would by the deadlines of the report, which say nothing before the parent is confirmed.
@@ -62,12 +52,14 @@ fn counts(game: &Game, graph: &Graph, wait: u32) -> ([[Counts; 3]; 2], usize) {
     let positions = every::walk(game, 9, |course| {
         let swap = Swap::of(game, course);
         let number = graph.number(&course.position);
+        let rows = [ALICE, BOB].map(|side| Row::of(swap.sheet, swap.setup, swap.position, side));
         for (side, i) in [ALICE, BOB]
             .into_iter()
             .flat_map(|s| (0..3).map(move |i| (s, i)))
         {
             let danger = dangers[usize::from(side)][i][number];
-            let warned = warns(&swap, wait, OUTAGES[i], side);
+            // the calendar warns, or tells that no payout is secured
+            let warned = !rows[usize::from(side)].keeps(wait + OUTAGES[i]);
             let by_report = warns_by_report(&swap, wait + OUTAGES[i], side);
             assert!(
                 !danger || warned,

@@ -1,18 +1,17 @@
 //! The calendar of `examples/calendar` against the model: its stored samples and outputs, the outages around every
-//! deadline, outages that begin later, random swaps, and files that are too long or no files.
+//! slack, outages that begin later, random swaps, and files that are too long or no files.
 
 use std::collections::BTreeSet;
 use std::fs;
 use std::path::{Path, PathBuf};
 use std::process::Command;
 use swap_tests::calendar::clock::Clock;
-use swap_tests::calendar::rule::{Kind, Outage, Swap};
+use swap_tests::calendar::stand::Stand;
 use swap_tests::calendar::{self, Length, Question, Start, Totals};
-use swap_tests::compare::Game;
-use swap_tests::model::heights::NEVER;
-use swap_tests::model::journal::{Course, MOST_BYTES};
-use swap_tests::model::{calls, outage, sheet, ALICE, BOB, CAROL};
-use swap_tests::random::{self, Case, Manner, Random, MINE};
+use swap_tests::model::calls::{self, Outcome};
+use swap_tests::model::journal::MOST_BYTES;
+use swap_tests::model::{open, sheet, ALICE, BOB, CAROL};
+use swap_tests::random::{self, Case, Random, MINE};
 use swap_tests::samples::{self, Files};
 
 fn top() -> PathBuf {
@@ -157,46 +156,56 @@ fn examples_of_the_documents() {
     }
 }
 
-/// The numbers of blocks from the position of a swap to its soonest deadlines that are ahead.
-fn distances(files: &Files) -> Vec<u32> {
+/// A sound swap after its journal.
+fn outcome(files: &Files) -> Outcome {
     let [Some(sheet), Some(setup), Some(journal), ..] = files else {
-        return Vec::new();
+        panic!("a file is missing")
     };
-    let outcome = calls::outcome(sheet, setup, journal).expect("a sound swap");
-    let position = &outcome.course.position;
-    let soonest = |t: u8| outage::soonest_deadline(&outcome.sheet, &outcome.setup, position, t);
-    let ahead = |d: &u32| *d > position.mined && *d != NEVER;
-    let deadlines = (0..outcome.sheet.count()).map(soonest).filter(ahead);
-    deadlines
-        .map(|deadline| deadline - position.mined)
-        .collect()
+    calls::outcome(sheet, setup, journal).expect("a sound swap")
 }
 
-/// Every sample at every soonest deadline D that is ahead, with D = m + BLOCKS + 1, m + BLOCKS and m + BLOCKS - 1.
-#[test]
-fn outages_around_the_deadlines() {
-    around_the_deadlines("swaps", &[144, 289, 1]);
-    around_the_deadlines("rings", &[38, 132, 276]);
-}
-
-/// The samples of a folder, which have these distances among others.
-fn around_the_deadlines(part: &str, some: &[u32]) {
-    let swaps = samples::in_folder(part);
-    let folder = example().join("samples").join(part);
-    let distances: BTreeSet<u32> = swaps.iter().flat_map(|(_, f)| distances(f)).collect();
-    assert!(some.iter().all(|distance| distances.contains(distance)));
-    let mut rises = 0;
-    for &distance in &distances {
-        let around = [distance - 1, distance, distance + 1];
-        let warnings = around.map(|n| compare_both(&folder, &swaps, &blocks(n)).warnings);
-        println!("{distance} blocks to a soonest deadline, warnings {warnings:?}");
-        rises += usize::from(warnings[0] < warnings[1]);
+fn copy(outcome: &Outcome) -> Outcome {
+    Outcome {
+        sheet: outcome.sheet.clone(),
+        setup: outcome.setup,
+        refusal: outcome.refusal,
+        course: outcome.course.clone(),
     }
-    assert!(rises > distances.len() / 2);
 }
 
-/// Whether the calendar warns of refund_2, which must be confirmed in this block.
-fn warns_of_refund_2(folder: &Path, deadline: u32, question: &Question) -> bool {
+/// Where a side stands.
+fn stand(outcome: &Outcome, side: u8) -> Stand {
+    let open = open::steps(&outcome.sheet, &outcome.setup, &outcome.course.position);
+    Stand::of(outcome, &open, side)
+}
+
+/// The slacks of all parties of a swap that some outage is longer than.
+fn slacks(files: &Files) -> Vec<u32> {
+    let outcome = outcome(files);
+    let stands = outcome.sheet.parties.iter().map(|&side| stand(&outcome, side));
+    let bounded = stands.filter(Stand::is_bounded);
+    bounded.map(|stand| stand.slack).collect()
+}
+
+/// Every sample with outages of as many blocks as each slack has, one fewer and one more.
+#[test]
+fn outages_around_the_slack() {
+    for part in ["swaps", "rings"] {
+        let swaps = samples::in_folder(part);
+        let folder = example().join("samples").join(part);
+        let slacks: BTreeSet<u32> = swaps.iter().flat_map(|(_, f)| slacks(f)).collect();
+        assert!(slacks.len() > 1, "{slacks:?}");
+        for &slack in &slacks {
+            let around = [slack.saturating_sub(1), slack, slack + 1];
+            let warnings = around.map(|n| compare_both(&folder, &swaps, &blocks(n)).warnings);
+            println!("a slack of {slack} blocks, warnings {warnings:?}");
+            assert!(warnings[0] <= warnings[1] && warnings[1] < warnings[2]);
+        }
+    }
+}
+
+/// Whether the calendar warns Alice, by the line of her payout.
+fn warns_alice(folder: &Path, question: &Question) -> bool {
     let full = Question {
         full: true,
         side: Some(ALICE),
@@ -205,22 +214,21 @@ fn warns_of_refund_2(folder: &Path, deadline: u32, question: &Question) -> bool 
     let (text, _, status) = run(folder, &full);
     let mut lines = text
         .lines()
-        .filter(|line| line.starts_with("    refund_2 "));
-    let line = lines.next_back().expect("a line of refund_2");
-    let warns = line.contains("WARNING: ");
-    assert!(line.contains(&format!(" to {deadline}")) && line.contains("else timeout, pays Bob"));
+        .filter(|line| line.starts_with("  payout of Alice: "));
+    let warns = lines.next().expect("her line").contains("WARNING: ");
     assert_eq!(status, if warns { 3 } else { 0 });
     warns
 }
 
-/// The boundary in so many words: refund_2 must be confirmed in block 588, and 444 blocks are mined.
+/// The boundary in so many words: refund_2 must be confirmed in block 588, and 444 blocks are mined. An outage that begins
+/// later counts from now, and so does the margin after it.
 #[test]
 fn last_block_of_an_outage() {
     let folder = written(
         "calendar_boundary",
         &[("revoked".to_string(), samples::revoked())],
     );
-    let warns = |question: &Question| warns_of_refund_2(&folder, 588, question);
+    let warns = |question: &Question| warns_alice(&folder, question);
     let margin = |n: u32, margin: u32| Question {
         margin,
         ..blocks(n)
@@ -233,7 +241,7 @@ fn last_block_of_an_outage() {
     assert!(warns(&blocks(588 - 444)));
     assert!(!warns(&margin(100, 43)) && warns(&margin(100, 44)));
     assert!(!warns(&later(500, 88)) && warns(&later(500, 89)));
-    assert!(warns(&later(588, 1)) && !warns(&later(589, 1)));
+    assert!(warns(&later(588, 1)) && warns(&later(589, 1)));
 }
 
 /// 144 blocks a day, careful, both coins locked, 288 blocks mined: revoke fits in block 289, and then timeout in block
@@ -241,13 +249,48 @@ fn last_block_of_an_outage() {
 #[test]
 fn deadline_of_a_parent_to_come() {
     let folder = example().join("samples/swaps/standing");
-    let warns = |question: &Question| warns_of_refund_2(&folder, 577, question);
+    let warns = |question: &Question| warns_alice(&folder, question);
     assert!(!warns(&blocks(288)) && warns(&blocks(289)) && warns(&blocks(300)));
-    let later = Question {
-        start: Start::After(600 - 289),
+    let later = |wait: u32| Question {
+        start: Start::After(wait),
         ..blocks(1)
     };
-    assert!(warns(&later), "revoke can come later, and its deadline too");
+    assert!(!warns(&later(287)) && warns(&later(288)));
+}
+
+/// What secures a payout is no warning, and is no longer one after the step that the calendar names.
+#[test]
+fn steps_that_help() {
+    let mut random = Random::new(46);
+    let (mut helped, mut sides) = (0, 0);
+    for _ in 0..1_500 {
+        let game = match random.percent(20) {
+            true => random::ring_game(&mut random),
+            false => random::game(&mut random),
+        };
+        let manner = random::Manner {
+            wrong: 0,
+            leap: 10,
+            ..random::manner(&mut random, 40)
+        };
+        let journal = random::journal(&mut random, &game.0, &game.1, manner);
+        let now = outcome(&[Some(game.0), Some(game.1), Some(journal), None, None]);
+        for &side in now.sheet.parties {
+            let told = stand(&now, side);
+            sides += 1;
+            if let Some((step, then)) = told.help {
+                let mut after = copy(&now);
+                assert_eq!(step[1], side);
+                assert_eq!(after.course.take(&now.sheet, &now.setup, &step), 0);
+                let reached = stand(&after, side);
+                assert!(reached.standing.is_secured() && reached.slack == then);
+                assert!(then > told.slack || !told.is_bounded() || told.slack == 0);
+                helped += 1;
+            }
+        }
+    }
+    println!("{helped} of {sides} sides have a step that helps");
+    assert!(helped > 100);
 }
 
 /// Random swaps of any sort: accepted ones after walks with leaps to heights that decide something, and refused ones.
@@ -374,13 +417,12 @@ fn random_swaps_as_by_the_model() {
         |(name, files): &(String, Files)| (name.clone(), standing_at(HEIGHT, files.clone()));
     let swaps: Vec<(String, Files)> = swaps.iter().map(based).collect();
     let folder = written("calendar_random", &swaps);
-    let mut sums = [0; 3];
+    let mut sums = [0; 4];
     for question in questions() {
         let totals = compare_both(&folder, &swaps, &question);
         println!("{question:?}: {totals:?}");
-        assert_eq!(totals.warnings == 0, question.length == Length::Blocks(0));
-        assert!(totals.before == 0 || question.is_later());
-        let counts = [totals.warnings, totals.before, totals.refused];
+        assert!(totals.warnings == 0 || question.length != Length::Blocks(0));
+        let counts = [totals.warnings, totals.not_yet, totals.given_up, totals.refused];
         for (sum, count) in sums.iter_mut().zip(counts) {
             *sum += count;
         }
@@ -473,61 +515,55 @@ fn swaps_that_share_a_sheet() {
     assert!(totals.refused > 100 && totals.refused < 250, "{totals:?}");
 }
 
-/// A course, and how it goes on for some blocks.
-fn now_and_then(random: &mut Random, game: &Game) -> (Course, Course) {
-    let manner = Manner {
-        wrong: 0,
-        leap: 5,
-        ..random::manner(random, 60)
-    };
-    let mut now = Course::fresh(&game.sheet);
-    random::more(random, &game.sheet, &game.setup, &mut now, &manner, 40);
-    let mut then = now.clone();
-    for _ in 0..20 {
-        random::more(random, &game.sheet, &game.setup, &mut then, &manner, 10);
-    }
-    (now, then)
-}
-
-/// An outage that begins later: what is no warning now is none at its beginning, whatever happens until then.
+/// An outage that begins later: where it is no warning now, the side, which takes no step until then, is not warned at its
+/// beginning.
 #[test]
 fn later_outages() {
     let mut random = Random::new(43);
     let mut counts = [0; 3];
-    for _ in 0..2_000 {
-        let game = Game::new(match random.percent(20) {
+    for _ in 0..1_500 {
+        let game = match random.percent(20) {
             true => random::ring_game(&mut random),
             false => random::game(&mut random),
-        });
-        let (now, then) = now_and_then(&mut random, &game);
-        let (mined, length) = (then.position.mined, random.below(20) as u32 + 1);
-        let question = Question {
-            start: Start::After(mined - now.position.mined),
-            ..blocks(length)
         };
-        let before = Outage::of(&question, &game.setup, now.position.mined, None);
-        let begun = Outage::next(mined, length);
-        let parties = game.sheet.parties.iter();
-        for (t, &side) in parties.flat_map(|side| (0..game.sheet.count()).map(move |t| (t, side))) {
-            let told = Swap::of(&game, &now).kind(&before, t, side);
-            let found = Swap::of(&game, &then).kind(&begun, t, side);
-            assert!(told == Kind::Warning || found != Kind::Warning);
-            counts[0] += usize::from(told == Kind::Warning);
-            counts[1] += usize::from(found == Kind::Warning);
-            counts[2] += usize::from(told == Kind::Before);
+        let manner = random::Manner {
+            wrong: 0,
+            leap: 5,
+            ..random::manner(&mut random, 60)
+        };
+        let journal = random::journal(&mut random, &game.0, &game.1, manner);
+        let now = outcome(&[Some(game.0), Some(game.1), Some(journal), None, None]);
+        let side = random.pick(now.sheet.parties);
+        let mut then = copy(&now);
+        for _ in 0..random.below(30) {
+            let position = &then.course.position;
+            let mut open = open::steps(&then.sheet, &then.setup, position);
+            open.retain(|step| step[1] != side);
+            if !open.is_empty() {
+                let step = random.pick(&open);
+                then.course.take(&now.sheet, &now.setup, &step);
+            }
         }
+        let wait = then.course.position.mined - now.course.position.mined;
+        let length = random.below(20) as u32 + 1;
+        let told = stand(&now, side);
+        let found = stand(&then, side);
+        let kept = told.standing.is_secured() && !told.warns(wait + length);
+        assert!(!kept || found.standing.is_secured() && !found.warns(length));
+        counts[0] += usize::from(told.warns(wait + length));
+        counts[1] += usize::from(found.warns(length));
+        counts[2] += usize::from(kept && wait > 0);
     }
-    let [told, found, before] = counts;
-    println!("{told} warnings, {found} of them at the beginning, {before} due before it");
-    assert!(counts.iter().all(|&count| count > 1_000), "{counts:?}");
+    println!("{counts:?} warnings, those at the beginning, outages without");
+    assert!(counts.iter().all(|&count| count > 20), "{counts:?}");
 }
 
 /// How long and when on small desks: each stretch is what the rule leaves of all starts, tried one by one, and the longest
-/// outage is the last that the rule leaves.
+/// outage is the last that the rule leaves; so it is with the steps taken that help.
 #[test]
 fn stretches_block_by_block() {
     let mut random = Random::new(45);
-    let (mut ends, mut opens, mut longest) = (0, 0, 0);
+    let (mut ends, mut opens, mut longest, mut longer) = (0, 0, 0, 0);
     for _ in 0..300 {
         let swaps: Vec<(String, Files)> = (0..3)
             .map(|i| {
@@ -539,41 +575,55 @@ fn stretches_block_by_block() {
             })
             .collect();
         let (length, margin) = (random.below(4) as u32 + 1, random.below(3) as u32);
-        let warns = |side: u8, wait: u32, blocks: u32| {
+        let warns = |swaps: &[(String, Files)], side: u8, wait: u32, blocks: u32| {
             let question = Question {
                 side: Some(side),
                 start: Start::After(wait),
                 margin,
                 ..self::blocks(blocks)
             };
-            calendar::text(&swaps, &question).1.warnings > 0
+            calendar::text(swaps, &question).1.warnings > 0
         };
         for side in [ALICE, BOB] {
             let told = calendar::how_long(&swaps, Length::Blocks(length), margin, side);
-            let is_free = |wait: u32| {
-                let (first, last) = (wait + 1, wait + length);
-                let within =
-                    |&(a, b): &(u32, Option<u32>)| a <= first && b.is_none_or(|b| last <= b);
-                told.slots.iter().any(within)
+            let is_free = |slot: Option<(u32, Option<u32>)>, wait: u32| {
+                slot.is_some_and(|(a, b)| a <= wait + 1 && b.is_none_or(|b| wait + length <= b))
             };
+            let done: Vec<(String, Files)> = swaps
+                .iter()
+                .map(|(name, files)| (name.clone(), helped(files.clone(), side)))
+                .collect();
             for wait in 0..40 {
-                assert_eq!(
-                    is_free(wait),
-                    !warns(side, wait, length),
-                    "{told:?}, {wait}"
-                );
+                let [now, then] = [&swaps, &done].map(|swaps| !warns(swaps, side, wait, length));
+                assert_eq!(is_free(told.slots.now, wait), now, "{told:?}, {wait}");
+                assert_eq!(is_free(told.slots.done, wait), then, "{told:?}, {wait}");
             }
             for blocks in 1..40 {
                 let kept = told.any || told.blocks.is_some_and(|most| blocks <= most);
-                assert_eq!(kept, !warns(side, 0, blocks), "{told:?}, {blocks}");
+                assert_eq!(kept, !warns(&swaps, side, 0, blocks), "{told:?}, {blocks}");
             }
-            ends += told.slots.iter().filter(|(_, last)| last.is_some()).count();
-            opens += told.slots.iter().filter(|(_, last)| last.is_none()).count();
+            ends += usize::from(told.slots.now.is_some_and(|(_, last)| last.is_some()));
+            opens += usize::from(told.slots.now.is_some_and(|(_, last)| last.is_none()));
             longest += usize::from(told.blocks.is_some_and(|blocks| blocks > 0));
+            longer += usize::from(told.slots.done != told.slots.now);
         }
     }
-    println!("{ends} stretches with an end, {opens} without, {longest} longest outages");
-    assert!(ends > 50 && opens > 50 && longest > 50);
+    println!("{ends} stretches with an end, {opens} without, {longest} longest outages, {longer} longer with a step");
+    assert!([ends, opens, longest, longer].iter().all(|&count| count > 20));
+}
+
+/// The swap after the side's step that helps, if it is sound and there is one.
+fn helped(mut files: Files, side: u8) -> Files {
+    let [Some(sheet), Some(setup), Some(journal), ..] = &files else {
+        panic!("a file is missing")
+    };
+    if calls::run(sheet, setup, journal).refusal != 0 {
+        return files;
+    }
+    if let Some((step, _)) = stand(&outcome(&files), side).help {
+        files[2].as_mut().expect("a journal").extend(step);
+    }
+    files
 }
 
 /// A swap that is refused with this number, 1 to 22 or 24.

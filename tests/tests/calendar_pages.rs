@@ -162,13 +162,18 @@ fn stored_samples() {
     }
 }
 
-/// The forty swaps at one day: 24 warnings, each with a part of its bar covered, and one that runs past the axis.
+/// The warnings of a desk by the model.
+fn warnings(swaps: &[(String, Files)], question: &Question) -> usize {
+    calendar::text(swaps, question).1.warnings
+}
+
+/// The forty swaps, each shown for one side, at one day: each warning has a part of its bar covered.
 #[test]
 fn desk_of_forty() {
     let swaps = samples::in_folder("desk");
     let folder = written("pages_forty", &swaps);
     let bars = compare(&folder, &swaps, &Question::default());
-    assert_eq!(bars["covered"], 24);
+    assert_eq!(bars["covered"], warnings(&swaps, &Question::default()));
     assert!(bars["window"] > 100 && bars["outage"] > 200 && !bars.contains_key("margin"));
     let none = compare(&folder, &swaps, &blocks(0));
     assert!(!none.contains_key("covered") && !none.contains_key("outage"));
@@ -184,7 +189,7 @@ fn claimed_ring() {
     let written = fs::read_to_string(folder.with_extension("html")).expect("a page");
     let page = markup::read(&written).expect("a page");
     let title = page.named("h2")[0].text();
-    assert_eq!(title, "claimed, Alice, Bob, Carol: 1 WARNING");
+    assert_eq!(title, "claimed, Alice: paid, Bob, Carol: WARNING");
     let swap = &data::json(&swaps, &Question::default());
     let swap = &swap.get("swaps").list()[0];
     assert_eq!(swap.get("sides").list().len(), 3);
@@ -238,7 +243,7 @@ fn random_swaps_as_by_the_model() {
     println!("{sums:?}");
     assert!(["outage", "margin", "window", "covered"]
         .iter()
-        .all(|&name| sums[name] > 200));
+        .all(|&name| sums[name] > 50));
 }
 
 /// Names of folders, and their text.
@@ -507,7 +512,7 @@ fn icalendar() {
     let mut one = samples::in_folder("swaps/standing");
     one[0].0 = odd.to_string();
     desks.push(one);
-    let (mut windows, mut slots) = (0, 0);
+    let (mut ends, mut slots) = (0, 0);
     for (number, swaps) in desks.into_iter().enumerate() {
         let swaps = swaps.into_iter().map(|swap| standing_at(900_000, swap));
         let swaps: Vec<(String, Files)> = swaps.collect();
@@ -533,12 +538,12 @@ fn icalendar() {
             assert_eq!(events.len(), expected.len());
             let uids: BTreeSet<&String> = events.iter().map(|event| &event[1].1).collect();
             assert_eq!(uids.len(), events.len());
-            windows += uids.iter().filter(|uid| uid.starts_with("window-")).count();
+            ends += uids.iter().filter(|uid| uid.starts_with("payout-")).count();
             slots += uids.iter().filter(|uid| uid.starts_with("slot-")).count();
         }
     }
-    println!("{windows} ends of windows, {slots} stretches");
-    assert!(windows > 200 && slots > 10);
+    println!("{ends} steps to take, {slots} stretches");
+    assert!(ends > 50 && slots > 10);
 }
 
 /// A day's outage asked for at this time, with stretches of three blocks and a margin of one.

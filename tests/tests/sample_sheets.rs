@@ -105,7 +105,7 @@ fn texts_are_the_stored_bytes() {
     }
 }
 
-/// One by one as the README shows it, with a warning, and all together.
+/// One by one as the README shows it, and all together.
 #[test]
 fn calendar_shows_them() {
     let question = Question::default();
@@ -116,15 +116,16 @@ fn calendar_shows_them() {
     let swaps: Vec<(String, Files)> = names().into_iter().map(swap).collect();
     for swap in &swaps {
         let folder = all().join(&swap.0);
-        let (text, _) = calendar::text(std::slice::from_ref(swap), &question);
-        assert_eq!(run("calendar", &[&folder]), (text.clone(), 3));
+        let (text, totals) = calendar::text(std::slice::from_ref(swap), &question);
+        assert_eq!(
+            run("calendar", &[&folder]),
+            (text.clone(), totals.status())
+        );
         let readme = fs::read_to_string(folder.join("README.md")).expect("a README");
         assert!(readme.contains(&format!("```\n{text}```\n")), "{}", swap.0);
     }
-    assert_eq!(
-        run("calendar", &[&all()]),
-        (calendar::text(&swaps, &question).0, 3)
-    );
+    let (text, totals) = calendar::text(&swaps, &question);
+    assert_eq!(run("calendar", &[&all()]), (text, totals.status()));
 }
 
 /// Who has each coin after some more lines of the text.

@@ -1,7 +1,8 @@
 //! What is said of a transaction beside its window.
 
-use super::rule::{Outage, Swap};
+use super::rule::Swap;
 use super::words::{height, payees_name, Names};
+use crate::model::heights::NEVER;
 
 /// A swap with its names, and the height before block 1.
 pub struct After<'a> {
@@ -36,17 +37,15 @@ impl After<'_> {
         format!("{words}, if {name} is confirmed in {block}")
     }
 
-    /// The part of the window before an outage that begins later.
-    pub fn before(&self, outage: &Outage, t: u8) -> String {
-        let from = self.swap.soonest_block(t);
-        let to = self.swap.soonest_deadline(t).min(outage.first - 1);
-        match from <= to && to > self.swap.position.mined {
-            true => format!(
-                "before the outage in {} to {}, ",
-                self.height(from),
-                self.height(to)
-            ),
-            false => String::new(),
+    /// What can be confirmed after the soonest deadline, and on what that hangs; nothing where there is none, or where it is
+    /// passed and no hand-in is left.
+    pub fn otherwise_if_any(&self, t: u8) -> Option<String> {
+        let (deadline, mined) = (self.swap.soonest_deadline(t), self.swap.position.mined);
+        let otherwise = || self.otherwise(t) + &self.hangs_on("", t);
+        match (deadline, deadline <= mined, self.swap.setup.stealth) {
+            (NEVER, ..) | (_, true, false) => None,
+            (_, true, true) => Some(format!("passed, a hand-in may save it, {}", otherwise())),
+            _ => Some(otherwise()),
         }
     }
 

@@ -3,8 +3,9 @@
 use super::action::Action;
 use super::after::After;
 use super::clock::iso;
-use super::outages::{self, Longest};
+use super::outages::{self, Slot};
 use super::rule::Kind;
+use super::stand::Stand;
 use super::view::View;
 use super::words::{destination_name, party_name};
 use super::{found, found_all, totals, Found, Length, Question, Start};
@@ -15,6 +16,7 @@ use crate::model::setup::Conduct;
 use crate::model::sheet::payee_bit;
 use crate::model::{report, ALICE, BOB, CAROL};
 use crate::samples::Files;
+use crate::slack::row::LONGEST;
 
 /// "one object a swap", with what is asked and the totals before them.
 pub fn json(swaps: &[(String, Files)], question: &Question) -> Value {
@@ -23,7 +25,8 @@ pub fn json(swaps: &[(String, Files)], question: &Question) -> Value {
     let totals = Value::object([
         ("swaps", Value::number(totals.swaps)),
         ("warnings", Value::number(totals.warnings)),
-        ("before", Value::number(totals.before)),
+        ("not_yet", Value::number(totals.not_yet)),
+        ("given_up", Value::number(totals.given_up)),
         ("faulty", Value::number(totals.refused)),
     ]);
     let swaps = found
@@ -41,44 +44,76 @@ pub fn json(swaps: &[(String, Files)], question: &Question) -> Value {
 /// How long and when the box of each side can be off.
 fn outages(found: &[(String, Found)], question: &Question) -> Value {
     let of = |side: u8| {
-        let longest = outages::longest(found, question.margin, side);
+        let longest = outages::longest(found, side);
+        let (any, blocks) = match &longest {
+            None => (true, Value::Null),
+            Some((_, _, stand)) => free(stand, question.margin),
+        };
         let slots = question.slots.map_or(Value::Null, |length| {
-            let slots = outages::slots(found, length, question.margin, side).into_iter();
-            let slot = |(first, last): (u32, Option<u32>)| {
-                Value::object([
-                    ("first", Value::number(first)),
-                    ("last", last.map_or(Value::Null, Value::number)),
-                ])
-            };
-            Value::List(slots.map(slot).collect())
+            let slots = outages::slots(found, length, question.margin, side);
+            Value::object([("now", slot(slots.now)), ("done", slot(slots.done))])
         });
-        longest_of(&longest, side, vec![("slots".to_string(), slots)])
+        let counted = longest.as_ref().map(|(_, view, stand)| counts_on(view, stand));
+        Value::object([
+            ("side", Value::text(party_name(side))),
+            ("any", Value::Bool(any)),
+            ("blocks", blocks),
+            (
+                "swap",
+                (longest.as_ref()).map_or(Value::Null, |(name, ..)| Value::text(*name)),
+            ),
+            ("counts_on", counted.unwrap_or(Value::Null)),
+            ("unsecured", Value::number(outages::unsecured(found, side))),
+            ("slots", slots),
+        ])
     };
     Value::List(outages::sides(found).into_iter().map(of).collect())
 }
 
-/// The longest outage without a warning for a side, and further fields.
-fn longest_of(longest: &Longest, side: u8, more: Vec<(String, Value)>) -> Value {
-    let bound = longest.bound.as_ref();
-    let Value::Object(fields) = Value::object([
+fn slot(slot: Slot) -> Value {
+    slot.map_or(Value::Null, |(first, last)| {
+        Value::object([
+            ("first", Value::number(first)),
+            ("last", last.map_or(Value::Null, Value::number)),
+        ])
+    })
+}
+
+fn counts_on(view: &View, stand: &Stand) -> Value {
+    let name = |(t, _): (u8, u8)| Value::text(view.names.transaction(t));
+    stand.counted.map_or(Value::Null, name)
+}
+
+/// The longest outage from now without a warning: whether any, and so many blocks, null where there is no number.
+fn free(stand: &Stand, margin: u32) -> (bool, Value) {
+    let blocks = stand.slack.checked_sub(margin);
+    let blocks = blocks.filter(|_| stand.slack < LONGEST && stand.standing.is_secured());
+    (
+        stand.slack == LONGEST,
+        blocks.map_or(Value::Null, Value::number),
+    )
+}
+
+/// Where a side stands, and what it can do.
+fn payout(view: &View, question: &Question, side: u8) -> Value {
+    let stand = view.stand(side);
+    let (any, blocks) = free(&stand, question.margin);
+    Value::object([
         ("side", Value::text(party_name(side))),
-        ("any", Value::Bool(bound.is_none())),
+        ("standing", Value::text(stand.standing.word())),
+        ("warning", Value::Bool(view.warns(question, side))),
         (
-            "blocks",
-            longest.blocks().map_or(Value::Null, Value::number),
+            "slack",
+            match stand.standing.is_secured() {
+                true => Value::number(stand.slack),
+                false => Value::Null,
+            },
         ),
-        (
-            "swap",
-            bound.map_or(Value::Null, |(_, name, _)| Value::text(name.as_str())),
-        ),
-        (
-            "transaction",
-            bound.map_or(Value::Null, |(_, _, t)| Value::text(t.as_str())),
-        ),
-    ]) else {
-        panic!("no object")
-    };
-    Value::Object([fields, more].concat())
+        ("counts_on", counts_on(view, &stand)),
+        ("any", Value::Bool(any)),
+        ("blocks", blocks),
+        ("action", action(view, question, side)),
+    ])
 }
 
 fn asked(question: &Question) -> Value {
@@ -106,7 +141,7 @@ fn asked(question: &Question) -> Value {
 /// A swap: its name, then what is to be told.
 fn swap(name: &str, found: &Found, files: &Files, question: &Question) -> Value {
     let Value::Object(fields) = (match found {
-        Found::Sound(view, sides) => sound(name, view, sides, question),
+        Found::Sound(view, sides) => sound(view, sides, question),
         Found::Faulty("UNREADABLE", reason) => unreadable(reason),
         Found::Faulty(_, reason) => refused(reason, files),
     }) else {
@@ -165,7 +200,7 @@ fn payees(mask: u8) -> Value {
     parties(&parties_of)
 }
 
-fn sound(name: &str, view: &View, sides: &[u8], question: &Question) -> Value {
+fn sound(view: &View, sides: &[u8], question: &Question) -> Value {
     let outcome = view.outcome();
     let outage = view.outage(question);
     let base = view.base().unwrap_or(0);
@@ -181,9 +216,7 @@ fn sound(name: &str, view: &View, sides: &[u8], question: &Question) -> Value {
             ("last", height(base, outage.last)),
         ]),
     };
-    let longest = sides
-        .iter()
-        .map(|&side| longest_of(&view.longest(name, question.margin, side), side, vec![]));
+    let payouts = sides.iter().map(|&side| payout(view, question, side));
     let all = 0..outcome.sheet.count();
     let transactions = all.map(|t| transaction(view, sides, question, t));
     Value::object([
@@ -199,7 +232,7 @@ fn sound(name: &str, view: &View, sides: &[u8], question: &Question) -> Value {
         ("mined", Value::number(view.mined())),
         ("base", view.base().map_or(Value::Null, Value::number)),
         ("outage", blocks),
-        ("longest", Value::List(longest.collect())),
+        ("payouts", Value::List(payouts.collect())),
         ("transactions", Value::List(transactions.collect())),
     ])
 }
@@ -280,8 +313,7 @@ fn window(after: &After, t: u8) -> Value {
 /// What the outage does to a transaction for a side.
 fn verdict(view: &View, question: &Question, t: u8, side: u8) -> Value {
     let kind = match view.swap().kind(&view.outage(question), t, side) {
-        Kind::Warning => "warning",
-        Kind::Before => "before",
+        Kind::Covered => "covered",
         Kind::Ahead => "ahead",
         Kind::Taken => "taken",
         Kind::Sent => "sent",
@@ -301,13 +333,6 @@ fn verdict(view: &View, question: &Question, t: u8, side: u8) -> Value {
         ("side", Value::text(party_name(side))),
         ("outage", Value::text(kind)),
         ("can_send", Value::Bool(view.can_send(t, side))),
-        (
-            "action",
-            match kind {
-                "free" | "others" | "settled" => Value::Null,
-                _ => action(view, question, t, side),
-            },
-        ),
         ("rivals", Value::List(rivals.collect())),
     ])
 }
@@ -325,50 +350,47 @@ fn times(view: &View, question: &Question, by: Option<u32>) -> Value {
     ])
 }
 
-/// What the side can do about a transaction.
-fn action(view: &View, question: &Question, t: u8, side: u8) -> Value {
+/// What the side can do about its payout.
+fn action(view: &View, question: &Question, side: u8) -> Value {
     let base = view.base().unwrap_or(0);
-    let block = |block: Option<u32>| block.map_or(Value::Null, |block| height(base, block));
-    let object = |word: &str, step: Value, terms: [Value; 4], reason: Value| {
-        let [once, after, by, time] = terms;
-        Value::object([
-            ("word", Value::text(word)),
-            ("step", step),
-            ("once", once),
-            ("after", after),
-            ("by", by),
-            ("time", time),
-            ("reason", reason),
-        ])
-    };
-    let none = [Value::Null, Value::Null, Value::Null, Value::Null];
+    let block = |block: Option<u32>| height(base, block.unwrap_or(NEVER));
+    let then = view.stand(side).help.map(|(_, then)| then);
     let name = |t: u8| Value::text(view.names.transaction(t));
-    match view.action(question.margin, t, side) {
+    let (word, reason) = match view.action(question.margin, side) {
         Action::Do {
             step,
+            open,
             once,
             after,
             by,
-            ..
-        } => object(
-            "do",
-            Value::text(step),
-            [
-                once.map_or(Value::Null, name),
-                block(after),
-                block(by),
-                times(view, question, by),
-            ],
-            Value::Null,
-        ),
-        Action::Sent => object("nothing to do", Value::Null, none, Value::text("sent")),
-        Action::Nothing(reason) => object(
-            "nothing can be done now",
-            Value::Null,
-            none,
-            Value::text(reason),
-        ),
-    }
+        } => {
+            return Value::object([
+                ("word", Value::text("do")),
+                ("step", Value::text(step)),
+                ("once", once.map_or(Value::Null, name)),
+                ("after", block(after)),
+                ("by", block(by)),
+                ("now", Value::Bool(open && by == Some(view.mined() + 1))),
+                ("time", times(view, question, by)),
+                ("then", then.map_or(Value::Null, Value::number)),
+                ("reason", Value::Null),
+            ])
+        }
+        Action::Done(reason) => ("nothing to do", Value::text(reason)),
+        Action::Nothing(reason) => ("nothing can be done now", Value::text(reason)),
+        Action::NoPayout(standing) => (standing, Value::Null),
+    };
+    Value::object([
+        ("word", Value::text(word)),
+        ("step", Value::Null),
+        ("once", Value::Null),
+        ("after", Value::Null),
+        ("by", Value::Null),
+        ("now", Value::Bool(false)),
+        ("time", Value::Null),
+        ("then", Value::Null),
+        ("reason", reason),
+    ])
 }
 
 /// The page's words for a transaction of a sound swap that is not settled, a text for each side.
@@ -382,26 +404,17 @@ pub fn words(files: &Files, question: &Question, t: u8) -> Vec<String> {
         .collect()
 }
 
-/// What can happen to a transaction, for a side, after what to do.
-pub fn outlook(view: &View, question: &Question, t: u8, side: u8) -> String {
+/// What can happen to a transaction, for a side.
+fn outlook(view: &View, question: &Question, t: u8, side: u8) -> String {
     let after = view.after();
-    let outage = view.outage(question);
-    let otherwise = || after.otherwise(t) + &after.hangs_on("", t);
-    let before = || match question.is_later() {
-        false => String::new(),
-        true => after.before(&outage, t),
-    };
-    let passed = after.swap.soonest_deadline(t) <= after.swap.position.mined;
-    let to_do = || view.what_to_do(question, t, side);
-    let kind = after.swap.kind(&outage, t, side);
+    let kind = after.swap.kind(&view.outage(question), t, side);
     let words = match kind {
-        Kind::Warning if passed => {
-            let otherwise = otherwise();
-            format!("{}; passed, a hand-in may save it, {otherwise}", to_do())
+        Kind::Covered | Kind::Ahead => after.otherwise_if_any(t).unwrap_or_default(),
+        Kind::Taken => {
+            let payee = after.swap.taken(t, side).expect("a payee");
+            format!("sent, pays {}", party_name(payee))
         }
-        Kind::Warning | Kind::Before => format!("{}; {}{}", to_do(), before(), otherwise()),
-        Kind::Ahead => format!("{}; {}", to_do(), otherwise()),
-        Kind::Taken | Kind::Sent => to_do(),
+        Kind::Sent => "sent".to_string(),
         Kind::Free => "no deadline ahead".to_string(),
         Kind::Others if after.swap.sheet.parties.len() == 2 => "the other side's".to_string(),
         Kind::Others => "another side's".to_string(),
@@ -414,12 +427,15 @@ pub fn outlook(view: &View, question: &Question, t: u8, side: u8) -> String {
 }
 
 fn side_words(view: &View, question: &Question, t: u8, side: u8) -> String {
-    let mark = match view.swap().kind(&view.outage(question), t, side) {
-        Kind::Warning => "WARNING, ",
-        Kind::Before => "due before the outage, ",
-        _ => "",
+    let counted = view.stand(side).counted.is_some_and(|(of, _)| of == t);
+    let mark = match counted && view.warns(question, side) {
+        true => "WARNING, ",
+        false => "",
     };
-    let words = outlook(view, question, t, side);
+    let words = match counted {
+        true => format!("counted on, {}", view.payout(question, side)),
+        false => outlook(view, question, t, side),
+    };
     let now = match view.can_send(t, side) {
         true => "; can be sent now",
         false => "",

@@ -2,9 +2,7 @@
 
 use super::action::Action;
 use super::clock::utc;
-use super::data::outlook;
 use super::outages;
-use super::rule::Kind;
 use super::words::party_name;
 use super::{found_all, Found, Question};
 use crate::samples::Files;
@@ -99,40 +97,39 @@ fn event(at: i64, uid: String, start: i64, end: Option<i64>, words: [Option<Stri
         .collect()
 }
 
-/// The end of each window of a swap, from its early to its late time.
-fn windows(name: &str, found: &Found, question: &Question) -> Vec<Event> {
+/// What each side of a swap is to do, from the early to the late time of its last block.
+fn ends(name: &str, found: &Found, question: &Question) -> Vec<Event> {
     let Found::Sound(view, sides) = found else {
         return Vec::new();
     };
     let clock = question.clock.expect("a clock");
     let mut events = Vec::new();
     for &side in sides {
-        for t in 0..view.outcome().sheet.count() {
-            let kind = view.swap().kind(&view.outage(question), t, side);
-            if ![Kind::Warning, Kind::Before, Kind::Ahead].contains(&kind) {
-                continue;
-            }
-            let by = match view.action(question.margin, t, side) {
-                Action::Do { by, .. } => by.expect("an end"),
-                _ => view.last_safe(question.margin, t).expect("an end"),
-            };
-            let blocks = u64::from(by - view.mined());
-            let hex: String = name.bytes().map(|byte| format!("{byte:02x}")).collect();
-            let (side_name, transaction) = (party_name(side), view.names.transaction(t));
-            let summary = format!(
-                "{name}, {side_name}: {transaction} by block {}",
-                view.height(by)
-            );
-            let description = outlook(view, question, t, side)
-                + "; an estimate: from the time of 5 to that of 95 in 100 cases";
-            events.push(event(
-                clock.at,
-                format!("window-{side_name}-{t}-{hex}"),
-                clock.within(blocks, 5),
-                Some(clock.within(blocks, 95)),
-                [Some(summary), Some(description)],
-            ));
+        let stand = view.stand(side);
+        let Some(by) = view.by(question.margin, &stand) else {
+            continue;
+        };
+        if let Action::Done(_) = view.action(question.margin, side) {
+            continue;
         }
+        let blocks = u64::from(by - view.mined());
+        let hex: String = name.bytes().map(|byte| format!("{byte:02x}")).collect();
+        let side_name = party_name(side);
+        let counted = stand.counted.map(|(t, _)| t);
+        let counting = counted.map_or(String::new(), |t| {
+            format!(", counting on {}", view.names.transaction(t))
+        });
+        let by_block = view.height(by);
+        let summary = format!("{name}, {side_name}: act by block {by_block}{counting}");
+        let description = view.payout(question, side)
+            + "; an estimate: from the time of 5 to that of 95 in 100 cases";
+        events.push(event(
+            clock.at,
+            format!("payout-{side_name}-{}-{hex}", counted.unwrap_or(255)),
+            clock.within(blocks, 5),
+            Some(clock.within(blocks, 95)),
+            [Some(summary), Some(description)],
+        ));
     }
     events
 }
@@ -144,7 +141,17 @@ fn slots(found: &[(String, Found)], question: &Question, side: u8) -> Vec<Event>
     };
     let slots = outages::slots(found, length, question.margin, side);
     let mut events = Vec::new();
-    for (number, (first, last)) in slots.into_iter().enumerate() {
+    for (uid, slot, with) in [
+        ("now", slots.now, ""),
+        (
+            "done",
+            slots.done.filter(|_| slots.done != slots.now),
+            ", with what helps now done",
+        ),
+    ] {
+        let Some((first, last)) = slot else {
+            continue;
+        };
         let start = clock.within(u64::from(first) - 1, 95);
         let end = last.map(|last| clock.within(last.into(), 5));
         if end.is_some_and(|end| end <= start) {
@@ -152,8 +159,8 @@ fn slots(found: &[(String, Found)], question: &Question, side: u8) -> Vec<Event>
         }
         let (name, words) = (party_name(side), length.words());
         let on = if last.is_none() { " from here on" } else { "" };
-        let summary = format!("{name}: an outage of {words} has no warning{on}");
-        let uid = format!("slot-{name}-{}", number + 1);
+        let summary = format!("{name}: an outage of {words} has no warning{on}{with}");
+        let uid = format!("slot-{name}-{uid}");
         events.push(event(clock.at, uid, start, end, [Some(summary), None]));
     }
     events
@@ -164,14 +171,14 @@ pub fn events(swaps: &[(String, Files)], question: &Question) -> Vec<Event> {
     let found = found_all(swaps, question);
     let mut events: Vec<Event> = found
         .iter()
-        .flat_map(|(name, found)| windows(name, found, question))
+        .flat_map(|(name, found)| ends(name, found, question))
         .collect();
     for side in outages::sides(&found) {
         events.extend(slots(&found, question, side));
     }
     if events.is_empty() {
         let at = question.clock.expect("a clock").at;
-        let summary = Some("no window ends".to_string());
+        let summary = Some("nothing to do".to_string());
         events.push(event(at, "none".to_string(), at, None, [summary, None]));
     }
     events

@@ -144,6 +144,9 @@ fn check_overview_axis(table: &Element, json: &Value) {
 /// A block of a row, as the screen has it; from now where the swaps stand at several heights.
 fn overview_block(cell: &str, json: &Value, swap: &Value) -> String {
     let (_, now) = stands(swap);
+    if cell == "-" {
+        return cell.to_string();
+    }
     let block = match (cell.strip_prefix('+'), cell.strip_prefix('-')) {
         (Some(ahead), _) => now + ahead.parse::<u64>().expect("a number"),
         (_, Some(behind)) => now - behind.parse::<u64>().expect("a number"),
@@ -164,12 +167,9 @@ fn swap_of<'a>(row: &Element, json: &'a Value) -> Option<&'a Value> {
     Some(&json.get("swaps").list()[number - 1])
 }
 
-/// A row as the screen has it, which marks nothing as due before the outage.
+/// A row as the screen has it.
 fn overview_row(row: &Element, json: &Value) -> String {
     let mut cells = cells(row);
-    if cells[0] == "BEFORE" {
-        cells[0].clear();
-    }
     if let (Some(swap), 10) = (swap_of(row, json), cells.len()) {
         for place in [4, 5] {
             cells[place] = overview_block(&cells[place], json, swap);
@@ -204,13 +204,22 @@ pub fn check_sections(
 
 /// A section is open where one side has a warning, or where it is the only one; else it is folded and not printed.
 fn check_folded(section: &Element, swap: &Value, alone: bool) {
-    let transactions = swap.get("transactions").list();
-    let warned = transactions.iter().any(|t| is(t, "warning").any(|is| is));
-    let open = warned || alone;
+    let mut payouts = swap.get("payouts").list().iter();
+    let open = payouts.any(is_warned) || alone;
     assert_eq!(section.get("class"), if open { "open" } else { "calm" });
     let details = section.named("details")[0];
     assert_eq!(details.attributes.contains_key("open"), open);
     assert_eq!(section.named("summary").len(), 1);
+}
+
+fn is_warned(payout: &Value) -> bool {
+    *payout.get("warning") == Value::Bool(true)
+}
+
+/// Whether a side that is warned counts on the transaction.
+fn is_warned_of(swap: &Value, transaction: &Value) -> bool {
+    let mut warned = swap.get("payouts").list().iter().filter(|p| is_warned(p));
+    warned.any(|payout| payout.get("counts_on") == transaction.get("name"))
 }
 
 fn is_settled(transaction: &Value) -> bool {
@@ -234,8 +243,8 @@ fn check_section(section: &Element, swap: &Value, files: &Files, question: &Ques
         assert_eq!(rows.len(), open.len());
         let axis = check_axis(section, swap);
         for (row, transaction) in rows.iter().zip(&open) {
-            check_row(row, transaction, files, question);
-            let warning = is(transaction, "warning").any(|is| is);
+            let warning = is_warned_of(swap, transaction);
+            check_row(row, transaction, warning, files, question);
             check_lane(
                 row,
                 swap,
@@ -317,7 +326,13 @@ fn pays(names: &[&str], files: &Files) -> String {
     }
 }
 
-fn check_row(row: &Element, transaction: &Value, files: &Files, question: &Question) {
+fn check_row(
+    row: &Element,
+    transaction: &Value,
+    warning: bool,
+    files: &Files,
+    question: &Question,
+) {
     let window = transaction.get("window");
     let pays = pays(&names(transaction.get("pays")), files);
     let status = match names(transaction.get("status"))[..] {
@@ -338,7 +353,7 @@ fn check_row(row: &Element, transaction: &Value, files: &Files, question: &Quest
     let number = transaction.get("number").as_number().expect("a number") as u8;
     let words: Vec<String> = row.named("div").iter().map(|div| div.text()).collect();
     assert_eq!(words, data::words(files, question, number));
-    let class = if is(transaction, "warning").any(|is| is) {
+    let class = if warning {
         "warning"
     } else if is(transaction, "others").all(|is| is) {
         "others"

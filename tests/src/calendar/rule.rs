@@ -48,13 +48,12 @@ impl Outage {
     }
 }
 
-/// What an outage does to a transaction, for a side. Only the first is a warning.
+/// What an outage does to a transaction's window, for a side: heights, and no warning.
 #[derive(Clone, Copy, Debug, PartialEq, Eq)]
 pub enum Kind {
-    Warning,
-    /// Due before the outage.
-    Before,
-    /// Its deadline comes after the outage.
+    /// Its soonest deadline comes before outage and margin end.
+    Covered,
+    /// Its deadline comes after them.
     Ahead,
     /// In the pool, and pays another party.
     Taken,
@@ -118,32 +117,34 @@ impl Swap<'_> {
         }
     }
 
-    /// With an outage from the next block on it is the model's verdict. One that begins later counts from the next
-    /// block too; but with stealth 0, a soonest deadline that is below its first block and can no longer move, being
-    /// the report's too, is due before it.
+    /// The model's verdict, of an outage from the next block to the end of this one.
     pub fn kind(&self, outage: &Outage, t: u8, side: u8) -> Kind {
         let verdict = outage::verdict(self.sheet, self.setup, self.position, outage.reach, t);
         let (soonest, mined) = (self.soonest_deadline(t), self.position.mined);
-        let fixed = soonest == self.deadline(t);
         if verdict == SETTLED {
             Kind::Settled
         } else if self.can_pay(t) & payee_bit(side) == 0 {
             Kind::Others
         } else if verdict == SAFE_IN_POOL {
-            match self.sent_to(t) {
-                Some(payee) if payee != CONTRACT && payee != side => Kind::Taken,
-                _ => Kind::Sent,
+            match self.taken(t, side) {
+                Some(_) => Kind::Taken,
+                None => Kind::Sent,
             }
         } else if verdict & COVERED != 0 && outage.reach > 0 && soonest != NEVER {
-            match !self.setup.stealth && soonest < outage.first && fixed {
-                true => Kind::Before,
-                false => Kind::Warning,
-            }
+            Kind::Covered
         } else if (mined + 1..NEVER).contains(&soonest) {
             Kind::Ahead
         } else {
             Kind::Free
         }
+    }
+
+    /// Whom a transaction pays that could pay the side and is safe in the pool for another party.
+    pub fn taken(&self, t: u8, side: u8) -> Option<u8> {
+        let verdict = outage::verdict(self.sheet, self.setup, self.position, 0, t);
+        let could = verdict == SAFE_IN_POOL && self.can_pay(t) & payee_bit(side) != 0;
+        let sent = self.sent_to(t).filter(|_| could);
+        sent.filter(|&payee| payee != CONTRACT && payee != side)
     }
 
     /// The lock with the parent in its soonest block.

@@ -1,15 +1,15 @@
 //! The first screen: a line for each swap and side.
 
-use super::after::After;
-use super::rule::{Kind, Outage};
+use super::outages::label_of;
+use super::stand::Standing;
 use super::view::View;
 use super::words::party_name;
 use super::{Found, Question, Start};
 use crate::model::heights::NEVER;
 use std::collections::BTreeSet;
 
-/// The lines in their order: faulty swaps, warnings, what is due before the outage, what is due after it, what is sent
-/// for another party, what is sent, what a rival contests, the rest; then by blocks left, swap and side.
+/// The lines in their order: faulty swaps, warnings, other slacks that have an end, payouts given up, none secured yet, the
+/// rest; then by slack, swap and side.
 type Key = (u32, u32, usize, u8);
 
 /// What the calendar prints before the totals.
@@ -24,19 +24,20 @@ pub fn text(swaps: &[(String, Found)], question: &Question) -> String {
             }
             Found::Sound(view, sides) => {
                 for &side in sides {
-                    let ((urgency, left), mut text) = line(name, view, question, side);
-                    if mixed && view.base().is_none() && urgency < 7 {
+                    let mut text = line(name, view, question, side);
+                    if mixed && view.base().is_none() {
                         text += "; blocks of its own, no base";
                     }
-                    lines.push(((urgency, left, place, side), text));
+                    let slack = view.stand(side).slack;
+                    lines.push(((urgency(view, question, side), slack, place, side), text));
                 }
             }
         }
     }
     lines.sort();
-    let head = cells("", "swap", "side", "transaction");
+    let head = cells("", "swap", "side", "counts on");
     let head = format!(
-        "{head}{:>8}{:>8}{:>7}{:>7}  after that",
+        "{head}{:>8}{:>8}{:>7}{:>7}  what to do",
         "from", "to", "left", "free"
     );
     let lines = lines.into_iter().map(|(_, text)| text);
@@ -74,85 +75,34 @@ fn asked(question: &Question) -> String {
     format!("outage: {length} {start}{margin}{clock}")
 }
 
-/// The line of a side of a swap, with its urgency and the blocks left.
-fn line(name: &str, view: &View, question: &Question, side: u8) -> ((u32, u32), String) {
-    let after = view.after();
-    let outage = view.outage(question);
-    let all = 0..after.swap.sheet.count();
-    let ranked: Vec<((u32, u32), u8)> = all
-        .filter_map(|t| Some((rank(&after, &outage, t, side)?, t)))
-        .collect();
-    let warnings = ranked.iter().filter(|((urgency, _), _)| *urgency == 1);
-    let mark = match warnings.count() {
-        0 => String::new(),
-        1 => "WARNING".to_string(),
-        count => format!("WARNING x{count} "),
-    };
-    let Some(&((urgency, left), t)) = ranked.iter().min() else {
-        let text = cells(&mark, name, party_name(side), "no deadline ahead");
-        return ((7, 0), text.trim_end().to_string());
-    };
-    let start = cells(&mark, name, party_name(side), &view.names.transaction(t));
-    let [from, to] = [after.swap.soonest_block(t), after.swap.soonest_deadline(t)];
-    let [from, to] = [from, to].map(|block| after.height(block));
-    let blocks = match left {
-        NEVER => "-".to_string(),
-        _ => left.to_string(),
-    };
-    let action = match urgency {
-        6 => String::new(),
-        4 | 5 => view.what_to_do(question, t, side),
-        _ => view.what_to_do(question, t, side) + "; ",
-    };
-    let last = last_column(&after, question, &outage, (urgency, left), t);
-    let last = action + &last + &after.in_the_way(t, side);
-    let free = view.longest(name, question.margin, side).label();
-    let text = format!("{start}{from:>8}{to:>8}{blocks:>7}{free:>7}  {last}");
-    ((urgency, left), text)
-}
-
-/// The urgency of a transaction and the blocks left; None where nothing is to be said of it.
-fn rank(after: &After, outage: &Outage, t: u8, side: u8) -> Option<(u32, u32)> {
-    let mined = after.swap.position.mined;
-    let left = match after.swap.soonest_deadline(t) {
-        NEVER => NEVER,
-        deadline => deadline.saturating_sub(mined),
-    };
-    let urgency = match after.swap.kind(outage, t, side) {
-        Kind::Warning => 1,
-        Kind::Before => 2,
-        Kind::Ahead => 3,
-        Kind::Taken => 4,
-        Kind::Sent => 5,
-        Kind::Free if !after.in_the_way(t, side).is_empty() => 6,
-        _ => return None,
-    };
-    Some((urgency, left))
-}
-
-fn last_column(
-    after: &After,
-    question: &Question,
-    outage: &Outage,
-    rank: (u32, u32),
-    t: u8,
-) -> String {
-    let otherwise = after.otherwise_if_any(t);
-    match rank {
-        (4 | 5, _) => String::new(),
-        (6, _) => "no deadline ahead".to_string(),
-        (1, 0) => format!("passed, a hand-in may save it, {otherwise}"),
-        (1 | 2, _) if question.is_later() => after.before(outage, t) + &otherwise,
-        _ => otherwise,
+fn urgency(view: &View, question: &Question, side: u8) -> u32 {
+    let stand = view.stand(side);
+    match stand.standing {
+        _ if view.warns(question, side) => 1,
+        _ if stand.is_bounded() => 2,
+        Standing::GivenUp => 3,
+        Standing::NotYet => 4,
+        _ => 5,
     }
 }
 
-impl After<'_> {
-    /// What can be confirmed after the soonest deadline, and on what that hangs.
-    fn otherwise_if_any(&self, t: u8) -> String {
-        match self.swap.soonest_deadline(t) {
-            NEVER => String::new(),
-            _ => self.otherwise(t) + &self.hangs_on("", t),
-        }
-    }
+/// The line of a side of a swap: the window of what it counts on, its slack, what to do.
+fn line(name: &str, view: &View, question: &Question, side: u8) -> String {
+    let mark = match view.warns(question, side) {
+        true => "WARNING",
+        false => "",
+    };
+    let swap = view.swap();
+    let counted = view.stand(side).counted.map(|(t, _)| t);
+    let or_none = |words: Option<String>| words.unwrap_or("-".to_string());
+    let transaction = or_none(counted.map(|t| view.names.transaction(t)));
+    let from = or_none(counted.map(|t| view.height(swap.soonest_block(t))));
+    let to = or_none(counted.map(|t| view.height(swap.soonest_deadline(t))));
+    let deadline = counted.map(|t| swap.soonest_deadline(t));
+    let left = deadline.filter(|&deadline| deadline != NEVER);
+    let left = or_none(left.map(|to| to.saturating_sub(view.mined()).to_string()));
+    let free = label_of(&view.stand(side), question.margin);
+    let start = cells(mark, name, party_name(side), &transaction);
+    let last = view.payout(question, side);
+    format!("{start}{from:>8}{to:>8}{left:>7}{free:>7}  {last}")
 }

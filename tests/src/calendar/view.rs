@@ -1,7 +1,9 @@
 //! The lines of a swap whose journal is accepted whole.
 
 use super::after::After;
+use super::outages::label_of;
 use super::rule::{Kind, Outage, Swap};
+use super::stand::{Stand, Standing};
 use super::words::{destination_name, height, party_name, payees_name, Names};
 use super::{Question, Totals};
 use crate::model::calls::Outcome;
@@ -15,19 +17,37 @@ pub struct View {
     pub names: Names,
     outcome: Outcome,
     open: Vec<[u8; 4]>,
+    /// Where the sides that are shown stand.
+    stands: Vec<(u8, Stand)>,
     /// "the real chain's height when its journal was empty", where it is known.
     base: Option<u32>,
 }
 
 impl View {
-    pub fn new(sheet: &[u8], outcome: Outcome, base: Option<u32>) -> View {
+    pub fn new(files: [&[u8]; 3], outcome: Outcome, sides: &[u8], base: Option<u32>) -> View {
         let position = &outcome.course.position;
+        let open = open::steps(&outcome.sheet, &outcome.setup, position);
+        let sides = sides.iter();
         View {
-            names: Names::of(sheet, outcome.setup.blocks_per_day as u16),
-            open: open::steps(&outcome.sheet, &outcome.setup, position),
+            names: Names::of(files[0], outcome.setup.blocks_per_day as u16),
+            stands: sides
+                .map(|&side| (side, Stand::known(files, &outcome, &open, side)))
+                .collect(),
+            open,
             outcome,
             base,
         }
+    }
+
+    /// Where a side that is shown stands.
+    pub fn stand(&self, side: u8) -> Stand {
+        let found = self.stands.iter().find(|(of, _)| *of == side);
+        found.expect("a side that is shown").1
+    }
+
+    /// Whether the outage is a warning for the side.
+    pub fn warns(&self, question: &Question, side: u8) -> bool {
+        self.stand(side).warns(self.outage(question).reach)
     }
 
     pub fn base(&self) -> Option<u32> {
@@ -73,7 +93,7 @@ impl View {
         Outage::of(question, &self.outcome.setup, self.mined(), self.base)
     }
 
-    pub fn lines(&self, name: &str, question: &Question, sides: &[u8]) -> Vec<String> {
+    pub fn lines(&self, question: &Question, sides: &[u8]) -> Vec<String> {
         let mut lines = self.inputs();
         lines.extend(self.position());
         for party in open::actors(&self.outcome.sheet) {
@@ -82,12 +102,20 @@ impl View {
         lines.extend(self.payouts());
         for &side in sides {
             lines.extend(self.deadlines(question, side));
-            let longest = self.longest(name, question.margin, side);
-            let bound = longest.bound.as_ref();
-            let bound = bound.map_or(String::new(), |(_, _, t)| format!(", bounded by {t}"));
-            let (side, label) = (party_name(side), longest.label());
+            let (name, stand) = (party_name(side), self.stand(side));
+            let warning = if self.warns(question, side) {
+                "WARNING: "
+            } else {
+                ""
+            };
+            let counting = stand.counted.map_or(String::new(), |(t, _)| {
+                format!("counting on {}, ", self.names.transaction(t))
+            });
+            let words = self.payout(question, side);
+            lines.push(format!("  payout of {name}: {warning}{counting}{words}"));
+            let label = label_of(&stand, question.margin);
             lines.push(format!(
-                "  longest outage from now without a warning for {side}: {label}{bound}"
+                "  longest outage from now without a warning for {name}: {label}"
             ));
         }
         lines
@@ -230,30 +258,23 @@ impl View {
             format!("    {:<22}{:<8}to be confirmed", "transaction", "pays"),
         ];
         let all = 0..self.outcome.sheet.count();
-        lines.extend(all.filter_map(|t| self.deadline(question, &outage, t, side)));
+        lines.extend(all.filter_map(|t| self.deadline(&outage, t, side)));
         or_none(lines, 2)
     }
 
-    fn deadline(&self, question: &Question, outage: &Outage, t: u8, side: u8) -> Option<String> {
+    fn deadline(&self, outage: &Outage, t: u8, side: u8) -> Option<String> {
         let after = self.after();
         let kind = after.swap.kind(outage, t, side);
         let soonest = after.swap.soonest_deadline(t);
         let latest = after.height(soonest);
-        let to_do = || self.what_to_do(question, t, side);
         let mut words = match kind {
             Kind::Settled => return None,
-            Kind::Warning if soonest <= self.mined() => {
-                let (to_do, otherwise) = (to_do(), after.otherwise(t));
-                format!("WARNING: {to_do}; block {latest} was the latest, a hand-in may save it, {otherwise}")
-            }
-            Kind::Warning if question.is_later() => {
-                let before = after.before(outage, t);
-                format!("WARNING: {}; {before}{}", to_do(), window(&after, t))
-            }
-            Kind::Warning => format!("WARNING: {}; {}", to_do(), window(&after, t)),
-            Kind::Before => format!("due before the outage: {}; {}", to_do(), window(&after, t)),
-            Kind::Ahead => format!("{}; {}", to_do(), window(&after, t)),
-            Kind::Taken | Kind::Sent => to_do(),
+            Kind::Covered | Kind::Ahead if soonest > self.mined() => window(&after, t),
+            Kind::Covered | Kind::Ahead => format!(
+                "block {latest} was the latest, a hand-in may save it, {}",
+                after.otherwise(t)
+            ),
+            Kind::Taken | Kind::Sent => "sent".to_string(),
             Kind::Free if soonest == NEVER => "no deadline".to_string(),
             Kind::Free => format!("PASSED: block {latest} was the latest"),
             Kind::Others if self.outcome.sheet.parties.len() == 2 => "the other side's".to_string(),
@@ -307,15 +328,13 @@ impl View {
         }
     }
 
-    /// The warnings of a side, and what is due before the outage.
+    /// What is counted of a side.
     pub fn totals(&self, question: &Question, side: u8) -> Totals {
-        let outage = self.outage(question);
-        let all = 0..self.outcome.sheet.count();
-        let kinds: Vec<Kind> = all.map(|t| self.swap().kind(&outage, t, side)).collect();
-        let count = |kind: Kind| kinds.iter().filter(|&&k| k == kind).count();
+        let is = |standing: Standing| usize::from(self.stand(side).standing == standing);
         Totals {
-            warnings: count(Kind::Warning),
-            before: count(Kind::Before),
+            warnings: usize::from(self.warns(question, side)),
+            not_yet: is(Standing::NotYet),
+            given_up: is(Standing::GivenUp),
             ..Totals::default()
         }
     }
