@@ -253,7 +253,7 @@ static void key_action(struct json *json, const struct question *question, const
     end(json, '}');
 }
 
-/* What the outage does to a transaction's window for each side that is shown, and whom it pays where it is sent. */
+/* What the outage does to a transaction's window for each side that is shown. */
 static void key_verdicts(struct json *json, const struct entry *entry, uint8_t t)
 {
     static const char *const words[] = {

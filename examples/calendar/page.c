@@ -256,8 +256,8 @@ static void write_overview(FILE *page, const struct question *question, const st
     fputs("</tbody>\n</table>\n", page);
 }
 
-/* Each swap once, in the order of its first line, which has its warnings if any side has some; open is one with warnings
- * or alone. */
+/* Each swap once, in the order of its first line, which is a warning if any side has one; open is one with a warning or
+ * alone. */
 static void write_sections(FILE *page, const struct question *question, const struct desk *desk,
                            const struct line *lines, size_t count)
 {

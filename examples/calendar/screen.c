@@ -131,7 +131,8 @@ static void show_line(const struct question *question, const struct line *line)
     printf("%-*s", MARK_WIDTH, line->urgency == WARNED ? "WARNING" : "");
     print_name(line->entry->name, NAME_WIDTH);
     printf(" %-6s%-21s%8s%8s%7s%7s  ", party_name(line->side),
-           line->t == SWAP_NONE ? "-" : transaction_label(&line->entry->swap, line->t).text, block_label(line, from_block(line)).text,
+           line->t == SWAP_NONE ? "-" : transaction_label(&line->entry->swap, line->t).text,
+           block_label(line, from_block(line)).text,
            block_label(line, to_block(line)).text, left_label(line).text, slack_label(&line->slack).text);
     print_payout(stdout, question, line->entry, line->side);
     printf("%s\n", line->own_blocks ? OWN_BLOCKS : "");

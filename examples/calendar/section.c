@@ -59,7 +59,7 @@ static void write_settled(FILE *page, const struct entry *entry)
     fputs("</ul>\n", page);
 }
 
-/* Whether a side that is shown is warned and counts on the transaction. */
+/* Whether some side is. */
 static bool is_warned(const struct entry *entry, uint8_t t)
 {
     return is_warned_of(entry, t, SWAP_ALICE) || is_warned_of(entry, t, SWAP_BOB) || is_warned_of(entry, t, SWAP_CAROL);

@@ -104,6 +104,14 @@ static bool is_over(const struct position *position, uint8_t side)
     return true;
 }
 
+/* Whether a payout that is not secured is given up. */
+static bool is_given_up(const struct position *position, uint8_t side)
+{
+    const struct swap *swap = position->swap;
+
+    return is_over(position, side) || (conduct_of(swap) == SWAP_CAREFUL && has_locked(swap, side));
+}
+
 bool ask_stand(const struct position *position, const struct outage *outage, uint8_t side, struct stand *stand)
 {
     const uint8_t *row = slack_row(position->slack, side);
@@ -111,7 +119,7 @@ bool ask_stand(const struct position *position, const struct outage *outage, uin
 
     *stand = (struct stand){.t = counted_on(row), .payee = row[SWAP_SLACK_DESTINATION]};
     if (blocks == SWAP_NEVER) {
-        stand->standing = has_locked(position->swap, side) || is_over(position, side) ? GIVEN_UP : NOT_YET;
+        stand->standing = is_given_up(position, side) ? GIVEN_UP : NOT_YET;
     } else {
         stand->standing = stand->t == SWAP_NONE ? PAID : KEPT;
         stand->slack = blocks;

@@ -9,8 +9,9 @@ enum standing {
     PAID,    /* it has a payout, confirmed or sure to be */
     KEPT,    /* it keeps a way to one for some blocks */
     NEEDS,   /* it keeps none, but has an open step after which it does */
-    NOT_YET, /* none is secured, and no coin of its own is locked */
-    GIVEN_UP /* none is secured, and one is, or nothing that is left can pay the side */
+    NOT_YET, /* none is secured, but may be later */
+    GIVEN_UP /* none is secured, and nothing that is left can pay the side, or under careful conduct a coin of its own is
+                locked */
 };
 
 struct stand {

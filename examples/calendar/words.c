@@ -27,27 +27,16 @@ struct label height_label(uint32_t base, uint32_t height)
     return label;
 }
 
-/* The name of this number where the sheet is SASwap's, else WORD and the number. */
-static struct label label_of(const struct swap *swap, const char *name(uint8_t), const char *word, uint8_t number)
+struct label transaction_label(const struct swap *swap, uint8_t t)
 {
     struct label label;
 
     if (is_saswap(swap)) {
-        snprintf(label.text, sizeof label.text, "%s", name(number));
+        snprintf(label.text, sizeof label.text, "%s", saswap_transaction(t));
     } else {
-        snprintf(label.text, sizeof label.text, "%s %u", word, (unsigned)number);
+        snprintf(label.text, sizeof label.text, "transaction %u", (unsigned)t);
     }
     return label;
-}
-
-struct label transaction_label(const struct swap *swap, uint8_t t)
-{
-    return label_of(swap, saswap_transaction, "transaction", t);
-}
-
-static struct label signature_label(const struct swap *swap, uint8_t number)
-{
-    return label_of(swap, saswap_signature, "signature", number);
 }
 
 const char *party_name(uint8_t party)
@@ -96,34 +85,4 @@ struct label status_label(uint8_t status)
         }
     }
     return label;
-}
-
-/* A step's verb and what follows the name of its transaction, by kind. */
-struct phrase {
-    const char *before;
-    const char *after;
-};
-
-static const struct phrase phrases[] = {
-    [SWAP_SHARE] = {"share signatures on ", ""},
-    [SWAP_SEND] = {"send ", " to the pool"},
-    [SWAP_HAND_IN] = {"hand ", " to the miner"},
-    [SWAP_INCLUDE] = {"include ", " in the block"},
-    [SWAP_BUMP] = {"bump ", " into the block"},
-};
-
-void print_step(const struct swap *swap, const uint8_t step[4])
-{
-    if (step[0] == SWAP_GIVE) {
-        printf("give %s to %s", signature_label(swap, step[2]).text, party_name(step[3]));
-    } else if (step[0] == SWAP_MINE) {
-        printf("mine the block");
-    } else if (step[2] == SWAP_NONE) {
-        printf("make the first shares");
-    } else {
-        printf("%s%s%s", phrases[step[0]].before, transaction_label(swap, step[2]).text, phrases[step[0]].after);
-        if (step[3] != SWAP_CONTRACT) {
-            printf(", paying %s", destination_name(step[3]));
-        }
-    }
 }

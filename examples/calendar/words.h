@@ -34,7 +34,4 @@ const char *conduct_name(uint8_t conduct);
 const char *status_word(unsigned bit);
 struct label status_label(uint8_t status);
 
-/* Prints what a step does; its fields are in range. */
-void print_step(const struct swap *swap, const uint8_t step[4]);
-
 #endif

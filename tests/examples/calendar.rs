@@ -35,18 +35,30 @@ fn documents(folder: &Path) -> std::io::Result<()> {
     let stored = |name: &str| fs::read_to_string(folder.join(format!("expected/{name}.txt")));
     put(&top.join("README.md"), &[stored("embedded_alice")?])?;
     let document = top.join("docs/CALENDAR.md");
-    put(&document, &[stored("default")?, stored("standing")?, stored("ring")?])?;
+    put(
+        &document,
+        &[stored("default")?, stored("standing")?, stored("ring")?],
+    )?;
     let slots = stored("embedded_slots")?;
     let said = slots.lines().filter(|line| line.contains(" outage "));
     let said: String = said.map(|line| format!("{line}\n")).collect();
     let text = fs::read_to_string(&document)?;
-    let (before, rest) = text.split_once("$ ./calendar --slots 20\n").expect("stretches");
+    let (before, rest) = text
+        .split_once("$ ./calendar --slots 20\n")
+        .expect("stretches");
     let (_, after) = rest.split_once("```").expect("their end");
-    fs::write(&document, format!("{before}$ ./calendar --slots 20\n{said}```{after}"))?;
+    fs::write(
+        &document,
+        format!("{before}$ ./calendar --slots 20\n{said}```{after}"),
+    )?;
     for entry in fs::read_dir(top.join("examples/samples"))? {
         let path = entry?.path();
         if path.is_dir() {
-            let name = path.file_name().expect("a name").to_string_lossy().into_owned();
+            let name = path
+                .file_name()
+                .expect("a name")
+                .to_string_lossy()
+                .into_owned();
             let swap = (name, samples::read(&path));
             put(
                 &path.join("README.md"),

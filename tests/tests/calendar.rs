@@ -182,7 +182,11 @@ fn stand(outcome: &Outcome, side: u8) -> Stand {
 /// The slacks of all parties of a swap that some outage is longer than.
 fn slacks(files: &Files) -> Vec<u32> {
     let outcome = outcome(files);
-    let stands = outcome.sheet.parties.iter().map(|&side| stand(&outcome, side));
+    let stands = outcome
+        .sheet
+        .parties
+        .iter()
+        .map(|&side| stand(&outcome, side));
     let bounded = stands.filter(Stand::is_bounded);
     bounded.map(|stand| stand.slack).collect()
 }
@@ -422,7 +426,12 @@ fn random_swaps_as_by_the_model() {
         let totals = compare_both(&folder, &swaps, &question);
         println!("{question:?}: {totals:?}");
         assert!(totals.warnings == 0 || question.length != Length::Blocks(0));
-        let counts = [totals.warnings, totals.not_yet, totals.given_up, totals.refused];
+        let counts = [
+            totals.warnings,
+            totals.not_yet,
+            totals.given_up,
+            totals.refused,
+        ];
         for (sum, count) in sums.iter_mut().zip(counts) {
             *sum += count;
         }
@@ -609,7 +618,9 @@ fn stretches_block_by_block() {
         }
     }
     println!("{ends} stretches with an end, {opens} without, {longest} longest outages, {longer} longer with a step");
-    assert!([ends, opens, longest, longer].iter().all(|&count| count > 20));
+    assert!([ends, opens, longest, longer]
+        .iter()
+        .all(|&count| count > 20));
 }
 
 /// The swap after the side's step that helps, if it is sound and there is one.

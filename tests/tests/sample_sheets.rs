@@ -117,10 +117,7 @@ fn calendar_shows_them() {
     for swap in &swaps {
         let folder = all().join(&swap.0);
         let (text, totals) = calendar::text(std::slice::from_ref(swap), &question);
-        assert_eq!(
-            run("calendar", &[&folder]),
-            (text.clone(), totals.status())
-        );
+        assert_eq!(run("calendar", &[&folder]), (text.clone(), totals.status()));
         let readme = fs::read_to_string(folder.join("README.md")).expect("a README");
         assert!(readme.contains(&format!("```\n{text}```\n")), "{}", swap.0);
     }

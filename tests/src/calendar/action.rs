@@ -55,7 +55,9 @@ impl View {
         match (stand.standing, stand.counted) {
             (Standing::Paid, _) if self.is_paid(side) => Action::Done("paid"),
             (Standing::Paid, _) => Action::Done("sent"),
-            (Standing::Kept, Some((t, destination))) => self.own(margin, &stand, t, side, destination),
+            (Standing::Kept, Some((t, destination))) => {
+                self.own(margin, &stand, t, side, destination)
+            }
             (standing, _) => Action::NoPayout(standing.word()),
         }
     }
@@ -147,9 +149,8 @@ impl View {
                 after,
                 by,
             } => {
-                let once = once.map(|parent| {
-                    format!(", once {} is sent", self.names.transaction(parent))
-                });
+                let once =
+                    once.map(|parent| format!(", once {} is sent", self.names.transaction(parent)));
                 let after = after.map(|block| format!(", after block {}", self.height(block)));
                 let by = by.map(|by| match open && by == self.mined() + 1 {
                     true => ", now".to_string(),
@@ -158,9 +159,9 @@ impl View {
                         format!(", by block {}{time}", self.height(by))
                     }
                 });
-                let then = stand.help.map(|(_, then)| {
-                    format!(", then free {}", label(then, question.margin))
-                });
+                let then = stand
+                    .help
+                    .map(|(_, then)| format!(", then free {}", label(then, question.margin)));
                 let terms = [once, after, by, then].map(Option::unwrap_or_default);
                 format!("do: {step}{}", terms.concat())
             }

@@ -53,7 +53,9 @@ fn outages(found: &[(String, Found)], question: &Question) -> Value {
             let slots = outages::slots(found, length, question.margin, side);
             Value::object([("now", slot(slots.now)), ("done", slot(slots.done))])
         });
-        let counted = longest.as_ref().map(|(_, view, stand)| counts_on(view, stand));
+        let counted = longest
+            .as_ref()
+            .map(|(_, view, stand)| counts_on(view, stand));
         Value::object([
             ("side", Value::text(party_name(side))),
             ("any", Value::Bool(any)),

@@ -6,6 +6,7 @@ use super::view::View;
 use crate::model::calls::Outcome;
 use crate::model::heights::{self, NEVER};
 use crate::model::journal::MOST_BYTES;
+use crate::model::setup::Conduct;
 use crate::model::sheet::payee_bit;
 use crate::slack::row::{Row, LONGEST};
 use std::cell::RefCell;
@@ -111,18 +112,22 @@ impl Stand {
             let own = sends(step) && Some(step[2]) == counted;
             (sends(step), then.blocks, own)
         };
-        let best = more.reduce(|best, next| {
-            match rank(next.0, &next.1) > rank(best.0, &best.1) {
+        let best = more.reduce(
+            |best, next| match rank(next.0, &next.1) > rank(best.0, &best.1) {
                 true => next,
                 false => best,
-            }
-        });
+            },
+        );
         let Some((step, then)) = best else {
             return plain;
         };
         let sure = sends(step).then_some((step[2], step[3]));
         Stand {
-            standing: if kept { Standing::Kept } else { Standing::Needs },
+            standing: if kept {
+                Standing::Kept
+            } else {
+                Standing::Needs
+            },
             counted: plain.counted.or(then.counted).or(sure),
             help: Some((*step, then.blocks)),
             ..plain
@@ -131,8 +136,7 @@ impl Stand {
 
     /// Whether some outage is longer than the slack.
     pub fn is_bounded(&self) -> bool {
-        self.standing == Standing::Needs
-            || self.standing == Standing::Kept && self.slack < LONGEST
+        self.standing == Standing::Needs || self.standing == Standing::Kept && self.slack < LONGEST
     }
 
     /// Whether an outage that ends, with its margin, after so many blocks is a warning.
@@ -146,7 +150,8 @@ impl Stand {
     }
 }
 
-/// "Given up: the side has sent an opening, or nothing that is left can pay it; nothing secured yet: else."
+/// "Given up: nothing that is left can pay the side, or, under careful conduct, it has sent an opening; nothing secured yet:
+/// else."
 fn unsecured(outcome: &Outcome, side: u8) -> Standing {
     let Outcome {
         sheet,
@@ -165,7 +170,8 @@ fn unsecured(outcome: &Outcome, side: u8) -> Standing {
     };
     let left = |t: u8| !position.is_confirmed(t) && !heights::dead(sheet, position, t);
     let pays = |t: u8| left(t) && swap.can_pay(t) & payee_bit(side) != 0;
-    match course.accepted.iter().any(opens) || !(0..sheet.count()).any(pays) {
+    let locked = setup.conduct == Conduct::Careful && course.accepted.iter().any(opens);
+    match locked || !(0..sheet.count()).any(pays) {
         true => Standing::GivenUp,
         false => Standing::NotYet,
     }
