@@ -1,5 +1,6 @@
 /* Calls slack from C: its refusals and their order, buffers, null pointers, and known rows: the calendar's two swaps, a loss that the
- * report's deadline hides, one that no deadline protects from, a swap that is paid, a ring of three. */
+ * report's deadline hides, one that no deadline protects from and that careful conduct does, hand-ins that wait in the block alone, a
+ * swap that is paid, a ring of three. */
 #include <string.h>
 
 #include "expect.h"
@@ -19,7 +20,7 @@ static const uint8_t saswap[] = {
     0,   0, 0,  0, 0,   0, 1, 1, 1, 2, 2,  1, 2, 2, 0, 0, 0, 0, 0, 0, 0, 0, 2, 1, 0, 0, 0, 0, 0, 0, /* locks */
 };
 
-enum { LOCK_A, LOCK_B, SUCCESS, REFUND_1, REVOKE, REFUND_2, TIMEOUT, SPEND_B = 8, SPEND_SUCCESS };
+enum { LOCK_A, LOCK_B, SUCCESS, REFUND_1, REVOKE, REFUND_2, TIMEOUT, SPEND_B = 8, SPEND_SUCCESS, SPEND_REFUND_2 = 13 };
 
 /* A ring of three coins: Alice's to Bob, Bob's to Carol, Carol's to Alice, claimed with Alice's secret, or taken back by the owner:
  * Carol's from 2 days on, Bob's from 3, Alice's from 4. */
@@ -32,11 +33,20 @@ static const uint8_t ring[] = {
     0,   0, 0,  0, 0, 0, 0, 0, 1, 4, 0, 0, 1, 3, 0, 0, 1, 2, /* locks */
 };
 
-/* Setups: careful at 144 blocks per day, loose at 3, careful at 3, and open at 144. */
+/* One coin that both can sign for, to whom each likes. */
+static const uint8_t race[] = {
+    2, 1, 0, 1, 1,                  /* sizes and masks */
+    255, 0, 1, 0, 0, 3, 1, 0,       /* 0 Alice's coin, 1 to Alice or Bob */
+    0,   0, 0, 0,                   /* locks */
+};
+
+/* Setups: careful at 144 blocks per day, with stealth too, loose at 3, careful at 3, open at 144, and with stealth too. */
 static const uint8_t careful[] = {144, 0, SWAP_CAREFUL, 0};
+static const uint8_t careful_stealth[] = {144, 0, SWAP_CAREFUL, 1};
 static const uint8_t loose[] = {3, 0, SWAP_LOOSE, 0};
 static const uint8_t quick[] = {3, 0, SWAP_CAREFUL, 0};
 static const uint8_t free_of_conduct[] = {144, 0, SWAP_OPEN, 0};
+static const uint8_t free_stealth[] = {144, 0, SWAP_OPEN, 1};
 
 /* A journal that steps are added to. */
 struct journal {
@@ -176,6 +186,55 @@ static void unprotected(void)
                swap_number(outage + SWAP_OUTAGE_ROW * SPEND_B + SWAP_OUTAGE_SOONEST_DEADLINE) == SWAP_NEVER);
 }
 
+/* The same under careful conduct: Alice no longer sends refund_1, nor refund_2, so Bob need not hurry. */
+static void protected_by_conduct(void)
+{
+    both_locked(2);
+    add(SWAP_SHARE, SWAP_ALICE, SUCCESS, SWAP_CONTRACT);
+    add(SWAP_GIVE, SWAP_BOB, 3, SWAP_ALICE);
+    expect_accepted("secretBob is given, careful", quick);
+    expect_row("Alice has coin B, careful", 0, MOST, SPEND_B, SWAP_ALICE, 0);
+    expect_row("Bob can be off, careful", 1, MOST, REVOKE, SWAP_CONTRACT, 0);
+}
+
+/* With stealth: what is handed in waits in the block alone. Where nothing can throw it out before the next block it counts as
+ * confirmed, and what comes below it is counted on. */
+static void handed_in(void)
+{
+    journal.length = 0;
+    add(SWAP_SHARE, SWAP_ALICE, SWAP_NONE, SWAP_CONTRACT);
+    add(SWAP_SHARE, SWAP_BOB, SWAP_NONE, SWAP_CONTRACT);
+    add(SWAP_HAND_IN, SWAP_ALICE, LOCK_A, SWAP_CONTRACT);
+    expect_accepted("lock_A is handed in", careful_stealth);
+    expect_row("Alice can be off, lock_A in the block", 0, 576, LOCK_A, SWAP_CONTRACT, 0);
+    expect_row("Bob counts on revoke, below lock_A", 1, MOST, REVOKE, SWAP_CONTRACT, 0);
+    both_locked(299);
+    confirm(SWAP_BOB, REVOKE, SWAP_CONTRACT, 145);
+    mine(143);
+    expect_accepted("stealth, refund_2 is due", careful_stealth);
+    expect_row("Alice has to send refund_2, stealth", 0, 0, REFUND_2, SWAP_CONTRACT, 1);
+    add(SWAP_HAND_IN, SWAP_ALICE, REFUND_2, SWAP_CONTRACT);
+    expect_accepted("refund_2 is handed in", careful_stealth);
+    expect_row("Alice counts on what is below refund_2", 0, MOST, SPEND_REFUND_2, SWAP_ALICE, 0);
+    expect_row("Bob has his timeout, or coin B, stealth", 1, MOST, TIMEOUT, SWAP_CONTRACT, 0);
+}
+
+/* A race for one coin is nobody's; a payout that is handed in, with no rival due, is as good as paid. */
+static void raced(void)
+{
+    journal.length = 0;
+    confirm(SWAP_ALICE, 0, SWAP_CONTRACT, 1);
+    expect_answer("a race", swap_slack(race, sizeof race, free_stealth, 4, journal.bytes, journal.length, rows, sizeof rows),
+                  SWAP_ACCEPTED, 0);
+    expect_none("the coin is not Alice's", 0, SWAP_NEVER);
+    expect_none("nor Bob's", 1, SWAP_NEVER);
+    add(SWAP_HAND_IN, SWAP_ALICE, 1, SWAP_ALICE);
+    expect_answer("a payout is handed in",
+                  swap_slack(race, sizeof race, free_stealth, 4, journal.bytes, journal.length, rows, sizeof rows), SWAP_ACCEPTED, 0);
+    expect_none("the block being filled pays Alice", 0, MOST);
+    expect_none("nothing of Bob's is left", 1, SWAP_NEVER);
+}
+
 /* Success, and each takes the other's coin; a party that is paid counts on nothing. */
 static void paid(void)
 {
@@ -253,6 +312,9 @@ int main(void)
     revoked();
     standing();
     unprotected();
+    protected_by_conduct();
+    handed_in();
+    raced();
     paid();
     ring_of_three();
     refusals();

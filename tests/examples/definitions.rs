@@ -49,7 +49,7 @@ const ANSWERS: [(&str, &str); 16] = [
     ("call_outage.specs.Answer", "outageAnswer"),
     ("call_slack.specs.Answer", "slackAnswer"),
     ("call_slack.specs.Row", "countedAt, destinationFor, isDue"),
-    ("slack.specs.Kept", "kept"),
+    ("slack.specs.Slack", "lasts"),
     ("call_timelocks.specs.Timelocks", "timelocksAnswer"),
     ("call_desk.specs.Desk", "deskAnswer"),
     ("call_blocks.specs.BlockList", "blocksRefusal"),
@@ -144,23 +144,23 @@ fn answer(request: &Request, number: usize) -> String {
     }
 }
 
-/// The rows of slack, by what makes them: the greatest number that is kept is found by asking for all of them, so here it is asked
+/// The rows of slack, by what makes them: the greatest number that lasts is found by asking for all of them, so here it is asked
 /// for and for one more.
 fn rows(number: usize, bytes: &[u8]) -> String {
     let parts = bytes.chunks_exact(slack::ROW).zip(["0", "1", "3"]);
     let facts = parts.map(|(bytes, x)| {
         let row = Row::read(bytes);
         let (s, u) = (format!("s{number}"), format!("u{number}"));
-        let kept = match row.blocks {
-            NEVER => format!("not (kept {s} {u} p {x} 0)"),
-            LONGEST => format!("kept {s} {u} p {x} {LONGEST}"),
-            k => format!("(kept {s} {u} p {x} {k} && not (kept {s} {u} p {x} {}))", k + 1),
+        let lasts = match row.blocks {
+            NEVER => format!("not (lasts {s} {u} p {x} 0)"),
+            LONGEST => format!("lasts {s} {u} p {x} {LONGEST}"),
+            k => format!("(lasts {s} {u} p {x} {k} && not (lasts {s} {u} p {x} {}))", k + 1),
         };
         let (blocks, t, d) = (row.blocks, bytes[4], bytes[5]);
         let due = format!("isDue {s} {u} p {x} {blocks} {t}");
         let due = if row.due { due } else { format!("not ({due})") };
         format!(
-            "({kept} && (eqb (countedAt {s} {u} p {x} {blocks}) {t} && (eqb (destinationFor {s} {x} {t}) {d} && {due})))"
+            "({lasts} && (eqb (countedAt {s} {u} p {x} {blocks}) {t} && (eqb (destinationFor {s} {x} {t}) {d} && {due})))"
         )
     });
     let facts: Vec<String> = facts.collect();

@@ -18,8 +18,21 @@ pub struct Others<'a> {
     pub party: u8,
     /// "Never sent by the others."
     pub never: BTreeSet<u8>,
-    /// Those whose secrets do not count as known.
-    pub silent: BTreeSet<u8>,
+}
+
+/// "under careful conduct .. refund_1 once success has a shared entry, refund_2 once Alice holds secretBob": what a careful Alice no
+/// longer sends.
+fn forgone(setup: &Setup, position: &Position) -> BTreeSet<u8> {
+    let shared = position.shared.keys().any(|&(t, _)| t == SUCCESS);
+    let refunds = [
+        (REFUND_1, shared),
+        (REFUND_2, position.holds(ALICE, SECRET_BOB)),
+    ];
+    let masked = refunds.into_iter().filter(|&(_, on)| on).map(|(t, _)| t);
+    match setup.conduct {
+        Conduct::Careful => masked.collect(),
+        _ => BTreeSet::new(),
+    }
 }
 
 impl<'a> Others<'a> {
@@ -31,25 +44,14 @@ impl<'a> Others<'a> {
             true => BTreeSet::new(),
             false => (0..sheet.count()).filter(due).collect(),
         };
-        if party == BOB && setup.conduct == Conduct::Careful {
-            never.extend(forgone(position));
+        if party == BOB {
+            never.extend(forgone(setup, position));
         }
-        Others::with(sheet, position, party, never)
-    }
-
-    /// The same with others that are never sent.
-    pub fn with(
-        sheet: &'a Sheet,
-        position: &'a Position,
-        party: u8,
-        never: BTreeSet<u8>,
-    ) -> Others<'a> {
         Others {
             sheet,
             position,
             party,
             never,
-            silent: BTreeSet::new(),
         }
     }
 
@@ -145,17 +147,6 @@ impl<'a> Others<'a> {
         };
         (0..self.sheet.count()).filter(holds).collect()
     }
-}
-
-/// "refund_1 once success has a shared entry, refund_2 once Alice holds secretBob": what a careful Alice no longer sends.
-fn forgone(position: &Position) -> Vec<u8> {
-    let shared = position.shared.keys().any(|&(t, _)| t == SUCCESS);
-    let refunds = [
-        (REFUND_1, shared),
-        (REFUND_2, position.holds(ALICE, SECRET_BOB)),
-    ];
-    let masked = refunds.into_iter().filter(|&(_, on)| on);
-    masked.map(|(t, _)| t).collect()
 }
 
 /// "Without X: no step of kinds 1 to 4 has X as its party."

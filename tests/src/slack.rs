@@ -1,36 +1,38 @@
-//! For how many blocks a party can take no step and still keep a way to a payout: whether one is kept over an outage of the
+//! For how many blocks a party can take no step and still keep a way to a payout: whether one lasts over an outage of the
 //! next k blocks. The words in quotes are those of the definition; X is the party, m the blocks mined, b = m + k.
 
 use crate::attainable::Others;
-use crate::model::conduct::{REFUND_1, REFUND_2, SECRET_BOB, SUCCESS};
-use crate::model::heights::{self, NEVER};
+use crate::model::heights::NEVER;
 use crate::model::outage;
-use crate::model::position::{within, Confirmation, Position};
-use crate::model::setup::{Conduct, Setup};
+use crate::model::position::{within, Position};
+use crate::model::setup::Setup;
 use crate::model::sheet::{Lock, Sheet};
-use crate::model::{ALICE, BOB, CONTRACT};
+use crate::model::CONTRACT;
 use std::cell::RefCell;
 use std::cmp::max;
 use std::collections::{BTreeMap, BTreeSet};
 
 pub mod row;
+pub mod search;
+pub mod settled;
 
 type Set = BTreeSet<u8>;
 
 /// A set asked for with its answer, so that each is found once.
 type Found = RefCell<BTreeMap<Set, Set>>;
 
-/// A position in which the block's entries count as confirmed, as far as nothing can throw them out.
+/// What X can count on: in the position as it stands, and in the settled one.
 pub struct Outlook<'a> {
+    pub stands: View<'a>,
+    pub settled: View<'a>,
+}
+
+/// What X can count on in one position.
+pub struct View<'a> {
     sheet: &'a Sheet,
     setup: &'a Setup,
     party: u8,
     position: Position,
-    /// The secrets that the settled block alone shows.
-    shown: u8,
-    /// What the others never send, and what X never sends.
-    never: Set,
-    wont: Set,
     can: Found,
     elsewhere: Found,
     good: RefCell<BTreeMap<(u8, u32), bool>>,
@@ -50,29 +52,6 @@ struct Beat {
     last: u32,
 }
 
-/// "Under careful conduct: refund_1 once success has a shared entry, refund_2 once Alice holds secretBob."
-fn careful_masks(setup: &Setup, position: &Position) -> Set {
-    let mut masked = Set::new();
-    if setup.conduct == Conduct::Careful {
-        if position.shared.keys().any(|&(t, _)| t == SUCCESS) {
-            masked.insert(REFUND_1);
-        }
-        if position.holds(ALICE, SECRET_BOB) {
-            masked.insert(REFUND_2);
-        }
-    }
-    masked
-}
-
-/// "cant (the others): with stealth 0 every transaction whose deadline is ≤ m; under careful conduct, X being Bob:" these.
-fn never_sent(sheet: &Sheet, setup: &Setup, position: &Position, party: u8) -> Set {
-    let mut never = Others::of(sheet, setup, position, party).never;
-    if party == BOB {
-        never.extend(careful_masks(setup, position));
-    }
-    never
-}
-
 /// The unconfirmed strict ancestors.
 fn above(sheet: &Sheet, position: &Position, u: u8) -> Set {
     let line = sheet.line(u).iter().copied();
@@ -80,92 +59,28 @@ fn above(sheet: &Sheet, position: &Position, u: u8) -> Set {
         .collect()
 }
 
-/// "Settle. The block's entries count as confirmed in block m + 1, their secrets as shared; but not an entry g if for some h
-/// of g's unconfirmed line an x of can({}) (block entries showing no secret here) outside the block, with deadline m + 1,
-/// has another rival of h in its line; or h pays, has deadline m + 1 and can be in the pool for another payee."
-fn settled(sheet: &Sheet, setup: &Setup, position: &Position, party: u8) -> Position {
-    let never = never_sent(sheet, setup, position, party);
-    let quiet = Others {
-        silent: position.block.keys().copied().collect(),
-        ..Others::with(sheet, position, party, never)
-    };
-    let can = quiet.can(&Set::new());
-    let elsewhere = quiet.elsewhere(&Set::new());
-    let next = position.mined + 1;
-    let due = |t: u8| heights::deadline(sheet, setup, position, t) == next;
-    let ousts = |x: u8, h: u8| {
-        let mut rivals = sheet.rivals(h).iter().filter(|&&r| r != h);
-        !position.in_block(x) && due(x) && rivals.any(|r| sheet.line(x).contains(r))
-    };
-    let replaced = |h: u8| {
-        let to = position.block.get(&h);
-        let pool = position.pool.get(&h).is_some_and(|d| Some(d) != to);
-        !sheet.is_contract(h) && due(h) && (pool || to.is_some() && elsewhere.contains(&h))
-    };
-    let stays = |g: u8| {
-        let mut line = above(sheet, position, g);
-        line.insert(g);
-        let thrown = |&h: &u8| can.iter().any(|&x| ousts(x, h)) || replaced(h);
-        !line.iter().any(thrown)
-    };
-    let mut after = position.clone();
-    for (&t, &destination) in position.block.iter().filter(|(&t, _)| stays(t)) {
-        let confirmation = Confirmation {
-            destination,
-            block: next,
-        };
-        after.block.remove(&t);
-        after.confirmed.insert(t, confirmation);
-        if !sheet.transaction(t).veil {
-            after.add_shared(t, destination, sheet.transaction(t).needs);
+impl<'a> Outlook<'a> {
+    pub fn of(sheet: &'a Sheet, setup: &'a Setup, position: &Position, party: u8) -> Outlook<'a> {
+        let settled = settled::settled(sheet, setup, position, party);
+        Outlook {
+            stands: View::of(sheet, setup, position.clone(), party),
+            settled: View::of(sheet, setup, settled, party),
         }
     }
-    after
+
+    /// "lasts(k): kept(k) as the position stands, or in the settled position, where b = m + max(k, 1)."
+    pub fn lasts(&self, blocks: u32) -> bool {
+        self.stands.kept(blocks) || self.settled.kept(max(blocks, 1))
+    }
 }
 
-impl<'a> Outlook<'a> {
-    /// The whole definition.
-    pub fn of(sheet: &'a Sheet, setup: &'a Setup, position: &Position, party: u8) -> Outlook<'a> {
-        let after = settled(sheet, setup, position, party);
-        let never = never_sent(sheet, setup, &after, party);
-        let wont = match party {
-            ALICE => careful_masks(setup, &after),
-            _ => Set::new(),
-        };
-        let shown = after.shared_secrets(sheet) & !position.shared_secrets(sheet);
-        Outlook {
-            shown,
-            wont,
-            ..Outlook::over(sheet, setup, after, party, never)
-        }
-    }
-
-    /// The definition as the call has it: the block's entries are not settled, and any party may send what it can sign.
-    pub fn plain(
-        sheet: &'a Sheet,
-        setup: &'a Setup,
-        position: &Position,
-        party: u8,
-    ) -> Outlook<'a> {
-        let never = Others::of(sheet, setup, position, party).never;
-        Outlook::over(sheet, setup, position.clone(), party, never)
-    }
-
-    fn over(
-        sheet: &'a Sheet,
-        setup: &'a Setup,
-        position: Position,
-        party: u8,
-        never: Set,
-    ) -> Outlook<'a> {
-        Outlook {
+impl<'a> View<'a> {
+    pub fn of(sheet: &'a Sheet, setup: &'a Setup, position: Position, party: u8) -> View<'a> {
+        View {
             sheet,
             setup,
             party,
             position,
-            shown: 0,
-            never,
-            wont: Set::new(),
             can: RefCell::default(),
             elsewhere: RefCell::default(),
             good: RefCell::default(),
@@ -173,7 +88,7 @@ impl<'a> Outlook<'a> {
     }
 
     fn others(&self) -> Others<'_> {
-        Others::with(self.sheet, &self.position, self.party, self.never.clone())
+        Others::of(self.sheet, self.setup, &self.position, self.party)
     }
 
     fn can(&self, also: &Set) -> Set {
@@ -261,8 +176,7 @@ impl<'a> Outlook<'a> {
         let runs = !fixed && parent.is_some_and(|q| self.can(&Set::new()).contains(&q));
         let pool = position.pool.get(&u) == Some(&destination);
         let shared = position.shared.get(&(u, destination)).copied().unwrap_or(0);
-        let signs =
-            !self.wont.contains(&u) && within(sheet.transaction(u).needs, ask.know | shared);
+        let signs = within(sheet.transaction(u).needs, ask.know | shared);
         let pays_others = self.pays(u) && !sheet.is_payee(u, self.party);
         if self.others().gone(u) || pays_others || !(signs || pool) {
             return None;
@@ -360,7 +274,7 @@ impl<'a> Outlook<'a> {
         Ask {
             know: keys | shared | self.secrets(&self.above(u)),
             also: Set::new(),
-            off: max(off, self.at_least(u)),
+            off,
         }
     }
 
@@ -368,16 +282,6 @@ impl<'a> Outlook<'a> {
     fn is_unbeaten(&self, u: u8, off: u32) -> bool {
         let beat = self.beat(u, &self.ask(u, off));
         beat.is_some_and(|beat| beat.rivals.is_empty())
-    }
-
-    /// "where fixed and u needs a secret that only the settled block shows: off is at least m + 1".
-    fn at_least(&self, u: u8) -> u32 {
-        let keys = self.position.held[usize::from(self.party)];
-        let new = self.sheet.transaction(u).needs & self.shown & !keys;
-        match self.fixed(u) && new != 0 {
-            true => self.position.mined + 1,
-            false => 0,
-        }
     }
 
     /// "a confirmed transaction pays X".

@@ -2,16 +2,16 @@
 //! length, walks, all positions of the SASwap sheet and of random small sheets of two and three.
 
 use std::collections::BTreeMap;
-use swap_tests::adversary::{Fate, Graph};
+use swap_tests::adversary::Graph;
 use swap_tests::compare::Game;
 use swap_tests::engine;
 use swap_tests::every;
 use swap_tests::model::heights::NEVER;
 use swap_tests::model::journal::Course;
-use swap_tests::model::sheet::Lock;
 use swap_tests::random::{self, Case, Manner, Random, MINE};
 use swap_tests::samples::LOCK_A;
 use swap_tests::slack::row::{self, Row, LONGEST, ROW};
+use swap_tests::slack::search::{small_game, Exact};
 use swap_tests::slack::Outlook;
 
 /// The bytes on either side of a lent buffer.
@@ -89,10 +89,10 @@ fn assert_modelled(game: &Game, course: &Course, party: u8, row: &Row) {
     let (sheet, setup, position) = (&game.sheet, &game.setup, &course.position);
     let steps = &course.accepted;
     assert_eq!(*row, Row::of(sheet, setup, position, party), "{steps:?}");
-    let outlook = Outlook::plain(sheet, setup, position, party);
+    let outlook = Outlook::of(sheet, setup, position, party);
     for blocks in [0, 1, 2, 3] {
-        let kept = outlook.kept(blocks);
-        assert_eq!(row.keeps(blocks), kept, "{blocks}: {steps:?}");
+        let lasts = outlook.lasts(blocks);
+        assert_eq!(row.keeps(blocks), lasts, "{blocks}: {steps:?}");
     }
 }
 
@@ -144,7 +144,9 @@ fn walks() {
     }
     println!("{tally:?}");
     let between = tally.rows - tally.longest - tally.never - tally.none;
-    assert!(between > 500 && tally.none > tally.due && tally.due > 0);
+    assert!(between > 500 && tally.none > 0);
+    // where the slack is 0, what is counted on can be sent or handed in now
+    assert_eq!(tally.none, tally.due);
 }
 
 /// The greatest number that is kept, found by asking for each from 10,000 down, is the one that is written.
@@ -164,8 +166,8 @@ fn greatest() {
             random::more(&mut random, sheet, setup, &mut course, &manner, 30);
         }
         for (&party, row) in sheet.parties.iter().zip(rows(&game, &course.accepted)) {
-            let outlook = Outlook::plain(sheet, setup, &course.position, party);
-            let greatest = (0..=LONGEST).rev().find(|&k| outlook.kept(k));
+            let outlook = Outlook::of(sheet, setup, &course.position, party);
+            let greatest = (0..=LONGEST).rev().find(|&k| outlook.lasts(k));
             assert_eq!(greatest.unwrap_or(NEVER), row.blocks);
             let sort = match row.blocks {
                 LONGEST => 0,
@@ -179,48 +181,82 @@ fn greatest() {
     assert!(found.iter().all(|&count| count > 5));
 }
 
-/// In every position up to so many blocks the library's rows are the model's; where they say that a payout is kept it is not given
-/// up, and no outage up to the slack, however long, brings it there. The positions, and the dangers of short outages in them.
-fn positions(game: &Game, graph: &Graph, blocks: u32) -> [usize; 2] {
+/// What is counted of the positions of a game.
+#[derive(Clone, Copy, Debug, Default, PartialEq, Eq)]
+struct Places {
+    positions: usize,
+    /// The dangers of short outages.
+    dangers: usize,
+    /// No payout is given up, and the party and the miner alone bring none: none is secured yet.
+    unsecured: usize,
+    /// The slack is less than the longest outage without danger.
+    short: usize,
+}
+
+/// In every position up to so many blocks the library's rows are the model's; where they say that a payout lasts it is not given up,
+/// and no outage up to the slack, however long, brings it there.
+fn positions(game: &Game, graph: &Graph, blocks: u32) -> Places {
     let parties = game.sheet.parties;
-    let fates: Vec<Fate> = parties.iter().map(|&side| Fate::of(graph, side)).collect();
-    let [mut positions, mut dangers] = [0; 2];
+    let sides: Vec<Exact> = parties.iter().map(|&side| Exact::of(graph, side)).collect();
+    let mut places = Places::default();
     every::walk(game, blocks, |course| {
         let found = rows(game, &course.accepted);
         let number = graph.number(&course.position);
-        for ((row, fate), &party) in found.iter().zip(&fates).zip(parties) {
+        for ((row, exact), &party) in found.iter().zip(&sides).zip(parties) {
             assert_modelled(game, course, party, row);
-            let (given_up, ends) = (fate.given_up[number], fate.blocks[number]);
+            let (given_up, ends) = (exact.fate.given_up[number], exact.fate.blocks[number]);
             let lost = given_up || ends.is_some_and(|blocks| row.keeps(blocks));
             assert!(!row.keeps(0) || !lost, "{row:?} {:?}", course.accepted);
             let danger = |outage| !given_up && ends.is_some_and(|blocks| blocks <= outage);
-            dangers += OUTAGES.into_iter().filter(|&k| danger(k)).count();
+            places.dangers += OUTAGES.into_iter().filter(|&k| danger(k)).count();
+            places.unsecured += usize::from(!given_up && exact.alone[number].is_none());
+            places.short += usize::from(row.blocks != exact.slack(number));
         }
-        positions += 1;
+        places.positions += 1;
     });
-    [positions, dangers]
+    places
 }
 
-fn saswap(conduct: u8, stealth: u8, blocks: u32) -> [usize; 2] {
+fn saswap(conduct: u8, stealth: u8, blocks: u32) -> Places {
     let game = Game::saswap(1, conduct, stealth);
     let found = positions(&game, &Graph::of(&game), blocks);
-    println!("conduct {conduct}, stealth {stealth}, positions and dangers: {found:?}");
+    println!("conduct {conduct}, stealth {stealth}: {found:?}");
     found
 }
 
+/// In all careful positions, and in the loose ones without stealth, an outage of k blocks is said to be kept exactly where the payout
+/// is not given up and there is no danger, for each k: `short` is 0. In the few that are unsecured nothing is said to be kept.
 #[test]
 fn careful_positions() {
-    assert_eq!(saswap(2, 0, 9), [6_957, 42 + 92 + 263]);
+    let expected = Places {
+        positions: 6_957,
+        dangers: 42 + 92 + 263,
+        unsecured: 6,
+        short: 0,
+    };
+    assert_eq!(saswap(2, 0, 9), expected);
 }
 
 #[test]
 fn careful_positions_with_stealth() {
-    assert_eq!(saswap(2, 1, 9), [17_784, 268 + 323 + 575]);
+    let expected = Places {
+        positions: 17_784,
+        dangers: 268 + 323 + 575,
+        unsecured: 6,
+        short: 0,
+    };
+    assert_eq!(saswap(2, 1, 9), expected);
 }
 
 #[test]
 fn loose_positions() {
-    assert_eq!(saswap(1, 0, 9), [9_252, 1_342]);
+    let expected = Places {
+        positions: 9_252,
+        dangers: 1_342,
+        unsecured: 6,
+        short: 0,
+    };
+    assert_eq!(saswap(1, 0, 9), expected);
 }
 
 /// Random sheets of two and three whose game has few positions.
@@ -228,18 +264,14 @@ fn loose_positions() {
 fn small_sheets() {
     let mut random = Random::new(4243);
     let mut found = [0; 3];
-    for _ in 0..400 {
-        let (n, s) = (random.between(3, 5) as u8, random.between(1, 3) as u8);
-        let shape = random.pick(&random::SHAPES);
-        let sheet = match random.percent(30) {
-            true => random::ring_of(&mut random, n, s, shape),
-            false => random::sheet_of(&mut random, n, s, shape),
-        };
-        let game = Game::new((sheet, random::setup_of(&mut random, 1, 0)));
-        let locked = game.sheet.transaction(0).lock != Lock::None;
-        if let (false, Some(graph)) = (locked, Graph::of_any(&game, 500)) {
-            let [places, dangers] = positions(&game, &graph, 4);
-            found = [found[0] + 1, found[1] + places, found[2] + dangers];
+    for game in (0..400).filter_map(|_| small_game(&mut random)) {
+        if let Some(graph) = Graph::of_any(&game, 500) {
+            let places = positions(&game, &graph, 4);
+            found = [
+                found[0] + 1,
+                found[1] + places.positions,
+                found[2] + places.dangers,
+            ];
         }
     }
     println!("games, positions and dangers: {found:?}");

@@ -128,10 +128,13 @@ fn slack(case: &Case) -> Vec<String> {
         };
         let said = match (row.blocks, row.counted, row.due) {
             (NEVER, ..) => "no payout is secured".to_string(),
-            (_, None, _) => "paid".to_string(),
+            (_, None, _) if position.confirmed.values().any(|c| c.destination == party) => {
+                "paid".to_string()
+            }
+            (_, None, _) => "paid by the block being filled".to_string(),
             (_, Some((t, to)), true) => {
-                let sends = step::refusal(sheet, setup, position, &[3, party, t, to]) == 0;
-                let verb = if sends { "send" } else { "hand in" };
+                let hands_in = step::refusal(sheet, setup, position, &[4, party, t, to]) == 0;
+                let verb = if hands_in { "hand in" } else { "send" };
                 format!("before the next block {verb} {}", counted((t, to)))
             }
             (1, Some(on), false) => format!("can be off for 1 block, counting on {}", counted(on)),

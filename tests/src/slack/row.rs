@@ -1,6 +1,6 @@
 //! What the call slack writes: for each party the longest outage over which it keeps a way to a payout, and what it counts on.
 
-use super::Outlook;
+use super::{Outlook, View};
 use crate::model::heights::NEVER;
 use crate::model::position::Position;
 use crate::model::setup::Setup;
@@ -27,11 +27,11 @@ pub struct Row {
 
 impl Row {
     pub fn of(sheet: &Sheet, setup: &Setup, position: &Position, party: u8) -> Row {
-        let outlook = Outlook::plain(sheet, setup, position, party);
+        let outlook = Outlook::of(sheet, setup, position, party);
         let blocks = outlook.slack();
         let counted = match blocks {
             NEVER => None,
-            k => outlook.counted_on(k).map(|t| (t, outlook.destination(t))),
+            k => outlook.counted_on(k),
         };
         // "slack 0 and the send or hand-in of it is open now"
         let is_open = |(t, destination): (u8, u8)| {
@@ -69,30 +69,44 @@ impl Row {
 }
 
 impl Outlook<'_> {
-    /// "The greatest k up to 10,000 that is kept; 2147483647, \"never\", where not even 0 is". Whether k is kept goes by
-    /// comparing b, b + 1 or b - 1 with lock heights alone, so the last k before a change is one of these.
+    /// "The greatest k ≤ 10,000 with lasts(k)", "2147483647, \"never\", where not even 0 is".
     pub fn slack(&self) -> u32 {
-        let locks = (0..self.sheet.count()).map(|t| self.lock(t));
-        let heights = locks.flat_map(|lock| [lock, lock.saturating_sub(1), lock.saturating_sub(2)]);
+        let heights = self.stands.heights().chain(self.settled.heights());
         let mut asked: Vec<u32> = heights
-            .filter_map(|height| height.checked_sub(self.position.mined))
+            .filter_map(|height| height.checked_sub(self.stands.position.mined))
             .filter(|&k| k < LONGEST)
             .chain([0, LONGEST])
             .collect();
         asked.sort_unstable();
         let mut falling = asked.into_iter().rev();
-        falling.find(|&k| self.kept(k)).unwrap_or(NEVER)
+        falling.find(|&k| self.lasts(k)).unwrap_or(NEVER)
     }
 
-    /// "Counted on: such a u, one with nothing in beat before others, then the lowest"; none where a payout is confirmed.
-    pub fn counted_on(&self, blocks: u32) -> Option<u8> {
+    /// "Counted on": asked of the position as it stands where that keeps as many blocks, else of the settled one; none where a
+    /// payout is confirmed.
+    pub fn counted_on(&self, blocks: u32) -> Option<(u8, u8)> {
+        match self.stands.kept(blocks) {
+            true => self.stands.counted_on(blocks),
+            false => self.settled.counted_on(blocks.max(1)),
+        }
+    }
+}
+
+impl View<'_> {
+    /// Whether an outage is kept goes by comparing b, b + 1 or b - 1 with lock heights alone, so the last b before a change is
+    /// one of these.
+    fn heights(&self) -> impl Iterator<Item = u32> + '_ {
+        let locks = (0..self.sheet.count()).map(|t| self.lock(t));
+        locks.flat_map(|lock| [lock, lock.saturating_sub(1), lock.saturating_sub(2)])
+    }
+
+    /// "such a t, one with nothing in beat before others, then the lowest", with its destination.
+    fn counted_on(&self, blocks: u32) -> Option<(u8, u8)> {
         let off = self.position.mined + blocks;
-        let good: Vec<u8> = match self.is_paid() {
-            true => Vec::new(),
-            false => self.reached().filter(|&u| self.good(u, off)).collect(),
-        };
-        let sure = good.iter().find(|&&u| self.is_unbeaten(u, off));
-        sure.or(good.first()).copied()
+        let good = self.reached().filter(|&u| self.good(u, off));
+        let least = good.min_by_key(|&u| (!self.is_unbeaten(u, off), u));
+        let counted = least.filter(|_| !self.is_paid());
+        counted.map(|t| (t, self.destination(t)))
     }
 }
 
