@@ -339,11 +339,13 @@ uint32_t swap_outage(const uint8_t *sheet, size_t sheet_length,
  * who can sign what, and may say fewer blocks than would do. Refusals 1 to 24 and 32 are the journal's; the count is 0.
  *
  *   bytes 0 to 3  slack: the greatest number of blocks, 10,000 (SWAP_SLACK_MOST) at most, for which a way is kept; 10,000
- *                 where the party is paid; never where not even for 0 blocks: no payout is secured, yet or any more
- *   byte 4        the transaction that the party counts on over that outage; 255 where it is paid or none is secured
+ *                 where the party is paid, or the block being filled pays it and nothing can throw that out; never where
+ *                 not even for 0 blocks: no payout is secured, yet or any more
+ *   byte 4        the transaction that the party counts on over that outage; 255 where it is paid, also so, or none is
+ *                 secured
  *   byte 5        its destination: the party, or 2 for the contract; 255 with it
- *   byte 6        1 where it is to be sent before the next block: the slack is 0, and the party's send or hand-in of it is
- *                 open now; else 0
+ *   byte 6        1 where it is to be sent before the next block, with stealth handed in: the slack is 0, and the party's
+ *                 send or hand-in of it is open now; else 0
  *   byte 7        0
  *
  * A slack of 2,147,483,647 is "never". The output takes up 16 bytes, and 24 (SWAP_SLACK_SIZE) of three parties. Refusal 25

@@ -184,12 +184,27 @@ static void print_counted(const uint8_t *row)
     }
 }
 
-/* Whether a party can send what it counts on to the pool now; else it can hand it in. */
-static bool can_send(uint8_t party, const uint8_t *row)
+/* Whether a party can hand in now what it counts on, which shows no secret before the block is mined; else it can send it to the pool. */
+static bool can_hand_in(uint8_t party, const uint8_t *row)
 {
-    const uint8_t step[] = {SWAP_SEND, party, row[SWAP_SLACK_TRANSACTION], row[SWAP_SLACK_DESTINATION]};
+    const uint8_t step[] = {SWAP_HAND_IN, party, row[SWAP_SLACK_TRANSACTION], row[SWAP_SLACK_DESTINATION]};
 
     return SWAP_REFUSAL(swap_ask(SLICES(swap), step, sizeof step)) == SWAP_ACCEPTED;
+}
+
+/* Whether a mined block pays a party; else, where it counts on nothing, the block being filled does. */
+static bool has_payout(uint8_t party)
+{
+    uint8_t rows[SWAP_REPORT_SIZE];
+    bool paid = false;
+
+    if (swap_report(SLICES(swap), rows, sizeof rows) != SWAP_ACCEPTED) {
+        return false; /* never: the journal passed */
+    }
+    for (uint8_t t = 0; t < count_of(&swap); t++) {
+        paid = paid || rows[SWAP_REPORT_ROW * t + SWAP_REPORT_PAYEE] == party;
+    }
+    return paid;
 }
 
 /* A party's slack in words. */
@@ -201,9 +216,9 @@ static void print_slack(uint8_t party, const uint8_t *row)
     if (blocks == SWAP_NEVER) {
         printf("no payout is secured");
     } else if (row[SWAP_SLACK_TRANSACTION] == SWAP_NONE) {
-        printf("paid");
+        printf(has_payout(party) ? "paid" : "paid by the block being filled");
     } else if (row[SWAP_SLACK_DUE] != 0) {
-        printf("before the next block %s ", can_send(party, row) ? "send" : "hand in");
+        printf("before the next block %s ", can_hand_in(party, row) ? "hand in" : "send");
         print_counted(row);
     } else {
         printf("can be off for %lu block%s, counting on ", (unsigned long)blocks, blocks == 1 ? "" : "s");
