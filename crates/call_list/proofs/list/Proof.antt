@@ -5,14 +5,12 @@ use borrow.Author.Needs.{needs}
 use Rattle.call_list.proofs.list.Statement.{statement}
 use Rattle.call_list.proofs.list.Tie as tie
 
-returns : tie.Need-returns
-returns c = gives-refused _ _ _ _ _ (c .before .before .ran .ensures) (c .if1 .taken)
-
-write-list-requires : tie.Need-write-list-requires
-write-list-requires c κs = ran-fit _ _ _ _ (c .before .before .before .ran .ensures) (c .before .if1 .left)
-
-returns-2 : tie.Need-returns-2
-returns-2 c = gives-passed _ _ _ _ _ _ _ _ (c .before .before .before .before .before .before .ran .ensures) (c .before .before .before .before .if1 .left) (c .before .before .write-list .ensures)
-
 pub list-spec : {M : Type 1} → statement M
-list-spec = tie.close (tie.spec (λ c κs. search needs) returns write-list-requires (λ c. search needs) returns-2)
+list-spec =
+    tie.close
+    (tie.spec
+    (λ c κs. search needs)
+    (λ c. gives-refused _ _ _ _ _ (c .before .before .ran .ensures) (c .if1 .taken))
+    (λ c κs. ran-fit _ _ _ _ (c .before .before .before .ran .ensures) (c .before .if1 .left))
+    (λ c. search needs)
+    (λ c. gives-passed _ _ _ _ _ _ _ _ (c .before .before .before .before .before .before .ran .ensures) (c .before .before .before .before .if1 .left) (c .before .before .write-list .ensures)))

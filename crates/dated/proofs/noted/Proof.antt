@@ -13,9 +13,6 @@ Inv-loop sheet setup view position n per-day counts₀ t₀ counts t = (t ≤ n)
 abbrev μ-loop : tie.MeasureT-loop
 μ-loop sheet setup view position n per-day counts₀ t₀ counts t = n - t
 
-loop-holds : tie.Need-loop-holds Inv-loop μ-loop
-loop-holds c = (search needs, rewrite-start _ _)
-
 loop-again : tie.Need-loop-again Inv-loop μ-loop
 loop-again c =
     let k = c .before .before .before .before .before .before .before .before in
@@ -48,22 +45,19 @@ loop-again-2 c =
     (c .before .before .before .before .before .before .before .before .before .per-day .ensures) (k .pre .1) refl (rw (← (c .before .before .before .slot-above .ensures .0)) (c .before .block-above .ensures)) in
     (search needs, rewrite-again _ _ _ _ 0 _ (i .inv .1) (rw (w .0) (c .first-open .ensures ∙ e)))
 
-returns : tie.Need-returns Inv-loop μ-loop
-unfolding noted
-returns c = rw (← (c .before .before .before .count .ensures .is)) (rewrite-done _ _ _ _ _ (c .before .loop .inv .0) (c .loop-test .left) (c .before .loop .inv .1))
-
 pub noted-spec : {M : Type 1} → statement M
+unfolding noted
 noted-spec =
     tie.close
     (tie.spec
     Inv-loop
     μ-loop
     (λ c κs. search needs) (λ c κs. search needs)
-    loop-holds
+    (λ c. (search needs, rewrite-start _ _))
     (λ c. search needs) (λ c. search needs) (λ c κs. search needs) (λ c. search needs) (λ c. search needs)
     loop-again
     (λ c. search needs) (λ c. search needs) (λ c κs. search needs) (λ c. search needs) (λ c. search needs) (λ c κs. search needs)
     first-open-requires
     (λ c. search needs) (λ c. search needs) (λ c. search needs) (λ c. search needs)
     loop-again-2
-    returns)
+    (λ c. rw (← (c .before .before .before .count .ensures .is)) (rewrite-done _ _ _ _ _ (c .before .loop .inv .0) (c .loop-test .left) (c .before .loop .inv .1))))

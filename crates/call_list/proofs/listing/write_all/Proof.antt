@@ -33,33 +33,15 @@ two c =
     let w = c .before .before .write-two2 in
     wrote-more _ _ _ _ _ _ _ (one (c .before .before .before .before)) (fits s) (w .ensures .0) (w .ensures .1)
 
-write-two-requires : tie.Need-write-two-requires
-write-two-requires c κs = let s = c .before .before in front-fits (start s) (rest s) _ (fits s)
-
-sub-write-two : tie.Need-sub-write-two
-sub-write-two c = omega (arith, one c)
-
-part-write-two-start : tie.Need-part-write-two-start
-part-write-two-start c = omega (arith, one c)
-
-write-two-requires-2 : tie.Need-write-two-requires-2
-write-two-requires-2 c κs = let s = c .before .before .before .before .before .before in wrote-room _ _ _ (rest s) _ (one (c .before)) (fits s)
-
-same-length : tie.Need-same-length
-same-length c = two c .long
-
-returns : tie.Need-returns
-unfolding setsBytes
-returns c = two c .is
-
 pub write-all-spec : {M : Type 1} → statement M
+unfolding setsBytes
 write-all-spec =
     tie.close
     (tie.spec
-    write-two-requires
-    sub-write-two
-    part-write-two-start
+    (λ c κs. let s = c .before .before in front-fits (start s) (rest s) _ (fits s))
+    (λ c. omega (arith, one c))
+    (λ c. omega (arith, one c))
     (λ c. search needs)
-    write-two-requires-2
-    same-length
-    returns)
+    (λ c κs. let s = c .before .before .before .before .before .before in wrote-room _ _ _ (rest s) _ (one (c .before)) (fits s))
+    (λ c. two c .long)
+    (λ c. two c .is))

@@ -9,19 +9,10 @@ mul-if1 c =
     let a = c .before .before .args in
     record { fits = omega (arith, c .sets-count .ensures, sets-bound (a .alice) (a .bob) (a .carol) (a .miner)) }
 
-returns : tie.Need-returns
-returns c = gives-short _ _ _ _ _ _ (c .before .sets-count .ensures) (c .if1 .taken)
-
-write-all-requires : tie.Need-write-all-requires
-write-all-requires c κs = let a = c .before .before .before .before .args in sets-room (a .alice) (a .bob) (a .carol) (a .miner) _ (a .out .now) (c .before .before .sets-count .ensures) (c .before .if1 .left)
-
 cast-t13 : tie.Need-cast-t13
 cast-t13 c =
     let a = c .before .before .before .before .before .before .before .args in
     record { fits = omega (arith, c .before .before .before .before .before .sets-count .ensures, sets-bound (a .alice) (a .bob) (a .carol) (a .miner)) }
-
-returns-2 : tie.Need-returns-2
-returns-2 c = gives-whole _ _ _ _ _ _ (c .before .before .before .before .before .sets-count .ensures) _ (c .before .before .before .before .if1 .left) (c .before .before .write-all .ensures)
 
 pub write-fitting-spec : {M : Type 1} → statement M
 write-fitting-spec =
@@ -29,8 +20,8 @@ write-fitting-spec =
     (tie.spec
     (λ c κs. search needs)
     mul-if1
-    returns
-    write-all-requires
+    (λ c. gives-short _ _ _ _ _ _ (c .before .sets-count .ensures) (c .if1 .taken))
+    (λ c κs. let a = c .before .before .before .before .args in sets-room (a .alice) (a .bob) (a .carol) (a .miner) _ (a .out .now) (c .before .before .sets-count .ensures) (c .before .if1 .left))
     cast-t13
     (λ c. search needs)
-    returns-2)
+    (λ c. gives-whole _ _ _ _ _ _ (c .before .before .before .before .before .sets-count .ensures) _ (c .before .before .before .before .if1 .left) (c .before .before .write-all .ensures)))

@@ -4,15 +4,6 @@ use borrow.Author.Needs.{needs}
 use Rattle.call_list.proofs.listing.write_list.Statement.{statement}
 use Rattle.call_list.proofs.listing.write_list.Tie as tie
 
-view-requires : tie.Need-view-requires
-view-requires c κs = c .before .before .before .pre .checked
-
-guards-requires : tie.Need-guards-requires
-guards-requires c κs = let q = c .before .before .before .before .pre in (q, c .view .ensures)
-
-any-owed-requires : tie.Need-any-owed-requires
-any-owed-requires c κs = let q = c .before .before .before .before .before .pre in (q, c .before .view .ensures)
-
 open-sets-requires : tie.Need-open-sets-requires
 open-sets-requires c κs =
     let q = c .before .before .before .before .before .before .pre in
@@ -42,9 +33,9 @@ pub write-list-spec : {M : Type 1} → statement M
 write-list-spec =
     tie.close
     (tie.spec
-    view-requires
-    guards-requires
-    any-owed-requires
+    (λ c κs. c .before .before .before .pre .checked)
+    (λ c κs. let q = c .before .before .before .before .pre in (q, c .view .ensures))
+    (λ c κs. let q = c .before .before .before .before .before .pre in (q, c .before .view .ensures))
     open-sets-requires
     open-sets-requires-2
     open-sets-requires-3

@@ -34,37 +34,16 @@ two c =
     let w = c .before .before .write-actor2 in
     wrote-more _ _ _ _ _ _ _ (one (c .before .before .before .before)) (fits s) (w .ensures .0) (w .ensures .1)
 
-write-actor-requires : tie.Need-write-actor-requires
-write-actor-requires c κs = let s = c .before .before in front-fits (start s) (rest s) _ (fits s)
-
-sub-write-actor : tie.Need-sub-write-actor
-sub-write-actor c = omega (arith, one c)
-
-part-write-actor-start : tie.Need-part-write-actor-start
-part-write-actor-start c = omega (arith, one c)
-
-write-actor-requires-2 : tie.Need-write-actor-requires-2
-write-actor-requires-2 c κs = let s = c .before .before .before .before .before .before in wrote-room _ _ _ (rest s) _ (one (c .before)) (fits s)
-
-add-result : tie.Need-add-result
-add-result c = omega (arith, two c)
-
-same-length : tie.Need-same-length
-same-length c = two c .long
-
-returns : tie.Need-returns
-unfolding twoBytes
-returns c = (two c .at, two c .is)
-
 pub write-two-spec : {M : Type 1} → statement M
+unfolding twoBytes
 write-two-spec =
     tie.close
     (tie.spec
-    write-actor-requires
-    sub-write-actor
-    part-write-actor-start
+    (λ c κs. let s = c .before .before in front-fits (start s) (rest s) _ (fits s))
+    (λ c. omega (arith, one c))
+    (λ c. omega (arith, one c))
     (λ c. search needs)
-    write-actor-requires-2
-    add-result
-    same-length
-    returns)
+    (λ c κs. let s = c .before .before .before .before .before .before in wrote-room _ _ _ (rest s) _ (one (c .before)) (fits s))
+    (λ c. omega (arith, two c))
+    (λ c. two c .long)
+    (λ c. (two c .at, two c .is)))

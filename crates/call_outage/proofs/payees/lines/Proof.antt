@@ -13,16 +13,10 @@ Inv-loop sheet n lines₀ t₀ lines t = (t ≤ n) × Filled (λ k x. x ≡ line
 abbrev μ-loop : tie.MeasureT-loop
 μ-loop sheet n lines₀ t₀ lines t = n - t
 
-loop-holds : tie.Need-loop-holds Inv-loop μ-loop
-loop-holds c = (search needs, filled-start _ _ refl)
-
 loop-again : tie.Need-loop-again Inv-loop μ-loop
 loop-again c =
     let i = c .before .before .before .loop in
     (search needs, filled-more _ _ _ _ (i .inv .1) (search needs) (line-next _ _ _ _ _ (i .inv .1) (c .before .above .ensures) (c .join .ensures)))
-
-returns : tie.Need-returns Inv-loop μ-loop
-returns c = filled-done _ _ _ _ (omega (arith, c .loop-test .left, c .before .before .count .ensures .is)) (c .before .loop .inv .1)
 
 pub lines-spec : {M : Type 1} → statement M
 lines-spec =
@@ -31,7 +25,7 @@ lines-spec =
     Inv-loop
     μ-loop
     (λ c κs. search needs)
-    loop-holds
+    (λ c. (search needs, filled-start _ _ refl))
     (λ c κs. search needs) (λ c κs. search needs) (λ c. search needs) (λ c. search needs) (λ c. search needs) (λ c. search needs)
     loop-again
-    returns)
+    (λ c. filled-done _ _ _ _ (omega (arith, c .loop-test .left, c .before .before .count .ensures .is)) (c .before .loop .inv .1)))

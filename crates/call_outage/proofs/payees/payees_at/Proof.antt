@@ -3,11 +3,10 @@ use borrow.Author.Needs.{needs}
 use Rattle.call_outage.proofs.payees.payees_at.Statement.{statement}
 use Rattle.call_outage.proofs.payees.payees_at.Tie as tie
 
-returns : tie.Need-returns
-returns c = simp (← (c .before .before .has .ensures), c .before .if1 .taken, c .payees .ensures)
-
-returns-2 : tie.Need-returns-2
-returns-2 c = simp (← (c .before .has .ensures), c .if1 .left)
-
 pub payees-at-spec : {M : Type 1} → statement M
-payees-at-spec = tie.close (tie.spec (λ c κs. search needs) (λ c κs. search needs) returns returns-2)
+payees-at-spec =
+    tie.close
+    (tie.spec
+    (λ c κs. search needs) (λ c κs. search needs)
+    (λ c. simp (← (c .before .before .has .ensures), c .before .if1 .taken, c .payees .ensures))
+    (λ c. simp (← (c .before .has .ensures), c .if1 .left)))

@@ -12,24 +12,15 @@ Inv-loop sheet t lines n found₀ k₀ found k = (k ≤ n) × (found ≡ unionBe
 abbrev μ-loop : tie.MeasureT-loop
 μ-loop sheet t lines n found₀ k₀ found k = n - k
 
-loop-holds : tie.Need-loop-holds Inv-loop μ-loop
-loop-holds c = (search needs, union-start _)
-
-loop-again : tie.Need-loop-again Inv-loop μ-loop
-loop-again c = (search needs, union-more _ _ _ _ (c .before .before .loop .inv .1) (c .payees-at .ensures))
-
-returns : tie.Need-returns Inv-loop μ-loop
-unfolding payeesIn
-returns c = rw (← (c .before .before .count .ensures .is)) (union-done _ _ _ _ (c .before .loop .inv .0) (c .loop-test .left) (c .before .loop .inv .1))
-
 pub payees-below-spec : {M : Type 1} → statement M
+unfolding payeesIn
 payees-below-spec =
     tie.close
     (tie.spec
     Inv-loop
     μ-loop
     (λ c κs. search needs)
-    loop-holds
+    (λ c. (search needs, union-start _))
     (λ c. search needs) (λ c. search needs) (λ c κs. search needs) (λ c. search needs) (λ c. search needs)
-    loop-again
-    returns)
+    (λ c. (search needs, union-more _ _ _ _ (c .before .before .loop .inv .1) (c .payees-at .ensures)))
+    (λ c. rw (← (c .before .before .count .ensures .is)) (union-done _ _ _ _ (c .before .loop .inv .0) (c .loop-test .left) (c .before .loop .inv .1))))

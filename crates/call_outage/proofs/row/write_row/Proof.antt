@@ -31,34 +31,15 @@ two c =
     let s = c .before .before .before .before .before in
     wrote-more (head s) _ (stored s) (pair s) _ 2 8 (one s) (fits s) (sym (eight s)) (c .before .before .write-pair .ensures)
 
-slice-write-out-2 : tie.Need-slice-write-out-2
-slice-write-out-2 c = simp length-set (omega arith)
-
-sub-write-pair : tie.Need-sub-write-pair
-sub-write-pair c = omega (arith, one (c .before))
-
-part-write-pair-start : tie.Need-part-write-pair-start
-part-write-pair-start c = omega (arith, one (c .before))
-
-write-pair-requires : tie.Need-write-pair-requires
-write-pair-requires c κs =
-    let s = c .before .before in omega (arith, eight s, wrote-room (head s) _ (stored s) (pair s) 2 (one s) (fits s))
-
-same-length : tie.Need-same-length
-same-length c = two c .long
-
-returns : tie.Need-returns
-returns c = two c .is
-
 pub write-row-spec : {M : Type 1} → statement M
 write-row-spec =
     tie.close
     (tie.spec
     (λ c. search needs)
-    slice-write-out-2
-    sub-write-pair
-    part-write-pair-start
+    (λ c. simp length-set (omega arith))
+    (λ c. omega (arith, one (c .before)))
+    (λ c. omega (arith, one (c .before)))
     (λ c. search needs)
-    write-pair-requires
-    same-length
-    returns)
+    (λ c κs. let s = c .before .before in omega (arith, eight s, wrote-room (head s) _ (stored s) (pair s) 2 (one s) (fits s)))
+    (λ c. two c .long)
+    (λ c. two c .is))

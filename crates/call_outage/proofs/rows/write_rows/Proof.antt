@@ -19,12 +19,6 @@ loop-holds c =
     let n = c .before .before .before .before .before .count in
     turns-start _ _ _ (rows-room (k .args .sheet .now) (k .args .setup .now) (k .args .t1) (k .args .blocks) (n .result) _ (n .ensures .is) (k .pre .1))
 
-sub-write-at : tie.Need-sub-write-at Inv-loop μ-loop
-sub-write-at c = omega (arith, c .before .before .before .before .loop .inv .wrote)
-
-part-write-at-start : tie.Need-part-write-at-start Inv-loop μ-loop
-part-write-at-start c = omega (arith, c .before .before .before .before .loop .inv .wrote)
-
 write-at-requires : tie.Need-write-at-requires Inv-loop μ-loop
 write-at-requires c κs =
     let k = c .before .before .before .before .before .before .before .before .before .before .before .before .before .before .before in
@@ -70,14 +64,8 @@ loop-again c =
     (c .before .before .before .before .block-above .ensures)) in
     turn-more _ _ _ _ _ _ _ 10 (i .inv) m (sym (row-length (k .args .sheet .now) (k .args .setup .now) (k .args .t1) (k .args .blocks) (i .t))) (rw written at (c .before .before .write-at .ensures))
 
-same-length : tie.Need-same-length Inv-loop μ-loop
-same-length c = c .before .loop .inv .wrote .long
-
-returns : tie.Need-returns Inv-loop μ-loop
-unfolding outageBytes
-returns c = rw (← (c .before .before .before .before .before .before .before .count .ensures .is)) (turns-done _ _ _ _ _ _ (c .before .loop .inv) (c .loop-test .left) .is)
-
 pub write-rows-spec : {M : Type 1} → statement M
+unfolding outageBytes
 write-rows-spec =
     tie.close
     (tie.spec
@@ -87,12 +75,12 @@ write-rows-spec =
     (λ c κs. search needs)
     loop-holds
     (λ c κs. search needs) (λ c. search needs) (λ c. search needs) (λ c κs. search needs)
-    sub-write-at
-    part-write-at-start
+    (λ c. omega (arith, c .before .before .before .before .loop .inv .wrote))
+    (λ c. omega (arith, c .before .before .before .before .loop .inv .wrote))
     (λ c. search needs)
     write-at-requires
     add-at
     (λ c. search needs) (λ c. search needs)
     loop-again
-    same-length
-    returns)
+    (λ c. c .before .loop .inv .wrote .long)
+    (λ c. rw (← (c .before .before .before .before .before .before .before .count .ensures .is)) (turns-done _ _ _ _ _ _ (c .before .loop .inv) (c .loop-test .left) .is)))

@@ -4,11 +4,10 @@ use borrow.Author.Needs.{needs}
 use Rattle.call_outage.proofs.verdict.exposed.Statement.{statement}
 use Rattle.call_outage.proofs.verdict.exposed.Tie as tie
 
-returns : tie.Need-returns
-unfolding exposed
-returns c = simp (c .before .before .part .ensures .0, c .part2 .ensures .0, c .before .before .before .covered .ensures, c .before .passed .ensures)
-
 pub exposed-spec : {M : Type 1} → statement M
+unfolding exposed
 exposed-spec =
     tie.close
-    (tie.spec (λ c κs. search needs) (λ c κs. search needs) (λ c κs. search needs) (λ c κs. search needs) (λ c. search needs) returns)
+    (tie.spec
+    (λ c κs. search needs) (λ c κs. search needs) (λ c κs. search needs) (λ c κs. search needs) (λ c. search needs)
+    (λ c. simp (c .before .before .part .ensures .0, c .part2 .ensures .0, c .before .before .before .covered .ensures, c .before .passed .ensures)))

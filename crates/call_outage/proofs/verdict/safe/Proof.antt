@@ -4,13 +4,11 @@ use borrow.Author.Needs.{needs}
 use Rattle.call_outage.proofs.verdict.safe.Statement.{statement}
 use Rattle.call_outage.proofs.verdict.safe.Tie as tie
 
-returns : tie.Need-returns
-unfolding safeIn
-returns c = simp (← (c .before .before .has .ensures), c .before .if1 .taken, c .parent-there .ensures)
-
-returns-2 : tie.Need-returns-2
-unfolding safeIn
-returns-2 c = simp (← (c .before .has .ensures), c .if1 .left)
-
 pub safe-spec : {M : Type 1} → statement M
-safe-spec = tie.close (tie.spec (λ c κs. search needs) (λ c κs. search needs) returns returns-2)
+unfolding safeIn
+safe-spec =
+    tie.close
+    (tie.spec
+    (λ c κs. search needs) (λ c κs. search needs)
+    (λ c. simp (← (c .before .before .has .ensures), c .before .if1 .taken, c .parent-there .ensures))
+    (λ c. simp (← (c .before .has .ensures), c .if1 .left)))

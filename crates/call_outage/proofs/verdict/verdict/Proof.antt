@@ -4,18 +4,6 @@ use borrow.Author.Needs.{needs}
 use Rattle.call_outage.proofs.verdict.verdict.Statement.{statement}
 use Rattle.call_outage.proofs.verdict.verdict.Tie as tie
 
-returns : tie.Need-returns
-unfolding verdictIn
-returns c = simp (← (c .before .has .ensures), c .if1 .taken)
-
-returns-2 : tie.Need-returns-2
-unfolding verdictIn
-returns-2 c = simp (← (c .before .before .has .ensures), c .before .if1 .left, c .if2 .taken)
-
-returns-3 : tie.Need-returns-3
-unfolding verdictIn
-returns-3 c = simp (← (c .before .before .before .before .has .ensures), c .before .before .before .if1 .left, c .before .before .if2 .left, ← (c .before .safe .ensures), c .if3 .taken)
-
 returns-4 : tie.Need-returns-4
 unfolding verdictIn
 returns-4 c = simp (
@@ -30,13 +18,14 @@ returns-4 c = simp (
 )
 
 pub verdict-spec : {M : Type 1} → statement M
+unfolding verdictIn
 verdict-spec =
     tie.close
     (tie.spec
     (λ c κs. search needs)
-    returns
-    returns-2
+    (λ c. simp (← (c .before .has .ensures), c .if1 .taken))
+    (λ c. simp (← (c .before .before .has .ensures), c .before .if1 .left, c .if2 .taken))
     (λ c κs. search needs)
-    returns-3
+    (λ c. simp (← (c .before .before .before .before .has .ensures), c .before .before .before .if1 .left, c .before .before .if2 .left, ← (c .before .safe .ensures), c .if3 .taken))
     (λ c κs. search needs) (λ c κs. search needs)
     returns-4)

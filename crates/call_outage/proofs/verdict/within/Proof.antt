@@ -3,9 +3,6 @@ use Rattle.laws.proofs.Prelude.{_+_, _-_, sym, leb, leb-true, leb-false, le-leb
 use Rattle.call_outage.proofs.verdict.within.Statement.{statement}
 use Rattle.call_outage.proofs.verdict.within.Tie as tie
 
-returns : tie.Need-returns
-returns c = sym (le-leb (c .before .args .height) (c .before .args .mined + c .before .args .blocks) (omega (arith, c .if1 .taken)))
-
 returns-2 : tie.Need-returns-2
 returns-2 c =
     let a = c .before .args in
@@ -15,4 +12,9 @@ returns-2 c =
     (λ y. rw (y, lt-leb (a .height) (a .mined + a .blocks) (omega (arith, leb-false (a .height - a .mined) (a .blocks) y, l))))
 
 pub within-spec : {M : Type 1} → statement M
-within-spec = tie.close (tie.spec returns (λ c. search needs) returns-2)
+within-spec =
+    tie.close
+    (tie.spec
+    (λ c. sym (le-leb (c .before .args .height) (c .before .args .mined + c .before .args .blocks) (omega (arith, c .if1 .taken))))
+    (λ c. search needs)
+    returns-2)

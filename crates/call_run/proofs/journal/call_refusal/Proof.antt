@@ -4,21 +4,15 @@ use borrow.Author.Needs.{needs}
 use Rattle.call_run.proofs.journal.call_refusal.Statement.{statement}
 use Rattle.call_run.proofs.journal.call_refusal.Tie as tie
 
-returns : tie.Need-returns
-returns c = by-setup _ _ _ _ (c .before .before .before .before .before .pre) (c .before .setup-refusal .ensures) (c .if1 .taken)
-
 returns-2 : tie.Need-returns-2
 returns-2 c = by-journal _ _ _ _ _ (c .before .before .before .before .before .before .before .pre) (c .before .before .before .setup-refusal .ensures) (c .before .before .if1 .left) (c .before .journal-right .ensures) (c .if2 .taken)
-
-returns-3 : tie.Need-returns-3
-returns-3 c = by-none _ _ _ _ _ (c .before .before .before .before .before .before .before .pre) (c .before .before .before .setup-refusal .ensures) (c .before .before .if1 .left) (c .before .journal-right .ensures) (c .if2 .left)
 
 pub call-refusal-spec : {M : Type 1} → statement M
 call-refusal-spec =
     tie.close
     (tie.spec
     (λ c κs. search needs)
-    returns
+    (λ c. by-setup _ _ _ _ (c .before .before .before .before .before .pre) (c .before .setup-refusal .ensures) (c .if1 .taken))
     (λ c κs. search needs)
     returns-2
-    returns-3)
+    (λ c. by-none _ _ _ _ _ (c .before .before .before .before .before .before .before .pre) (c .before .before .before .setup-refusal .ensures) (c .before .before .if1 .left) (c .before .journal-right .ensures) (c .if2 .left)))

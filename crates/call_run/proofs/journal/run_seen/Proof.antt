@@ -4,8 +4,5 @@ use Rattle.call_run.proofs.Rows.{ranOf, row-ran}
 use Rattle.call_run.proofs.journal.run_seen.Statement.{statement}
 use Rattle.call_run.proofs.journal.run_seen.Tie as tie
 
-returns : tie.Need-returns
-returns c = ap ranOf (c .before .run-row .ensures) ∙ row-ran _ _ _ _ _ _ _
-
 pub run-seen-spec : {M : Type 1} → statement M
-run-seen-spec = tie.close (tie.spec (λ c κs. search needs) returns)
+run-seen-spec = tie.close (tie.spec (λ c κs. search needs) (λ c. ap ranOf (c .before .run-row .ensures) ∙ row-ran _ _ _ _ _ _ _))

@@ -21,12 +21,6 @@ Inv-loop asked sheet setup journal n position₀ opened₀ view₀ known₀ k₀
 abbrev μ-loop : tie.MeasureT-loop
 μ-loop asked sheet setup journal n position₀ opened₀ view₀ known₀ k₀ position opened view known k = n - k
 
-loop-holds : tie.Need-loop-holds Inv-loop μ-loop
-loop-holds c = (search needs, left-all _ _ _ _ _ _, c .before .before .before .pre .1 .0, λ n. absurd (n refl))
-
-decode-requires : tie.Need-decode-requires Inv-loop μ-loop
-decode-requires c κs = c .before .before .before .before .before .before .before .before .before .before .before .pre .0
-
 -- a step that is none
 returns : tie.Need-returns Inv-loop μ-loop
 unfolding decodeBytes stepAt
@@ -129,9 +123,6 @@ seen c =
     (λ w.
     w .4 ∙ w .3 .ensures ∙ seen-few _ _ _ _ fit e _ _ (taken m) z _ _ d (c .before .before .lowest .ensures .0) (sym (c .before .remove .ensures) ∙ w .0 .left))
 
-noted-requires : tie.Need-noted-requires Inv-loop μ-loop
-noted-requires c κs = (c .before .before .before .before .before .before .before .before .before .before .before .before .before .before .before .before .before .before .before .before .before .before .pre .0, seen (c .before))
-
 -- the counts, where they are asked for
 counted : (c : tie.Joined3 Inv-loop μ-loop)
     → let m = c .before .before .before .before .before .before in let l = m .before .before .before .before .before .before .before .before .before .before .before .before in let a = l .before .before .before .before .args in
@@ -151,20 +142,17 @@ loop-again c =
           (c .before .before .before .before .before .if1 .left) _ _ (m .before .before .before .before .before .before .before .before .soonest-due .ensures) (m .before .before .before .before .before .before .before .still-due .ensures),
     )
 
-returns-3 : tie.Need-returns-3 Inv-loop μ-loop
-returns-3 c = c .stopped3 .ensures ∙ left-ended _ _ _ _ _ _ _ _ (c .before .before .loop .inv .1) _ (c .before .before .loop .inv .2) (omega (arith, c .before .loop-test .left))
-
 pub run-row-spec : {M : Type 1} → statement M
 run-row-spec =
     tie.close
     (tie.spec
     Inv-loop
     μ-loop
-    loop-holds
+    (λ c. (search needs, left-all _ _ _ _ _ _, c .before .before .before .pre .1 .0, λ n. absurd (n refl)))
     (λ c. search needs) (λ c. search needs) (λ c. search needs) (λ c. search needs)
     soonest-due-requires
     (λ c κs. search needs) (λ c. search needs) (λ c. search needs) (λ c. search needs) (λ c. search needs)
-    decode-requires
+    (λ c κs. c .before .before .before .before .before .before .before .before .before .before .before .pre .0)
     (λ c. search needs) (λ c. search needs) (λ c κs. search needs)
     returns
     (λ c. search needs)
@@ -187,8 +175,8 @@ run-row-spec =
     (λ c κs. c .before .before .before .before .before .before .before .before .before .before .before .before .before .before .before .before .before .before .before .before .before .before .pre .0 .checked .sized)
     (λ c. search needs) (λ c. search needs)
     (λ c κs. c .before .before .before .before .lowest .ensures .1)
-    noted-requires
+    (λ c κs. (c .before .before .before .before .before .before .before .before .before .before .before .before .before .before .before .before .before .before .before .before .before .before .pre .0, seen (c .before)))
     (λ c. search needs) (λ c. search needs)
     loop-again
     (λ c κs. search needs)
-    returns-3)
+    (λ c. c .stopped3 .ensures ∙ left-ended _ _ _ _ _ _ _ _ (c .before .before .loop .inv .1) _ (c .before .before .loop .inv .2) (omega (arith, c .before .loop-test .left))))

@@ -15,9 +15,6 @@ Inv-loop sheet view x t n k₀ k = (k ≤ n) × (n ≡ parties sheet) × (n ≤ 
 abbrev μ-loop : tie.MeasureT-loop
 μ-loop sheet view x t n k₀ k = n - k
 
-loop-holds : tie.Need-loop-holds Inv-loop μ-loop
-loop-holds c = (search needs, c .parties .ensures .is, c .parties .ensures .few, any-start _)
-
 returns : tie.Need-returns Inv-loop μ-loop
 returns c =
     let l = c .before .before .before .before .loop in
@@ -29,9 +26,6 @@ loop-again c =
     let l = c .before .before .before .before .loop in
     (search needs, l .inv .1, l .inv .2, any-more _ _ (l .inv .3) (at-place _ _ _ _ _ _ _ (c .before .before .party-at .ensures) (c .before .at-hand .ensures) ∙ c .if1 .left))
 
-returns-2 : tie.Need-returns-2 Inv-loop μ-loop
-returns-2 c = let l = c .before .loop in rw (← (l .inv .1)) (any-done _ _ _ _ (l .inv .0) (c .loop-test .left) (l .inv .3))
-
 pub at-hand-of-some-spec : {M : Type 1} → statement M
 at-hand-of-some-spec =
     tie.close
@@ -39,9 +33,9 @@ at-hand-of-some-spec =
     Inv-loop
     μ-loop
     (λ c κs. search needs)
-    loop-holds
+    (λ c. (search needs, c .parties .ensures .is, c .parties .ensures .few, any-start _))
     (λ c κs. search needs) (λ c κs. search needs)
     returns
     (λ c. search needs) (λ c. search needs)
     loop-again
-    returns-2)
+    (λ c. let l = c .before .loop in rw (← (l .inv .1)) (any-done _ _ _ _ (l .inv .0) (c .loop-test .left) (l .inv .3))))

@@ -4,9 +4,6 @@ use Rattle.laws.proofs.Prelude.{sym, _∙_, not-true, not-false, needs}
 use Rattle.dated.proofs.opens.opens.Statement.{statement}
 use Rattle.dated.proofs.opens.opens.Tie as tie
 
-returns : tie.Need-returns
-returns c = under-lock _ _ _ _ _ _ (c .before .before .before .pre .1 .1) (sym (c .before .lock-reached .ensures) ∙ not-true _ (c .if1 .taken))
-
 returns-2 : tie.Need-returns-2
 returns-2 c =
     unsigned _ _ _ _ _ _
@@ -23,4 +20,11 @@ returns-3 c =
 
 pub opens-spec : {M : Type 1} → statement M
 opens-spec =
-    tie.close (tie.spec (λ c κs. search needs) returns (λ c κs. search needs) returns-2 (λ c κs. search needs) returns-3)
+    tie.close
+    (tie.spec
+    (λ c κs. search needs)
+    (λ c. under-lock _ _ _ _ _ _ (c .before .before .before .pre .1 .1) (sym (c .before .lock-reached .ensures) ∙ not-true _ (c .if1 .taken)))
+    (λ c κs. search needs)
+    returns-2
+    (λ c κs. search needs)
+    returns-3)

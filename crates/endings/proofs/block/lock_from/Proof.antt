@@ -4,16 +4,10 @@ use Rattle.endings.proofs.Locks.{lock-none, lock-days, lock-since}
 use Rattle.endings.proofs.block.lock_from.Statement.{statement}
 use Rattle.endings.proofs.block.lock_from.Tie as tie
 
-returns : tie.Need-returns
-returns c = record { is = lock-none _ _ _ _ _ (c .before .lock-type .ensures) (c .if1 .taken); small = search needs }
-
 returns-2 : tie.Need-returns-2
 returns-2 c =
     let c3 = c .before .before .before in
     record { is = lock-days _ _ _ _ _ (c3 .lock-type .ensures) _ (c .before .lock-blocks .ensures .is) (c .before .before .if1 .left) (c .if2 .taken); small = omega (arith, c .before .lock-blocks .ensures .small) }
-
-add-result : tie.Need-add-result
-add-result c = let h = c .before .lock-blocks .ensures .small in let g = c .before .before .before .before .before .pre .1 .1 in search needs
 
 returns-3 : tie.Need-returns-3
 returns-3 c =
@@ -25,8 +19,8 @@ lock-from-spec =
     tie.close
     (tie.spec
     (λ c κs. search needs)
-    returns
+    (λ c. record { is = lock-none _ _ _ _ _ (c .before .lock-type .ensures) (c .if1 .taken); small = search needs })
     (λ c κs. search needs)
     returns-2
-    add-result
+    (λ c. let h = c .before .lock-blocks .ensures .small in let g = c .before .before .before .before .before .pre .1 .1 in search needs)
     returns-3)

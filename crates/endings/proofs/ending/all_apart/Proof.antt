@@ -11,18 +11,6 @@ Inv-loop sheet mask n x₀ x = (x ≤ n) × (allBelow x (λ k. allBelow (count s
 abbrev μ-loop : tie.MeasureT-loop
 μ-loop sheet mask n x₀ x = n - x
 
-loop-holds : tie.Need-loop-holds Inv-loop μ-loop
-loop-holds c = (search needs, all-start _)
-
-returns : tie.Need-returns Inv-loop μ-loop
-returns c = sym (all-broken _ _ _ (omega (arith, c .before .before .loop-test .taken, c .before .before .before .before .count .ensures .is)) (sym (c .before .apart-from .ensures) ∙ not-true _ (c .if1 .taken)))
-
-loop-again : tie.Need-loop-again Inv-loop μ-loop
-loop-again c = (search needs, all-more _ _ (c .before .before .before .loop .inv .1) (sym (c .before .apart-from .ensures) ∙ not-false _ (c .if1 .left)))
-
-returns-2 : tie.Need-returns-2 Inv-loop μ-loop
-returns-2 c = all-done _ _ _ _ (omega (arith, c .before .loop .inv .0, c .before .before .count .ensures .is)) (omega (arith, c .loop-test .left, c .before .before .count .ensures .is)) (c .before .loop .inv .1)
-
 pub all-apart-spec : {M : Type 1} → statement M
 all-apart-spec =
     tie.close
@@ -30,9 +18,9 @@ all-apart-spec =
     Inv-loop
     μ-loop
     (λ c κs. search needs)
-    loop-holds
+    (λ c. (search needs, all-start _))
     (λ c κs. search needs)
-    returns
+    (λ c. sym (all-broken _ _ _ (omega (arith, c .before .before .loop-test .taken, c .before .before .before .before .count .ensures .is)) (sym (c .before .apart-from .ensures) ∙ not-true _ (c .if1 .taken))))
     (λ c. search needs) (λ c. search needs)
-    loop-again
-    returns-2)
+    (λ c. (search needs, all-more _ _ (c .before .before .before .loop .inv .1) (sym (c .before .apart-from .ensures) ∙ not-false _ (c .if1 .left))))
+    (λ c. all-done _ _ _ _ (omega (arith, c .before .loop .inv .0, c .before .before .count .ensures .is)) (omega (arith, c .loop-test .left, c .before .before .count .ensures .is)) (c .before .loop .inv .1)))

@@ -4,12 +4,6 @@ use borrow.Author.Needs.{needs}
 use Rattle.endings.proofs.ending.coins_apart.Statement.{statement}
 use Rattle.endings.proofs.ending.coins_apart.Tie as tie
 
-returns : tie.Need-returns
-returns c = apart-first _ _ _ _ _ (c .before .has .ensures) (c .if1 .taken)
-
-returns-2 : tie.Need-returns-2
-returns-2 c = apart-second _ _ _ _ _ (c .before .before .before .has .ensures) _ (c .before .has2 .ensures) (c .before .before .if1 .left) (c .if2 .taken)
-
 returns-3 : tie.Need-returns-3
 returns-3 c =
     let c3 = c .before .before .before in let c4 = c3 .before in let c5 = c4 .before in let c6 = c5 .before in
@@ -25,9 +19,9 @@ coins-apart-spec =
     tie.close
     (tie.spec
     (λ c κs. search needs)
-    returns
+    (λ c. apart-first _ _ _ _ _ (c .before .has .ensures) (c .if1 .taken))
     (λ c κs. search needs)
-    returns-2
+    (λ c. apart-second _ _ _ _ _ (c .before .before .before .has .ensures) _ (c .before .has2 .ensures) (c .before .before .if1 .left) (c .if2 .taken))
     (λ c κs. search needs) (λ c κs. search needs)
     returns-3
     returns-4)

@@ -5,10 +5,6 @@ use Rattle.endings.proofs.Naming.{possible-by}
 use Rattle.endings.proofs.ending.ending_refusal.Statement.{statement}
 use Rattle.endings.proofs.ending.ending_refusal.Tie as tie
 
-returns : tie.Need-returns
-unfolding endingTests
-returns c = fails 33 _ _ _ (c .before .ending-right .ensures) (c .if1 .taken)
-
 returns-2 : tie.Need-returns-2
 unfolding endingTests
 returns-2 c =
@@ -22,11 +18,12 @@ returns-3 c =
     passes 33 _ _ _ _ (c4 .ending-right .ensures) (c3 .if1 .left) (passes 34 0 _ _ _ (possible-by _ _ _ _ _ (c .before .before .per-day .ensures) (c .before .is-possible .ensures)) (c .if2 .left) none-left)
 
 pub ending-refusal-spec : {M : Type 1} → statement M
+unfolding endingTests
 ending-refusal-spec =
     tie.close
     (tie.spec
     (λ c κs. search needs)
-    returns
+    (λ c. fails 33 _ _ _ (c .before .ending-right .ensures) (c .if1 .taken))
     (λ c κs. search needs) (λ c κs. search needs)
     returns-2
     returns-3)

@@ -4,13 +4,11 @@ use Rattle.endings.specs.Ending.{isPossible}
 use Rattle.endings.proofs.ending.is_possible.Statement.{statement}
 use Rattle.endings.proofs.ending.is_possible.Tie as tie
 
-returns : tie.Need-returns
-unfolding isPossible
-returns c = simp (← (c .before .before .all-apart .ensures), c .before .if1 .taken, ← (c .all-in-time .ensures))
-
-returns-2 : tie.Need-returns-2
-unfolding isPossible
-returns-2 c = simp (← (c .before .all-apart .ensures), c .if1 .left)
-
 pub is-possible-spec : {M : Type 1} → statement M
-is-possible-spec = tie.close (tie.spec (λ c κs. search needs) (λ c κs. search needs) returns returns-2)
+unfolding isPossible
+is-possible-spec =
+    tie.close
+    (tie.spec
+    (λ c κs. search needs) (λ c κs. search needs)
+    (λ c. simp (← (c .before .before .all-apart .ensures), c .before .if1 .taken, ← (c .all-in-time .ensures)))
+    (λ c. simp (← (c .before .all-apart .ensures), c .if1 .left)))

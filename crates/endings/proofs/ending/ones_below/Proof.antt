@@ -9,28 +9,16 @@ Inv-loop mask n sum₀ t₀ sum t = (t ≤ n) × (sum ≤ t) × (sum ≡ sumBelo
 abbrev μ-loop : tie.MeasureT-loop
 μ-loop mask n sum₀ t₀ sum t = n - t
 
-loop-holds : tie.Need-loop-holds Inv-loop μ-loop
-loop-holds c = (search needs, search needs, sum-start _)
-
-add-sum : tie.Need-add-sum Inv-loop μ-loop
-add-sum c = let h = c .one-if .ensures .few in let g = c .before .before .loop .inv .1 in search needs
-
-loop-again : tie.Need-loop-again Inv-loop μ-loop
-loop-again c = (search needs, omega (arith, c .before .before .loop .inv .1, c .one-if .ensures .few), sum-more _ _ _ _ (c .before .before .loop .inv .2) (c .one-if .ensures .is))
-
-returns : tie.Need-returns Inv-loop μ-loop
-unfolding bitsBelow
-returns c = let l = c .before .loop in record { is = sum-done _ _ _ _ (l .inv .0) (c .loop-test .left) (l .inv .2); few = omega (arith, l .inv .0, l .inv .1) }
-
 pub ones-below-spec : {M : Type 1} → statement M
+unfolding bitsBelow
 ones-below-spec =
     tie.close
     (tie.spec
     Inv-loop
     μ-loop
-    loop-holds
+    (λ c. (search needs, search needs, sum-start _))
     (λ c κs. search needs)
-    add-sum
+    (λ c. let h = c .one-if .ensures .few in let g = c .before .before .loop .inv .1 in search needs)
     (λ c. search needs) (λ c. search needs)
-    loop-again
-    returns)
+    (λ c. (search needs, omega (arith, c .before .before .loop .inv .1, c .one-if .ensures .few), sum-more _ _ _ _ (c .before .before .loop .inv .2) (c .one-if .ensures .is)))
+    (λ c. let l = c .before .loop in record { is = sum-done _ _ _ _ (l .inv .0) (c .loop-test .left) (l .inv .2); few = omega (arith, l .inv .0, l .inv .1) }))

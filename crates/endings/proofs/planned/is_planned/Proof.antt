@@ -11,30 +11,17 @@ Inv-loop sheet mask t n x₀ x = (x ≤ n) × (anyBelow x (λ k. bit mask k && i
 abbrev μ-loop : tie.MeasureT-loop
 μ-loop sheet mask t n x₀ x = n - x
 
-loop-holds : tie.Need-loop-holds Inv-loop μ-loop
-loop-holds c = (search needs, any-start _)
-
-returns : tie.Need-returns Inv-loop μ-loop
-unfolding planned
-returns c = rw (← (c .before .before .before .before .count .ensures .is)) (sym (any-found _ _ _ (c .before .before .loop-test .taken) (sym (c .before .leads-to .ensures) ∙ c .if1 .taken)))
-
-loop-again : tie.Need-loop-again Inv-loop μ-loop
-loop-again c = (search needs, any-more _ _ (c .before .before .before .loop .inv .1) (sym (c .before .leads-to .ensures) ∙ c .if1 .left))
-
-returns-2 : tie.Need-returns-2 Inv-loop μ-loop
-unfolding planned
-returns-2 c = rw (← (c .before .before .count .ensures .is)) (any-done _ _ _ _ (c .before .loop .inv .0) (c .loop-test .left) (c .before .loop .inv .1))
-
 pub is-planned-spec : {M : Type 1} → statement M
+unfolding planned
 is-planned-spec =
     tie.close
     (tie.spec
     Inv-loop
     μ-loop
     (λ c κs. search needs)
-    loop-holds
+    (λ c. (search needs, any-start _))
     (λ c κs. search needs)
-    returns
+    (λ c. rw (← (c .before .before .before .before .count .ensures .is)) (sym (any-found _ _ _ (c .before .before .loop-test .taken) (sym (c .before .leads-to .ensures) ∙ c .if1 .taken))))
     (λ c. search needs) (λ c. search needs)
-    loop-again
-    returns-2)
+    (λ c. (search needs, any-more _ _ (c .before .before .before .loop .inv .1) (sym (c .before .leads-to .ensures) ∙ c .if1 .left)))
+    (λ c. rw (← (c .before .before .count .ensures .is)) (any-done _ _ _ _ (c .before .loop .inv .0) (c .loop-test .left) (c .before .loop .inv .1))))

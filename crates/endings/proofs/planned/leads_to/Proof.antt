@@ -9,8 +9,5 @@ returns c =
     let c3 = c .before .before .before in let c5 = c3 .before .before in
     simp (← (c3 .has .ensures), c .before .before .if1 .taken) (c .has2 .ensures ∙ rw (c .before .line-of .ensures) (line-bit _ _ _ (omega (arith, c5 .pre .0 .few, c5 .pre .1 .1)) (omega (arith, c5 .pre .0 .few, c5 .pre .1 .0))))
 
-returns-2 : tie.Need-returns-2
-returns-2 c = simp (← (c .before .has .ensures), c .if1 .left)
-
 pub leads-to-spec : {M : Type 1} → statement M
-leads-to-spec = tie.close (tie.spec (λ c κs. search needs) (λ c κs. search needs) (λ c κs. search needs) returns returns-2)
+leads-to-spec = tie.close (tie.spec (λ c κs. search needs) (λ c κs. search needs) (λ c κs. search needs) returns (λ c. simp (← (c .before .has .ensures), c .if1 .left)))

@@ -13,20 +13,11 @@ Inv-loop last below sum₀ i₀ sum i = (i ≤ 28) × (sum ≤ 32 * i) × (sum �
 abbrev μ-loop : tie.MeasureT-loop
 μ-loop last below sum₀ i₀ sum i = 28 - i
 
-loop-holds : tie.Need-loop-holds Inv-loop μ-loop
-loop-holds c = (search needs, search needs, sum-start _)
-
-add-sum : tie.Need-add-sum Inv-loop μ-loop
-add-sum c = let h = c .ones .ensures .small in search needs
-
 loop-again : tie.Need-loop-again Inv-loop μ-loop
 loop-again c =
     let l = c .before .before .loop in
     let n : l .sum + c .ones .result ≤ 32 * (l .i + 1) = omega (arith, l .inv .1, c .ones .ensures .small) in
     (search needs, n, sum-more _ _ _ _ (l .inv .2) (c .ones .ensures .is))
-
-add-result : tie.Need-add-result Inv-loop μ-loop
-add-result c = let h = c .ones2 .ensures .small in search needs
 
 returns : tie.Need-returns Inv-loop μ-loop
 unfolding openCount
@@ -46,11 +37,11 @@ open-count-spec =
     (tie.spec
     Inv-loop
     μ-loop
-    loop-holds
+    (λ c. (search needs, search needs, sum-start _))
     (λ c. search needs) (λ c. search needs) (λ c κs. search needs)
-    add-sum
+    (λ c. let h = c .ones .ensures .small in search needs)
     (λ c. search needs) (λ c. search needs)
     loop-again
     (λ c κs. search needs)
-    add-result
+    (λ c. let h = c .ones2 .ensures .small in search needs)
     returns)

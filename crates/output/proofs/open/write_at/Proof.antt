@@ -14,16 +14,6 @@ Inv-loop kind actor t out₀ on at₀ d₀ out at d = Turns (turn on kind actor 
 abbrev μ-loop : tie.MeasureT-loop
 μ-loop kind actor t out₀ on at₀ d₀ out at d = 4 - d
 
-loop-holds : tie.Need-loop-holds Inv-loop μ-loop
-unfolding emittedAt
-loop-holds c = turns-start _ _ _ (c .before .pre)
-
-sub-write-step : tie.Need-sub-write-step Inv-loop μ-loop
-sub-write-step c = omega (arith, c .before .loop .inv .wrote)
-
-part-write-step-start : tie.Need-part-write-step-start Inv-loop μ-loop
-part-write-step-start c = omega (arith, c .before .loop .inv .wrote)
-
 write-step-requires : tie.Need-write-step-requires Inv-loop μ-loop
 unfolding opens
 write-step-requires c κs =
@@ -46,27 +36,21 @@ loop-again c =
     let w = c .before .before .write-step in
     turn-more (turn (a .t1) (a .kind) (a .actor) (a .t)) _ _ _ _ _ _ _ (l .inv) (c .before .before .before .before .loop-test .taken) (w .ensures .0) (w .ensures .1)
 
-same-length : tie.Need-same-length Inv-loop μ-loop
-same-length c = c .before .loop .inv .wrote .long
-
-returns : tie.Need-returns Inv-loop μ-loop
-unfolding emittedAt
-returns c = let w = turns-done _ _ _ _ _ _ (c .before .loop .inv) (c .loop-test .left) in (w .at, w .is)
-
 pub write-at-spec : {M : Type 1} → statement M
+unfolding emittedAt
 write-at-spec =
     tie.close
     (tie.spec
     Inv-loop
     μ-loop
-    loop-holds
+    (λ c. turns-start _ _ _ (c .before .pre))
     (λ c. search needs) (λ c. search needs)
-    sub-write-step
-    part-write-step-start
+    (λ c. omega (arith, c .before .loop .inv .wrote))
+    (λ c. omega (arith, c .before .loop .inv .wrote))
     (λ c. search needs)
     write-step-requires
     add-at
     (λ c. search needs) (λ c. search needs)
     loop-again
-    same-length
-    returns)
+    (λ c. c .before .loop .inv .wrote .long)
+    (λ c. let w = turns-done _ _ _ _ _ _ (c .before .loop .inv) (c .loop-test .left) in (w .at, w .is)))

@@ -22,12 +22,6 @@ loop-holds c =
     let a = c .before .before .args in
     turns-start _ _ _ (rw (four-below (a .t1) (a .actor) (a .k)) at (c .before .before .pre .1))
 
-sub-write-transaction : tie.Need-sub-write-transaction Inv-loop μ-loop
-sub-write-transaction c = omega (arith, c .before .loop .inv .wrote)
-
-part-write-transaction-start : tie.Need-part-write-transaction-start Inv-loop μ-loop
-part-write-transaction-start c = omega (arith, c .before .loop .inv .wrote)
-
 write-transaction-requires : tie.Need-write-transaction-requires Inv-loop μ-loop
 write-transaction-requires c κs =
     let t = c .before .loop-test .taken in
@@ -43,9 +37,6 @@ loop-again c =
     let w = c .before .before .write-transaction in
     let t = c .before .before .before .before .loop-test .taken in
     turn-more _ _ _ _ _ _ _ _ (c .before .before .before .before .before .loop .inv) t (w .ensures .0) (w .ensures .1)
-
-same-length : tie.Need-same-length Inv-loop μ-loop
-same-length c = c .before .loop .inv .wrote .long
 
 returns-2 : tie.Need-returns-2 Inv-loop μ-loop
 returns-2 c =
@@ -64,12 +55,12 @@ write-below-spec =
     returns
     (λ c. search needs) (λ c. search needs)
     loop-holds
-    sub-write-transaction
-    part-write-transaction-start
+    (λ c. omega (arith, c .before .loop .inv .wrote))
+    (λ c. omega (arith, c .before .loop .inv .wrote))
     (λ c. search needs)
     write-transaction-requires
     add-at
     (λ c. search needs) (λ c. search needs)
     loop-again
-    same-length
+    (λ c. c .before .loop .inv .wrote .long)
     returns-2)

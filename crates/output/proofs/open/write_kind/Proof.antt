@@ -33,39 +33,21 @@ two c =
     let w = c .before .before .write-last in
     wrote-more _ _ _ _ _ _ _ (one (c .before .before .before .before)) (fits s) (w .ensures .0) (w .ensures .1)
 
-write-below-requires : tie.Need-write-below-requires
-write-below-requires c κs = let s = c .before .before in (search needs, front-fits (start s) (rest s) _ (fits s))
-
-sub-write-last : tie.Need-sub-write-last
-sub-write-last c = omega (arith, one c)
-
-part-write-last-start : tie.Need-part-write-last-start
-part-write-last-start c = omega (arith, one c)
-
 write-last-requires : tie.Need-write-last-requires
 write-last-requires c κs =
     let s = c .before .before .before .before .before .before in
     (search needs, wrote-room _ _ _ (rest s) _ (one (c .before)) (fits s))
 
-add-result : tie.Need-add-result
-add-result c = omega (arith, two c)
-
-same-length : tie.Need-same-length
-same-length c = two c .long
-
-returns : tie.Need-returns
-unfolding kindBytes
-returns c = (two c .at, two c .is)
-
 pub write-kind-spec : {M : Type 1} → statement M
+unfolding kindBytes
 write-kind-spec =
     tie.close
     (tie.spec
-    write-below-requires
-    sub-write-last
-    part-write-last-start
+    (λ c κs. let s = c .before .before in (search needs, front-fits (start s) (rest s) _ (fits s)))
+    (λ c. omega (arith, one c))
+    (λ c. omega (arith, one c))
     (λ c. search needs)
     write-last-requires
-    add-result
-    same-length
-    returns)
+    (λ c. omega (arith, two c))
+    (λ c. two c .long)
+    (λ c. (two c .at, two c .is)))

@@ -4,9 +4,6 @@ use Rattle.laws.proofs.Prelude.{over-none, refl, needs}
 use Rattle.output.proofs.open.write_last.Statement.{statement}
 use Rattle.output.proofs.open.write_last.Tie as tie
 
-returns : tie.Need-returns
-returns c = let a = c .before .before .args in rw (none-last (a .last) (a .actor) (a .k) (c .if1 .taken)) (refl, over-none _)
-
 write-at-requires : tie.Need-write-at-requires
 write-at-requires c κs =
     let c3 = c .before .before .before in let c4 = c3 .before in let c7 = c4 .before .before .before in
@@ -26,7 +23,7 @@ write-last-spec =
     tie.close
     (tie.spec
     (λ c. search needs) (λ c. search needs) (λ c. search needs)
-    returns
+    (λ c. let a = c .before .before .args in rw (none-last (a .last) (a .actor) (a .k) (c .if1 .taken)) (refl, over-none _))
     (λ c κs. search needs) (λ c. search needs) (λ c κs. search needs) (λ c. search needs) (λ c κs. search needs) (λ c. search needs)
     (λ c κs. search needs) (λ c. search needs) (λ c. search needs)
     write-at-requires

@@ -10,16 +10,6 @@ Inv-loop below last actor out₀ at₀ k₀ out at k = Turns (kindBytes below la
 abbrev μ-loop : tie.MeasureT-loop
 μ-loop below last actor out₀ at₀ k₀ out at k = 7 - k
 
-loop-holds : tie.Need-loop-holds Inv-loop μ-loop
-unfolding actorBytes
-loop-holds c = turns-start _ _ _ (c .before .pre)
-
-sub-write-kind : tie.Need-sub-write-kind Inv-loop μ-loop
-sub-write-kind c = omega (arith, c .before .loop .inv .wrote)
-
-part-write-kind-start : tie.Need-part-write-kind-start Inv-loop μ-loop
-part-write-kind-start c = omega (arith, c .before .loop .inv .wrote)
-
 write-kind-requires : tie.Need-write-kind-requires Inv-loop μ-loop
 write-kind-requires c κs =
     let t = c .before .loop-test .taken in
@@ -36,26 +26,20 @@ loop-again c =
     let t = c .before .before .before .before .loop-test .taken in
     turn-more _ _ _ _ _ _ _ _ (c .before .before .before .before .before .loop .inv) t (w .ensures .0) (w .ensures .1)
 
-same-length : tie.Need-same-length Inv-loop μ-loop
-same-length c = c .before .loop .inv .wrote .long
-
-returns : tie.Need-returns Inv-loop μ-loop
-unfolding actorBytes
-returns c = let w = turns-done _ _ _ _ _ _ (c .before .loop .inv) (c .loop-test .left) in (w .at, w .is)
-
 pub write-open-spec : {M : Type 1} → statement M
+unfolding actorBytes
 write-open-spec =
     tie.close
     (tie.spec
     Inv-loop
     μ-loop
-    loop-holds
-    sub-write-kind
-    part-write-kind-start
+    (λ c. turns-start _ _ _ (c .before .pre))
+    (λ c. omega (arith, c .before .loop .inv .wrote))
+    (λ c. omega (arith, c .before .loop .inv .wrote))
     (λ c. search needs)
     write-kind-requires
     add-at
     (λ c. search needs) (λ c. search needs)
     loop-again
-    same-length
-    returns)
+    (λ c. c .before .loop .inv .wrote .long)
+    (λ c. let w = turns-done _ _ _ _ _ _ (c .before .loop .inv) (c .loop-test .left) in (w .at, w .is)))

@@ -33,31 +33,19 @@ two c =
     let s = k .before .before .before .before .before in
     wrote-more (first s) _ (after1 k) _ _ 4 4 (one k) (fits s) (sym (length-bytes 4 (s .args .second))) (c .before .before .write-number2 .ensures)
 
-sub-write-number : tie.Need-sub-write-number
-sub-write-number c = omega (arith, one c, (c .before .before .before .before .before) .pre)
-
-part-write-number-start : tie.Need-part-write-number-start
-part-write-number-start c = omega (arith, one c, (c .before .before .before .before .before) .pre)
-
 write-number-requires-2 : tie.Need-write-number-requires-2
 write-number-requires-2 c κs =
     let s = c .before .before .before .before .before .before in
     omega (arith, length-bytes 4 (s .args .second), wrote-room (first s) _ (after1 (c .before)) (second s) 4 (one (c .before)) (fits s))
-
-same-length : tie.Need-same-length
-same-length c = two c .long
-
-returns : tie.Need-returns
-returns c = two c .is
 
 pub write-pair-spec : {M : Type 1} → statement M
 write-pair-spec =
     tie.close
     (tie.spec
     (λ c κs. search needs)
-    sub-write-number
-    part-write-number-start
+    (λ c. omega (arith, one c, (c .before .before .before .before .before) .pre))
+    (λ c. omega (arith, one c, (c .before .before .before .before .before) .pre))
     (λ c. search needs)
     write-number-requires-2
-    same-length
-    returns)
+    (λ c. two c .long)
+    (λ c. two c .is))

@@ -60,36 +60,15 @@ three c =
     let s = k .before .before .before .before .before in
     wrote-more (head s ++ heights s) _ (after2 k) (later s) _ 10 8 (two k) (fits s) (sym (eight (s .args .deadline) (s .args .opened))) (c .before .before .write-pair2 .ensures)
 
-slice-write-out : tie.Need-slice-write-out
-slice-write-out c = omega (arith, room (c .before))
-
-slice-write-out-2 : tie.Need-slice-write-out-2
-slice-write-out-2 c = simp length-set (omega (arith, room (c .before)))
-
-sub-write-pair : tie.Need-sub-write-pair
-sub-write-pair c = omega (arith, one (c .before))
-
-part-write-pair-start : tie.Need-part-write-pair-start
-part-write-pair-start c = omega (arith, one (c .before))
-
 write-pair-requires : tie.Need-write-pair-requires
 write-pair-requires c κs =
     let s = c .before .before in
     omega (arith, eight (s .args .block) (s .args .lock), wrote-room (head s) _ (stored s) (heights s) 2 (one s) (fits-heights s))
 
-sub-write-pair-2 : tie.Need-sub-write-pair-2
-sub-write-pair-2 c = omega (arith, two c)
-
-part-write-pair-start-2 : tie.Need-part-write-pair-start-2
-part-write-pair-start-2 c = omega (arith, two c)
-
 write-pair-requires-2 : tie.Need-write-pair-requires-2
 write-pair-requires-2 c κs =
     let s = c .before .before .before .before .before .before in
     omega (arith, eight (s .args .deadline) (s .args .opened), wrote-room (head s ++ heights s) _ (after2 (c .before)) (later s) 10 (two (c .before)) (fits s))
-
-same-length : tie.Need-same-length
-same-length c = three c .long
 
 returns : tie.Need-returns
 returns c =
@@ -100,15 +79,15 @@ pub write-row-spec : {M : Type 1} → statement M
 write-row-spec =
     tie.close
     (tie.spec
-    slice-write-out
-    slice-write-out-2
-    sub-write-pair
-    part-write-pair-start
+    (λ c. omega (arith, room (c .before)))
+    (λ c. simp length-set (omega (arith, room (c .before))))
+    (λ c. omega (arith, one (c .before)))
+    (λ c. omega (arith, one (c .before)))
     (λ c. search needs)
     write-pair-requires
-    sub-write-pair-2
-    part-write-pair-start-2
+    (λ c. omega (arith, two c))
+    (λ c. omega (arith, two c))
     (λ c. search needs)
     write-pair-requires-2
-    same-length
+    (λ c. three c .long)
     returns)

@@ -10,28 +10,16 @@ Inv-loop position sheet setup context dests actor below₀ i₀ below i = (i ≤
 abbrev μ-loop : tie.MeasureT-loop
 μ-loop position sheet setup context dests actor below₀ i₀ below i = 28 - i
 
-loop-holds : tie.Need-loop-holds Inv-loop μ-loop
-loop-holds c = (search needs, rewrite-start _ _, search needs)
-
-open-set-requires : tie.Need-open-set-requires Inv-loop μ-loop
-open-set-requires c κs = (c .before .before .before .before .pre .0, ((c .before .before .before .before .pre .1 .0), ((c .before .before .before .before .pre .1 .1), search needs)))
-
-loop-again : tie.Need-loop-again Inv-loop μ-loop
-loop-again c = (search needs, rewrite-again _ _ _ _ 0 _ (c .before .before .loop .inv .1) (c .open-set .ensures), search needs)
-
-returns : tie.Need-returns Inv-loop μ-loop
-unfolding belowSets
-returns c = rewrite-done _ _ _ _ _ (c .before .loop .inv .0) (c .loop-test .left) (c .before .loop .inv .1)
-
 pub below-sets-spec : {M : Type 1} → statement M
+unfolding belowSets
 below-sets-spec =
     tie.close
     (tie.spec
     Inv-loop
     μ-loop
-    loop-holds
+    (λ c. (search needs, rewrite-start _ _, search needs))
     (λ c. search needs) (λ c. search needs) (λ c. search needs)
-    open-set-requires
+    (λ c κs. (c .before .before .before .before .pre .0, ((c .before .before .before .before .pre .1 .0), ((c .before .before .before .before .pre .1 .1), search needs))))
     (λ c. search needs) (λ c. search needs) (λ c. search needs) (λ c. search needs)
-    loop-again
-    returns)
+    (λ c. (search needs, rewrite-again _ _ _ _ 0 _ (c .before .before .loop .inv .1) (c .open-set .ensures), search needs))
+    (λ c. rewrite-done _ _ _ _ _ (c .before .loop .inv .0) (c .loop-test .left) (c .before .loop .inv .1)))

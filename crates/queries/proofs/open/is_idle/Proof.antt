@@ -4,17 +4,12 @@ use Rattle.laws.proofs.Prelude.{sym, _∙_, not-true, not-false, needs}
 use Rattle.queries.proofs.open.is_idle.Statement.{statement}
 use Rattle.queries.proofs.open.is_idle.Tie as tie
 
-returns : tie.Need-returns
-unfolding isIdle
-returns c = rw (sym (c .before .before .is-party .ensures) ∙ not-true _ (c .before .if1 .taken))
-
-returns-2 : tie.Need-returns-2
-unfolding isIdle
-returns-2 c = rw (sym (c .before .before .is-party .ensures) ∙ not-false _ (c .before .if1 .left), c .if2 .taken)
-
-returns-3 : tie.Need-returns-3
-unfolding isIdle
-returns-3 c = rw (sym (c .before .before .before .is-party .ensures) ∙ not-false _ (c .before .before .if1 .left), c .before .if2 .left)
-
 pub is-idle-spec : {M : Type 1} → statement M
-is-idle-spec = tie.close (tie.spec (λ c κs. search needs) returns returns-2 returns-3)
+unfolding isIdle
+is-idle-spec =
+    tie.close
+    (tie.spec
+    (λ c κs. search needs)
+    (λ c. rw (sym (c .before .before .is-party .ensures) ∙ not-true _ (c .before .if1 .taken)))
+    (λ c. rw (sym (c .before .before .is-party .ensures) ∙ not-false _ (c .before .if1 .left), c .if2 .taken))
+    (λ c. rw (sym (c .before .before .before .is-party .ensures) ∙ not-false _ (c .before .before .if1 .left), c .before .if2 .left)))

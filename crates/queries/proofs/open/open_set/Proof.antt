@@ -5,9 +5,6 @@ use Rattle.laws.proofs.Prelude.{refl, sym, _∙_, not-false, needs}
 use Rattle.queries.proofs.open.open_set.Statement.{statement}
 use Rattle.queries.proofs.open.open_set.Tie as tie
 
-returns : tie.Need-returns
-returns c = set-none _ _ _ _ _ _ _ (c .before .may-stand .ensures) (c .if1 .taken)
-
 returns-2 : tie.Need-returns-2
 returns-2 c = set-given _ _ _ _ _ _ _ _ _ (c .before .before .before .before .before .before .pre .0)
     (c .before .before .before .before .before .before .pre .0 .checked .signatures-few)
@@ -29,9 +26,15 @@ sheet-set-requires c κs =
     let p = c .before .before .before .before .before .before .before .pre in
     (p .0, (p .1 .0, (p .1 .1 .0, (sym (c .before .before .before .before .may-stand .ensures) ∙ not-false _ (c .before .before .before .if1 .left), (c .before .before .if2 .left, p .1 .1 .1)))))
 
-returns-4 : tie.Need-returns-4
-returns-4 c = set-sheet _ _ _ _ _ _ _ (c .before .before .before .before .before .before .before .before .pre .0 .checked .sized .few) (c .before .before .before .if2 .left) (c .sheet-set .ensures)
-
 pub open-set-spec : {M : Type 1} → statement M
 open-set-spec =
-    tie.close (tie.spec (λ c κs. search needs) returns (λ c κs. search needs) returns-2 (λ c κs. search needs) returns-3 sheet-set-requires returns-4)
+    tie.close
+    (tie.spec
+    (λ c κs. search needs)
+    (λ c. set-none _ _ _ _ _ _ _ (c .before .may-stand .ensures) (c .if1 .taken))
+    (λ c κs. search needs)
+    returns-2
+    (λ c κs. search needs)
+    returns-3
+    sheet-set-requires
+    (λ c. set-sheet _ _ _ _ _ _ _ (c .before .before .before .before .before .before .before .before .pre .0 .checked .sized .few) (c .before .before .before .if2 .left) (c .sheet-set .ensures)))

@@ -73,9 +73,6 @@ loop-again c =
       c .next2 .ensures .here,
     )
 
-returns : tie.Need-returns Inv-loop μ-loop
-returns c = rw (← (c .before .before .before .before .count .ensures .is)) (set-done _ _ _ _ (c .before .loop .inv .0) (c .loop-test .left) (c .before .loop .inv .1))
-
 pub sheet-set-spec : {M : Type 1} → statement M
 sheet-set-spec =
     tie.close
@@ -88,4 +85,4 @@ sheet-set-spec =
     accepted-as-requires
     (λ c κs. search needs) (λ c. search needs) (λ c κs. search needs) (λ c. search needs)
     loop-again
-    returns)
+    (λ c. rw (← (c .before .before .before .before .count .ensures .is)) (set-done _ _ _ _ (c .before .loop .inv .0) (c .loop-test .left) (c .before .loop .inv .1))))

@@ -19,12 +19,6 @@ loop-holds c =
     let n = c .before .before .count in
     turns-start _ _ _ (rows-room (k .args .sheet .now) (k .args .setup .now) (k .args .t1) (k .args .t3) (n .result) _ (n .ensures .is) (k .pre .1 .1))
 
-sub-write-row : tie.Need-sub-write-row Inv-loop μ-loop
-sub-write-row c = omega (arith, c .before .before .before .before .before .before .loop .inv .wrote)
-
-part-write-row-start : tie.Need-part-write-row-start Inv-loop μ-loop
-part-write-row-start c = omega (arith, c .before .before .before .before .before .before .loop .inv .wrote)
-
 array-read-write-row : tie.Need-array-read-write-row Inv-loop μ-loop
 array-read-write-row c =
     omega (
@@ -69,14 +63,8 @@ loop-again c =
     (c .before .before .before .before .before .block-above .ensures)) (c .before .before .before .before .row .ensures) refl o in
     turn-more _ _ _ _ _ _ _ rowWidth (i .inv) m (sym (row-length (k .args .sheet .now) (k .args .setup .now) (k .args .t1) (k .args .t3) (i .t))) (rw wrote at (c .before .before .write-row .ensures))
 
-same-length : tie.Need-same-length Inv-loop μ-loop
-same-length c = c .before .loop .inv .wrote .long
-
-returns : tie.Need-returns Inv-loop μ-loop
-unfolding reportBytes
-returns c = rw (← (c .before .before .before .before .count .ensures .is)) (turns-done _ _ _ _ _ _ (c .before .loop .inv) (c .loop-test .left) .is)
-
 pub write-report-spec : {M : Type 1} → statement M
+unfolding reportBytes
 write-report-spec =
     tie.close
     (tie.spec
@@ -86,13 +74,13 @@ write-report-spec =
     loop-holds
     (λ c. search needs) (λ c. search needs) (λ c κs. search needs) (λ c. search needs) (λ c. search needs) (λ c κs. search needs)
     (λ c κs. search needs)
-    sub-write-row
-    part-write-row-start
+    (λ c. omega (arith, c .before .before .before .before .before .before .loop .inv .wrote))
+    (λ c. omega (arith, c .before .before .before .before .before .before .loop .inv .wrote))
     (λ c. search needs) (λ c. search needs)
     array-read-write-row
     write-row-requires
     add-at
     (λ c. search needs) (λ c. search needs)
     loop-again
-    same-length
-    returns)
+    (λ c. c .before .loop .inv .wrote .long)
+    (λ c. rw (← (c .before .before .before .before .count .ensures .is)) (turns-done _ _ _ _ _ _ (c .before .loop .inv) (c .loop-test .left) .is)))

@@ -12,24 +12,15 @@ Inv-loop sheet confirmed coin n found₀ t₀ found t = (t ≤ n) × (found ≡ 
 abbrev μ-loop : tie.MeasureT-loop
 μ-loop sheet confirmed coin n found₀ t₀ found t = n - t
 
-loop-holds : tie.Need-loop-holds Inv-loop μ-loop
-loop-holds c = (search needs, end-start _)
-
-loop-again : tie.Need-loop-again Inv-loop μ-loop
-loop-again c = (search needs, end-more _ _ _ _ (c .before .before .loop .inv .1) (c .end-at .ensures))
-
-returns : tie.Need-returns Inv-loop μ-loop
-unfolding coinEnd holder
-returns c = rw (← (c .before .before .count .ensures .is)) (end-done _ _ _ _ (c .before .loop .inv .0) (c .loop-test .left) (c .before .loop .inv .1))
-
 pub coin-end-spec : {M : Type 1} → statement M
+unfolding coinEnd holder
 coin-end-spec =
     tie.close
     (tie.spec
     Inv-loop
     μ-loop
     (λ c κs. search needs)
-    loop-holds
+    (λ c. (search needs, end-start _))
     (λ c κs. search needs) (λ c. search needs) (λ c. search needs)
-    loop-again
-    returns)
+    (λ c. (search needs, end-more _ _ _ _ (c .before .before .loop .inv .1) (c .end-at .ensures)))
+    (λ c. rw (← (c .before .before .count .ensures .is)) (end-done _ _ _ _ (c .before .loop .inv .0) (c .loop-test .left) (c .before .loop .inv .1))))

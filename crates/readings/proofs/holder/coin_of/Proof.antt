@@ -5,9 +5,6 @@ use borrow.Author.Needs.{needs}
 use Rattle.readings.proofs.holder.coin_of.Statement.{statement}
 use Rattle.readings.proofs.holder.coin_of.Tie as tie
 
-returns : tie.Need-returns
-unfolding coinOf coinFrom
-returns c = c .coin-from .ensures
-
 pub coin-of-spec : {M : Type 1} → statement M
-coin-of-spec = tie.close (tie.spec (λ c κs. search needs) returns)
+unfolding coinOf coinFrom
+coin-of-spec = tie.close (tie.spec (λ c κs. search needs) (λ c. c .coin-from .ensures))

@@ -3,11 +3,10 @@ use borrow.Author.Needs.{needs}
 use Rattle.readings.proofs.holder.end_at.Statement.{statement}
 use Rattle.readings.proofs.holder.end_at.Tie as tie
 
-returns : tie.Need-returns
-returns c = rw (← (c .before .ends-coin .ensures), c .if1 .taken)
-
-returns-2 : tie.Need-returns-2
-returns-2 c = rw (← (c .before .ends-coin .ensures), c .if1 .left)
-
 pub end-at-spec : {M : Type 1} → statement M
-end-at-spec = tie.close (tie.spec (λ c κs. search needs) returns returns-2)
+end-at-spec =
+    tie.close
+    (tie.spec
+    (λ c κs. search needs)
+    (λ c. rw (← (c .before .ends-coin .ensures), c .if1 .taken))
+    (λ c. rw (← (c .before .ends-coin .ensures), c .if1 .left)))

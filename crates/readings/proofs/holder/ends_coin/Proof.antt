@@ -4,14 +4,6 @@ use Rattle.laws.proofs.Prelude.{tests, not-true, not-false, needs}
 use Rattle.readings.proofs.holder.ends_coin.Statement.{statement}
 use Rattle.readings.proofs.holder.ends_coin.Tie as tie
 
-returns : tie.Need-returns
-unfolding endsCoin
-returns c = simp (tests, ← (c .before .coin-of .ensures), c .if1 .taken)
-
-returns-2 : tie.Need-returns-2
-unfolding endsCoin
-returns-2 c = simp (tests, ← (c .before .before .before .coin-of .ensures), c .before .before .if1 .left, ← (c .before .has .ensures), not-true (c .before .has .result) (c .if2 .taken))
-
 returns-3 : tie.Need-returns-3
 unfolding endsCoin
 returns-3 c =
@@ -19,6 +11,13 @@ returns-3 c =
     simp (tests, ← (c4 .coin-of .ensures), c3 .if1 .left, ← (c .before .before .has .ensures), not-false (c .before .before .has .result) (c .before .if2 .left), ← (c .confirmed-child .ensures))
 
 pub ends-coin-spec : {M : Type 1} → statement M
+unfolding endsCoin
 ends-coin-spec =
     tie.close
-    (tie.spec (λ c κs. search needs) returns (λ c κs. search needs) returns-2 (λ c κs. search needs) returns-3)
+    (tie.spec
+    (λ c κs. search needs)
+    (λ c. simp (tests, ← (c .before .coin-of .ensures), c .if1 .taken))
+    (λ c κs. search needs)
+    (λ c. simp (tests, ← (c .before .before .before .coin-of .ensures), c .before .before .if1 .left, ← (c .before .has .ensures), not-true (c .before .has .result) (c .if2 .taken)))
+    (λ c κs. search needs)
+    returns-3)

@@ -10,15 +10,6 @@ Inv-loop sheet context actor destination n found₀ i₀ found i = (i ≤ n) × 
 abbrev μ-loop : tie.MeasureT-loop
 μ-loop sheet context actor destination n found₀ i₀ found i = n - i
 
-loop-holds : tie.Need-loop-holds Inv-loop μ-loop
-loop-holds c = (search needs, set-start _)
-
-loop-again : tie.Need-loop-again Inv-loop μ-loop
-loop-again c = (search needs, set-more _ _ _ _ _ (c .before .before .before .loop .inv .1) (c .join .ensures) (c .before .gives .ensures))
-
-returns : tie.Need-returns Inv-loop μ-loop
-returns c = rw (← (c .before .before .before .signatures .ensures), ← (c .before .before .wide .ensures .is)) (set-done _ _ _ _ (c .before .loop .inv .0) (c .loop-test .left) (c .before .loop .inv .1))
-
 pub give-set-spec : {M : Type 1} → statement M
 give-set-spec =
     tie.close
@@ -26,7 +17,7 @@ give-set-spec =
     Inv-loop
     μ-loop
     (λ c κs. search needs) (λ c κs. search needs)
-    loop-holds
+    (λ c. (search needs, set-start _))
     (λ c. search needs) (λ c κs. search needs) (λ c κs. search needs) (λ c. search needs) (λ c. search needs)
-    loop-again
-    returns)
+    (λ c. (search needs, set-more _ _ _ _ _ (c .before .before .before .loop .inv .1) (c .join .ensures) (c .before .gives .ensures)))
+    (λ c. rw (← (c .before .before .before .signatures .ensures), ← (c .before .before .wide .ensures .is)) (set-done _ _ _ _ (c .before .loop .inv .0) (c .loop-test .left) (c .before .loop .inv .1))))

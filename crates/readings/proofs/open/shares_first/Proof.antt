@@ -4,15 +4,12 @@ use Rattle.laws.proofs.Prelude.{ne-eqb, needs}
 use Rattle.readings.proofs.open.shares_first.Statement.{statement}
 use Rattle.readings.proofs.open.shares_first.Tie as tie
 
-returns : tie.Need-returns
-unfolding sharesFirst
-returns c = rw (← (c .before .conduct .ensures), c .if1 .taken)
-
-returns-2 : tie.Need-returns-2
-unfolding sharesFirst
-returns-2 c = rw (← (c .before .before .before .before .conduct .ensures), ne-eqb _ _ (c .before .before .before .if1 .left), ← (c .before .before .share-allowed .ensures), c .conduct-refusal .ensures)
-
 pub shares-first-spec : {M : Type 1} → statement M
+unfolding sharesFirst
 shares-first-spec =
     tie.close
-    (tie.spec (λ c κs. search needs) returns (λ c κs. search needs) (λ c κs. search needs) returns-2)
+    (tie.spec
+    (λ c κs. search needs)
+    (λ c. rw (← (c .before .conduct .ensures), c .if1 .taken))
+    (λ c κs. search needs) (λ c κs. search needs)
+    (λ c. rw (← (c .before .before .before .before .conduct .ensures), ne-eqb _ _ (c .before .before .before .if1 .left), ← (c .before .before .share-allowed .ensures), c .conduct-refusal .ensures)))

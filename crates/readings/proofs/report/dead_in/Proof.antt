@@ -4,13 +4,12 @@ use borrow.Author.Needs.{needs}
 use Rattle.readings.proofs.report.dead_in.Statement.{statement}
 use Rattle.readings.proofs.report.dead_in.Tie as tie
 
-returns : tie.Need-returns
-unfolding deadIn
-returns c = rw (← (c .before .has .ensures), c .if1 .taken)
-
-returns-2 : tie.Need-returns-2
-unfolding deadIn
-returns-2 c = rw (← (c .before .before .has .ensures), c .before .if1 .left) (c .in-ancestry .ensures)
-
 pub dead-in-spec : {M : Type 1} → statement M
-dead-in-spec = tie.close (tie.spec (λ c κs. search needs) returns (λ c κs. search needs) returns-2)
+unfolding deadIn
+dead-in-spec =
+    tie.close
+    (tie.spec
+    (λ c κs. search needs)
+    (λ c. rw (← (c .before .has .ensures), c .if1 .taken))
+    (λ c κs. search needs)
+    (λ c. rw (← (c .before .before .has .ensures), c .before .if1 .left) (c .in-ancestry .ensures)))

@@ -4,13 +4,6 @@ use Rattle.laws.proofs.Prelude.{refl, needs}
 use Rattle.readings.proofs.report.entry_to.Statement.{statement}
 use Rattle.readings.proofs.report.entry_to.Tie as tie
 
-returns : tie.Need-returns
-unfolding entryTo
-returns c = rw (c .if1 .taken)
-
-returns-2 : tie.Need-returns-2
-unfolding entryTo
-returns-2 c = refl
-
 pub entry-to-spec : {M : Type 1} → statement M
-entry-to-spec = tie.close (tie.spec returns (λ c. search needs) returns-2)
+unfolding entryTo
+entry-to-spec = tie.close (tie.spec (λ c. rw (c .if1 .taken)) (λ c. search needs) (λ c. refl))

@@ -4,9 +4,6 @@ use borrow.Author.Needs.{needs}
 use Rattle.readings.proofs.reported.confirmed.Statement.{statement}
 use Rattle.readings.proofs.reported.confirmed.Tie as tie
 
-returns : tie.Need-returns
-unfolding reportedConfirmed reportedStatus
-returns c = c .has .ensures
-
 pub confirmed-spec : {M : Type 1} → statement M
-confirmed-spec = tie.close (tie.spec (λ c. search needs) (λ c. search needs) (λ c κs. search needs) returns)
+unfolding reportedConfirmed reportedStatus
+confirmed-spec = tie.close (tie.spec (λ c. search needs) (λ c. search needs) (λ c κs. search needs) (λ c. c .has .ensures))

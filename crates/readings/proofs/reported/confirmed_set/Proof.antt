@@ -10,15 +10,6 @@ Inv-loop sheet report n found₀ t₀ found t = (t ≤ n) × (found ≡ setBelow
 abbrev μ-loop : tie.MeasureT-loop
 μ-loop sheet report n found₀ t₀ found t = n - t
 
-loop-holds : tie.Need-loop-holds Inv-loop μ-loop
-loop-holds c = (search needs, set-start _)
-
-loop-again : tie.Need-loop-again Inv-loop μ-loop
-loop-again c = (search needs, set-more _ _ _ _ _ (c .before .before .before .loop .inv .1) (c .join .ensures) (c .before .confirmed .ensures))
-
-returns : tie.Need-returns Inv-loop μ-loop
-returns c = rw (← (c .before .before .count .ensures .is)) (set-done _ _ _ _ (c .before .loop .inv .0) (c .loop-test .left) (c .before .loop .inv .1))
-
 pub confirmed-set-spec : {M : Type 1} → statement M
 confirmed-set-spec =
     tie.close
@@ -26,7 +17,7 @@ confirmed-set-spec =
     Inv-loop
     μ-loop
     (λ c κs. search needs)
-    loop-holds
+    (λ c. (search needs, set-start _))
     (λ c κs. search needs) (λ c κs. search needs) (λ c. search needs) (λ c. search needs)
-    loop-again
-    returns)
+    (λ c. (search needs, set-more _ _ _ _ _ (c .before .before .before .loop .inv .1) (c .join .ensures) (c .before .confirmed .ensures)))
+    (λ c. rw (← (c .before .before .count .ensures .is)) (set-done _ _ _ _ (c .before .loop .inv .0) (c .loop-test .left) (c .before .loop .inv .1))))

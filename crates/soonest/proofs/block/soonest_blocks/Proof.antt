@@ -15,9 +15,6 @@ Inv-loop sheet per-day position n soonest₀ t₀ soonest t =
 abbrev μ-loop : tie.MeasureT-loop
 μ-loop sheet per-day position n soonest₀ t₀ soonest t = n - t
 
-loop-holds : tie.Need-loop-holds Inv-loop μ-loop
-loop-holds c = (search needs, filled-start _ _ refl)
-
 soonest-over-requires : tie.Need-soonest-over-requires Inv-loop μ-loop
 soonest-over-requires c κs =
     let h = soonest-above _ _ _ _ _ _ (c .before .before .before .loop .inv .1) _ _ (omega arith) (c .above .ensures) .small in
@@ -29,9 +26,6 @@ loop-again c =
     let i = c .before .before .before .before .loop in
     (search needs, filled-more _ _ _ _ (i .inv .1) (search needs) (soonest-next _ _ _ _ _ _ _ _ refl (soonest-above _ _ _ _ _ _ (i .inv .1) _ _ (omega arith) (c .before .above .ensures)) (c .soonest-over .ensures)))
 
-returns : tie.Need-returns Inv-loop μ-loop
-returns c = filled-done _ _ _ _ (omega (arith, c .loop-test .left, c .before .before .count .ensures .is)) (c .before .loop .inv .1)
-
 pub soonest-blocks-spec : {M : Type 1} → statement M
 soonest-blocks-spec =
     tie.close
@@ -39,9 +33,9 @@ soonest-blocks-spec =
     Inv-loop
     μ-loop
     (λ c κs. search needs)
-    loop-holds
+    (λ c. (search needs, filled-start _ _ refl))
     (λ c. search needs) (λ c. search needs) (λ c κs. search needs)
     soonest-over-requires
     (λ c. search needs) (λ c. search needs) (λ c. search needs) (λ c. search needs)
     loop-again
-    returns)
+    (λ c. filled-done _ _ _ _ (omega (arith, c .loop-test .left, c .before .before .count .ensures .is)) (c .before .loop .inv .1)))

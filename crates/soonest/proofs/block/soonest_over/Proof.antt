@@ -5,13 +5,6 @@ use Rattle.soonest.proofs.Bounds.{greater-le}
 use Rattle.soonest.proofs.block.soonest_over.Statement.{statement}
 use Rattle.soonest.proofs.block.soonest_over.Tie as tie
 
-returns : tie.Need-returns
-unfolding soonestOver
-returns c = record { is = simp (tests, c .if1 .taken); small = search needs }
-
-add-greater : tie.Need-add-greater
-add-greater c = let h = c .lock-at .ensures .small 4294967295 (omega arith) (omega (arith, c .before .before .before .pre, c .before .before .before .pre .0 .few)) in search needs
-
 returns-2 : tie.Need-returns-2
 unfolding soonestOver
 returns-2 c =
@@ -24,11 +17,12 @@ returns-2 c =
     }
 
 pub soonest-over-spec : {M : Type 1} → statement M
+unfolding soonestOver
 soonest-over-spec =
     tie.close
     (tie.spec
-    returns
+    (λ c. record { is = simp (tests, c .if1 .taken); small = search needs })
     (λ c κs. search needs) (λ c. search needs)
-    add-greater
+    (λ c. let h = c .lock-at .ensures .small 4294967295 (omega arith) (omega (arith, c .before .before .before .pre, c .before .before .before .pre .0 .few)) in search needs)
     (λ c κs. search needs) (λ c κs. search needs)
     returns-2)

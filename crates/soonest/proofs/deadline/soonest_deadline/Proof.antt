@@ -12,30 +12,21 @@ Inv-loop sheet per-day since e t own n best₀ k₀ best k = (k ≤ n) × (best 
 abbrev μ-loop : tie.MeasureT-loop
 μ-loop sheet per-day since e t own n best₀ k₀ best k = n - k
 
-loop-holds : tie.Need-loop-holds Inv-loop μ-loop
-loop-holds c = (search needs, least-start _ _ _)
-
 rival-at-requires : tie.Need-rival-at-requires Inv-loop μ-loop
 rival-at-requires c κs =
     let k = c .before .before .before .before .before .pre in
     (k .0, (k .1 .0, (search needs, (k .1 .1, c .before .before .before .lock-at .ensures))))
 
-loop-again : tie.Need-loop-again Inv-loop μ-loop
-loop-again c = (search needs, least-more _ _ _ _ _ _ _ (c .before .before .before .loop .inv .1) (c .before .rival-at .ensures) (c .lower .ensures))
-
-returns : tie.Need-returns Inv-loop μ-loop
-unfolding deadlineOver
-returns c = rw (← (c .before .before .count .ensures .is)) (least-done _ _ _ _ _ _ (c .before .loop .inv .0) (c .loop-test .left) (c .before .loop .inv .1))
-
 pub soonest-deadline-spec : {M : Type 1} → statement M
+unfolding deadlineOver
 soonest-deadline-spec =
     tie.close
     (tie.spec
     Inv-loop
     μ-loop
     (λ c κs. search needs) (λ c κs. search needs)
-    loop-holds
+    (λ c. (search needs, least-start _ _ _))
     rival-at-requires
     (λ c κs. search needs) (λ c. search needs) (λ c. search needs)
-    loop-again
-    returns)
+    (λ c. (search needs, least-more _ _ _ _ _ _ _ (c .before .before .before .loop .inv .1) (c .before .rival-at .ensures) (c .lower .ensures)))
+    (λ c. rw (← (c .before .before .count .ensures .is)) (least-done _ _ _ _ _ _ (c .before .loop .inv .0) (c .loop-test .left) (c .before .loop .inv .1))))

@@ -5,14 +5,6 @@ use Rattle.position.proofs.Rules.{lockHeight}
 use Rattle.soonest.proofs.lock.lock_at.Statement.{statement}
 use Rattle.soonest.proofs.lock.lock_at.Tie as tie
 
-returns : tie.Need-returns
-unfolding lockAt lockHeight
-returns c = record { is = simp (tests, ← (c .before .lock-type .ensures), c .if1 .taken); small = λ bound h k. omega arith }
-
-returns-2 : tie.Need-returns-2
-unfolding lockAt lockHeight
-returns-2 c = record { is = simp (tests, ← (c .before .before .before .lock-type .ensures), c .if2 .taken, c .before .lock-blocks .ensures .is); small = λ bound h k. omega (arith, c .before .lock-blocks .ensures .small) }
-
 returns-3 : tie.Need-returns-3
 unfolding lockAt lockHeight
 returns-3 c =
@@ -20,12 +12,13 @@ returns-3 c =
     record { is = simp (tests, ← (c4 .lock-type .ensures), c3 .if1 .left, c .before .if2 .left, ← (c .before .before .lock-blocks .ensures .is), c .since-parent .ensures .is); small = c .since-parent .ensures .small }
 
 pub lock-at-spec : {M : Type 1} → statement M
+unfolding lockAt lockHeight
 lock-at-spec =
     tie.close
     (tie.spec
     (λ c κs. search needs)
-    returns
+    (λ c. record { is = simp (tests, ← (c .before .lock-type .ensures), c .if1 .taken); small = λ bound h k. omega arith })
     (λ c κs. search needs)
-    returns-2
+    (λ c. record { is = simp (tests, ← (c .before .before .before .lock-type .ensures), c .if2 .taken, c .before .lock-blocks .ensures .is); small = λ bound h k. omega (arith, c .before .lock-blocks .ensures .small) })
     (λ c κs. search needs)
     returns-3)
