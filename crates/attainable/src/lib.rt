@@ -1,10 +1,13 @@
 // What can come without a party.
+
+#![tactic(auto)]
+
 mod lack;
 pub mod read;
 pub mod round;
 
 // What the others have and what waits, read off a position once for a party X.
-#[derive(Drop)]
+#[derive(Clone, Copy)]
 pub struct Others {
     pub confirmed: u32,
     // confirmed or dead

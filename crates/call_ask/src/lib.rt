@@ -1,10 +1,13 @@
 // Ask first, commit after: whether a step would pass after a journal, and the step written behind it.
+
+#![tactic(auto)]
+
 pub mod ask;
 pub mod commit;
 pub mod refusal;
 
 // The answer of ask: the refusal, and the count of steps in the journal.
-#[derive(Drop)]
+#[derive(Clone, Copy)]
 pub struct Asked {
     pub refusal: u32,
     pub count: u32,

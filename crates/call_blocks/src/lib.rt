@@ -1,4 +1,7 @@
 // Another firm's block list: what was confirmed, without steps.
+
+#![tactic(auto)]
+
 ghost use Rattle.std.specs.Prelude.{◌≡◌};
 ghost use Rattle.call_blocks.specs.BlockList.{blocks_refusal};
 
@@ -10,7 +13,7 @@ pub mod kept;
 pub mod refusal;
 
 // An entry of a list: transaction, destination, block.
-#[derive(Drop)]
+#[derive(Clone, Copy)]
 pub struct Listed {
     pub transaction: u8,
     pub destination: u8,

@@ -1,4 +1,7 @@
 // A whole desk in one call: the swaps of a bundle, all on one sheet.
+
+#![tactic(auto)]
+
 ghost use Rattle.std.specs.Prelude.{◌≡◌};
 ghost use Rattle.laws.specs.Failing.{first_failing};
 ghost use Rattle.call_desk.specs.Desk.{desk_tests, desk_answer};

@@ -1,4 +1,7 @@
 // When an ending could come at the earliest.
+
+#![tactic(auto)]
+
 ghost use Rattle.std.specs.Prelude.{◌≡◌};
 ghost use Rattle.call_earliest.specs.Answer.{earliest_refusal, earliest_answer};
 
@@ -10,7 +13,7 @@ pub mod members;
 pub mod plan;
 
 // The answer: the refusal, and the entries written.
-#[derive(Drop)]
+#[derive(Clone, Copy)]
 pub struct Planned {
     pub refusal: u32,
     pub count: u32,

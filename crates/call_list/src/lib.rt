@@ -1,4 +1,7 @@
 // The list of open steps.
+
+#![tactic(auto)]
+
 ghost use Rattle.std.specs.Prelude.{◌≡◌};
 ghost use Rattle.position.specs.Answers.{list_answer};
 
@@ -7,7 +10,7 @@ use call_run::journal;
 mod listing;
 
 // The answer of a list: the refusal, and the steps written.
-#[derive(Drop)]
+#[derive(Clone, Copy)]
 pub struct Listed {
     pub refusal: u32,
     pub count: u32,

@@ -1,4 +1,7 @@
 // What an outage can cost, from the position that a journal leads to.
+
+#![tactic(auto)]
+
 mod payees;
 mod row;
 mod rows;

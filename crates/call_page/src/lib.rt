@@ -1,4 +1,7 @@
 // The page for the wall, of the position that a journal leads to.
+
+#![tactic(auto)]
+
 ghost use Rattle.std.specs.Prelude.{◌≡◌};
 ghost use Rattle.call_page.specs.Page.{page_answer};
 

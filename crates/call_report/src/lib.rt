@@ -1,4 +1,7 @@
 // The report of the position that a journal leads to.
+
+#![tactic(auto)]
+
 ghost use Rattle.std.specs.Prelude.{◌≡◌};
 ghost use Rattle.dated.specs.Report.{report_answer};
 

@@ -1,4 +1,7 @@
 // A run: of a journal from the empty journal's position, and of one from any position.
+
+#![tactic(auto)]
+
 ghost use Rattle.std.specs.Prelude.{◌≡◌};
 ghost use Rattle.position.specs.Play.{run};
 ghost use Rattle.position.specs.Answers.{run_part};

@@ -16,7 +16,7 @@ use steps::{Decoded, View, decode, owed};
 
 // What a row of steps comes to: its refusal, and the steps accepted before that; after these the position, the counts, where they were
 // asked for, and the view.
-#[derive(Drop)]
+#[derive(Clone, Copy)]
 pub struct RowRan {
     pub refusal: u32,
     pub accepted: u32,

@@ -1,4 +1,7 @@
 // The few steps that matter: of a refused journal, the part that is left when each step that can go has gone.
+
+#![tactic(auto)]
+
 ghost use Rattle.std.specs.Prelude.{◌≡◌};
 ghost use Rattle.laws.specs.Failing.{first_failing};
 ghost use Rattle.call_shrink.specs.Shrink.{long_tests, shrink_answer};
@@ -14,7 +17,7 @@ mod rounds;
 mod same;
 
 // The answer: the refusal, and the steps written.
-#[derive(Drop)]
+#[derive(Clone, Copy)]
 pub struct Shrunk {
     pub refusal: u32,
     pub count: u32,

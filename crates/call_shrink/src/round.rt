@@ -15,7 +15,7 @@ use position::Position;
 use position::journal::start;
 
 // A row that does not come to the number: its position before the step at byte 4 * from, from which on it has all steps.
-#[derive(Drop)]
+#[derive(Clone, Copy)]
 pub struct Lost {
     pub held: bool,
     pub from: usize,

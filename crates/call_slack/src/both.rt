@@ -16,7 +16,7 @@ use prospect::seen::prospect;
 use slots::lock_height::NEVER;
 
 // The slack, and the transaction, 255 for none.
-#[derive(Drop)]
+#[derive(Clone, Copy)]
 pub struct Found {
     pub blocks: u32,
     pub t: u8,

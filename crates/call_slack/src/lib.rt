@@ -1,4 +1,7 @@
 // For how many blocks each party can take no step, from the position that a journal leads to.
+
+#![tactic(auto)]
+
 mod both;
 mod due;
 mod row;

@@ -1,4 +1,7 @@
 // Locks in Bitcoin's own fields: n_lock_time and n_sequence of a sheet's transactions, for the signing boxes.
+
+#![tactic(auto)]
+
 ghost use Rattle.std.specs.Prelude.{◌≡◌};
 ghost use Rattle.call_timelocks.specs.Timelocks.{field_refusal, timelocks_answer};
 

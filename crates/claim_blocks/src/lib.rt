@@ -1,1 +1,3 @@
 // What the check of a block list comes to: see specs/.
+
+#![tactic(auto)]

@@ -1,1 +1,3 @@
 // Claims about careful conduct, with no code: see specs/ and proofs/.
+
+#![tactic(auto)]

@@ -1,1 +1,3 @@
 // What the earliest block list comes to: see specs/.
+
+#![tactic(auto)]

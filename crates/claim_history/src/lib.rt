@@ -1,4 +1,7 @@
 // Demand 3 of the engine: any list of steps played, its accepted steps written and reported.
+
+#![tactic(auto)]
+
 ghost use Rattle.std.specs.Prelude.{◌≡◌};
 ghost use Rattle.position.specs.Position.{start};
 ghost use Rattle.claim_history.specs.Promise.{nobodies, Demand3};
@@ -12,7 +15,7 @@ mod play;
 mod write;
 
 // The number, the report's number, the position after the last step, and each coin's holder as read from it and from the report.
-#[derive(Drop)]
+#[derive(Clone, Copy)]
 pub struct Outcome {
     pub number: u32,
     pub report: u32,

@@ -11,7 +11,7 @@ use call_run::journal::step_at;
 use position::{Position, journal};
 
 // The position after the steps so far, and the number of those accepted.
-#[derive(Drop)]
+#[derive(Clone, Copy)]
 pub struct Played {
     pub position: Position,
     pub accepted: usize,

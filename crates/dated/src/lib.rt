@@ -1,4 +1,7 @@
 // A position beside the counts of blocks mined when its transactions were first open.
+
+#![tactic(auto)]
+
 ghost use Rattle.std.specs.Prelude.{◌≡◌};
 ghost use Rattle.sheet.specs.Field.{count};
 ghost use Rattle.sheet.specs.Checked.{Fit};
@@ -12,14 +15,14 @@ mod opens;
 
 // "Demand 2's position is the model's beside this count": for each transaction the blocks mined when it was first open, 2,147,483,647
 // where it never was. 520 bytes, without padding.
-#[derive(Drop)]
+#[derive(Clone, Copy)]
 pub struct Dated {
     pub position: Position,
     pub opened: [u32; 32],
 }
 
 // A position with its counts, and its view.
-#[derive(Drop)]
+#[derive(Clone, Copy)]
 pub struct Viewed {
     pub dated: Dated,
     pub view: View,

@@ -77,7 +77,7 @@ fn reaches(line: &[u32; 32], n: usize, aims: u32, clear: u32) -> bool
 }
 
 // What decides, for t, whether what beats it is met.
-#[derive(Drop)]
+#[derive(Clone, Copy)]
 struct Aim {
     t: usize,
     // those that a free line elsewhere may reach

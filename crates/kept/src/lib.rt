@@ -1,11 +1,14 @@
 // What a party keeps while it takes no step, from what is read once for a position and the party.
+
+#![tactic(auto)]
+
 pub mod counted;
 pub mod greatest;
 pub mod kept;
 
 // What is read once for a position and a party X. A set is a mask; a table has a number for each transaction t, or at 32 * t + k one for t
 // and k. A height in `fails`, `beat` or `until` is 4294967295 where there is none.
-#[derive(Drop)]
+#[derive(Clone, Copy)]
 pub struct Prospect {
     pub count: usize,
     pub mined: u32,

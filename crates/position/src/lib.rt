@@ -1,4 +1,7 @@
 // The position of a contract, and the answers of a step and of a journal.
+
+#![tactic(auto)]
+
 ghost use Rattle.std.specs.Prelude.{◌<◌, ◌≡◌};
 ghost use Rattle.sheet.specs.Field.{count};
 ghost use Rattle.sheet.specs.Checked.{Checked};
@@ -20,7 +23,7 @@ use steps::View;
 
 // "A position holds, for each of 32 transactions, its pool entry, block entry, confirmation and shared knowledge; beside these the
 // blocks mined, each party's keys held and the shares it has made." 392 bytes, without padding.
-#[derive(Drop)]
+#[derive(Clone, Copy)]
 pub struct Position {
     pub slots: [Slot; 32],
     pub mined: u16,
@@ -29,14 +32,14 @@ pub struct Position {
 }
 
 // A step's refusal number and the position after it, whole, accepted or not.
-#[derive(Drop)]
+#[derive(Clone, Copy)]
 pub struct Stepped {
     pub refusal: u32,
     pub position: Position,
 }
 
 // A journal's refusal number, the steps accepted before it, and the position after these.
-#[derive(Drop)]
+#[derive(Clone, Copy)]
 pub struct Ran {
     pub refusal: u32,
     pub accepted: u32,

@@ -1,4 +1,7 @@
 // The numbers that the program swapreport prints.
+
+#![tactic(auto)]
+
 ghost use Rattle.std.specs.Prelude.{suc, ◌+◌, ◌*◌, ◌≤◌, ◌≡◌, [], ◌∷◌, length, get_or};
 ghost use Rattle.readings.specs.Reported.{row_width, reported_line};
 ghost use Rattle.position.specs.Printed.{printed};
@@ -9,7 +12,7 @@ use sheet::little::u32_at;
 
 // The first line: the steps accepted, the refusal, and the blocks mined, empty ones too, 0 on a refusal. Beside them the number of lines
 // that follow.
-#[derive(Drop)]
+#[derive(Clone, Copy)]
 pub struct First {
     pub accepted: u32,
     pub refusal: u32,
@@ -18,7 +21,7 @@ pub struct First {
 }
 
 // The line of a transaction, after its number.
-#[derive(Drop)]
+#[derive(Clone, Copy)]
 pub struct Line {
     pub status: u8,
     pub payee: u8,

@@ -1,4 +1,7 @@
 // What is read once for a position and a party, from which is told what the party keeps.
+
+#![tactic(auto)]
+
 pub mod coins;
 pub mod come;
 pub mod kinds;
@@ -18,7 +21,7 @@ pub mod threshold;
 pub mod until;
 
 // What a position tells of each transaction for a party X: sets as masks, and tables with a number or a set for each transaction t.
-#[derive(Drop)]
+#[derive(Clone, Copy)]
 pub struct Marks {
     pub count: usize,
     pub stealth: u32,

@@ -9,7 +9,7 @@ use attainable::{Others, round};
 use sheet::set;
 
 // What can come where X sends transactions of the set `also`; for another than X; and the height last found with it.
-#[derive(Drop)]
+#[derive(Clone, Copy)]
 pub struct Found {
     pub also: u32,
     pub can: u32,

@@ -1,4 +1,7 @@
 // What is read off a position, over views, single slots and the sheet: open steps, rows of a report, holders.
+
+#![tactic(auto)]
+
 pub mod holder;
 pub mod open;
 pub mod report;
@@ -7,7 +10,7 @@ pub mod reported;
 use steps::{Guards, View};
 
 // What is the same for all steps of one actor in a position.
-#[derive(Drop)]
+#[derive(Clone, Copy)]
 pub struct Context {
     pub view: View,
     pub guards: Guards,
@@ -20,7 +23,7 @@ pub struct Context {
 }
 
 // The transactions of a sheet that go to each destination, as sets.
-#[derive(Drop)]
+#[derive(Clone, Copy)]
 pub struct DestinationSets {
     pub alice: u32,
     pub bob: u32,
@@ -30,7 +33,7 @@ pub struct DestinationSets {
 
 // A transaction's row of a report: its block, 0 while it is unconfirmed, its lock height and deadline, its status and its
 // payee, 255 while it is unconfirmed.
-#[derive(Drop)]
+#[derive(Clone, Copy)]
 pub struct Row {
     pub block: u32,
     pub lock: u32,

@@ -1,5 +1,8 @@
 // The examples of document 01's refusal table for the checks of a sheet and a setup, each with its number.
 // The program stops where an answer differs, and writes nothing.
+
+#![tactic(auto)]
+
 ghost use Rattle.std.specs.Prelude.{◌≡◌};
 ghost use Rattle.sheet.specs.Check.{sheet_refusal};
 ghost use Rattle.sheet.specs.Setup.{setup_refusal};

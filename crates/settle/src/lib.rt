@@ -1,5 +1,8 @@
 // The position as a party can count on it before the next block: the block being filled counts as confirmed, as far as nothing can throw
 // its entries out.
+
+#![tactic(auto)]
+
 pub mod block;
 pub mod confirm;
 pub mod due;

@@ -1,4 +1,7 @@
 // The contract sheet and the setup: byte accessors, refusals by name, the checks 1 to 10, the SASwap sheet; sets of its transactions.
+
+#![tactic(auto)]
+
 pub mod check;
 pub mod field;
 pub mod little;

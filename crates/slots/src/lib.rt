@@ -1,4 +1,7 @@
 // The steps, what a position holds for each transaction, and what is worked out from these and the sheet.
+
+#![tactic(auto)]
+
 ghost use Rattle.std.specs.Prelude.{◌<◌, ◌≡◌};
 ghost use Rattle.slots.specs.Slot.{with_pool, with_block, with_confirmed, shared_for, with_shared, shared_any, marks_of, marked_for, with_mark};
 
@@ -13,7 +16,7 @@ pub mod party;
 pub mod signatures;
 
 // "destination (0 Alice, 1 Bob, 2 contract)", and 3 Carol
-#[derive(Drop)]
+#[derive(Clone, Copy)]
 pub enum Destination {
     Alice,
     Bob,
@@ -22,7 +25,7 @@ pub enum Destination {
 }
 
 // "a step is one of seven kinds": each with its party, its transaction byte and its destination
-#[derive(Drop)]
+#[derive(Clone, Copy)]
 pub enum Step {
     Share(u8, u8, Destination),
     Give(u8, u8, Destination),
@@ -35,7 +38,7 @@ pub enum Step {
 
 // "for each of 32 transactions, its pool entry, block entry, confirmation and shared knowledge", and "the shares it has made".
 // Twelve bytes, without padding.
-#[derive(Drop)]
+#[derive(Clone, Copy)]
 pub struct Slot {
     // pool entry, block entry and confirmation: 0 none, else the destination + 1
     pub pool: u8,

@@ -1,4 +1,7 @@
 // The steps as bytes, and what each kind of step reads and changes: over the sheet, a view of the position and single slots.
+
+#![tactic(auto)]
+
 ghost use Rattle.std.specs.Prelude.{◌<◌, ◌≡◌};
 ghost use Rattle.steps.specs.Forms.View.{view_with, view_after, view_passed};
 
@@ -16,7 +19,7 @@ pub mod sharing;
 use slots::{Slot, Step};
 
 // Four bytes read as a step, or refused as one: 11.
-#[derive(Drop)]
+#[derive(Clone, Copy)]
 pub enum Decoded {
     Read(Step),
     Refused,
@@ -25,7 +28,7 @@ pub enum Decoded {
 // What the tests read off a position: the transactions in the pool, in the block being filled and
 // confirmed, as masks; the signatures shared of any; the blocks mined; the keys held. And off the sheet:
 // the transactions that can have a deadline.
-#[derive(Drop)]
+#[derive(Clone, Copy)]
 pub struct View {
     pub pool: u32,
     pub block: u32,
@@ -38,7 +41,7 @@ pub struct View {
 }
 
 // What conduct reads off a position.
-#[derive(Drop)]
+#[derive(Clone, Copy)]
 pub struct Guards {
     // open conduct: nothing below is asked for
     pub free: bool,

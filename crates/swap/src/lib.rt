@@ -1,4 +1,7 @@
 // The outward calls for C: each packs the answer of the call in Rattle.
+
+#![tactic(auto)]
+
 ghost use Rattle.std.specs.Prelude.{◌*◌, ◌%◌, ◌≡◌, drop};
 ghost use Rattle.sheet.specs.Check.{sheet_refusal};
 ghost use Rattle.position.specs.Play.{run};

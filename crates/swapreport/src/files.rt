@@ -5,7 +5,7 @@ ghost use Rattle.swapreport.specs.Files.{succeeded, is_readable, Unread};
 
 // What the system answered: the descriptor, negative where the file could not be opened, and what a read after the last one gave, negative
 // where it failed. Then by these whether the file could be read, and how many bytes of it stand at the front of the buffer.
-#[derive(Drop)]
+#[derive(Clone, Copy)]
 pub struct Got {
     pub opened: i32,
     pub last: isize,

@@ -1,5 +1,8 @@
 // Reads sheet.bin, setup.bin and journal.bin in its folder, and prints the report of the position that the journal leads to; with an
 // argument, its page for the wall.
+
+#![tactic(auto)]
+
 ghost use Rattle.std.specs.Prelude.{◌*◌, ◌≤◌, length};
 ghost use Rattle.readings.specs.Reported.{row_width};
 
