@@ -1,0 +1,16 @@
+-- By the number of blocks.
+use Rattle.sheet.specs.Saswap.{offset}
+use borrow.Author.Tests.{ne_eqb}
+use Rattle.sheet.proofs.saswap.offset.Goals as goal
+
+pub returns-in-1 : goal.returns-in-1
+unfolding offset
+returns-in-1 c = rw c.in-1.is
+
+pub returns-in-2 : goal.returns-in-2
+unfolding offset
+returns-in-2 c = rw c.in-2.is
+
+pub returns-in_default : goal.returns-in_default
+unfolding offset
+returns-in_default c = rw (ne_eqb _ _ c.in_default.in_default-own.rest.1, ne_eqb _ _ c.in_default.in_default-own.rest.0.1)
