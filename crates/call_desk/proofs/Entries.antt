@@ -3,7 +3,7 @@
 use Rattle.laws.proofs.Prelude.{ℕ, ◌+◌, ◌*◌, ◌≤◌, ◌<◌, ◌≡◌, refl, ◌∙◌, List, eqb, leb, length, get_or, eqb-true, eqb-false, leb-true, leb-false, arith, split, first_failing}
 use Rattle.laws.proofs.Prelude.{gather_at, over}
 use Rattle.position.proofs.Rules.{accepted, run}
-use Rattle.laws.specs.Little.{first_read, second_read}
+use Rattle.laws.proofs.Little.{first_read, second_read}
 use Rattle.laws.specs.Over.{over_front}
 use Rattle.call_run.proofs.Bounds.{run_bounds}
 use Rattle.call_desk.specs.Bundle.{swaps, setup_of, journal_of}

@@ -3,7 +3,8 @@
 use Rattle.laws.proofs.Prelude.{ℕ, zero, suc, ◌+◌, ◌-◌, ◌*◌, ◌≤◌, ◌<◌, ◌≡◌, refl, ap, ◌∙◌, true, List, [], ◌∷◌, ◌++◌, append-nil, length, get_or, take, drop, length-append}
 use Rattle.laws.proofs.Prelude.{eq-eqb, le-leb, arith, flat_map, take_all, All, empty, also, all_weaken, bytes_of, number_at, length_bytes, sum_below, sum_same}
 use lib.Seq.{drop-append-add}
-use Rattle.laws.specs.Little.{number_part, number_back}
+use Rattle.laws.specs.Little.{number_part}
+use Rattle.laws.proofs.Little.{number_back}
 use Rattle.call_desk.specs.Bundle.{swaps, setup_of, length_of, journals, start_of, journal_of, adds_up, bundle_right}
 use Rattle.call_desk.specs.Desk.{swap_run, swap_bytes, desk_bytes}
 use Rattle.call_desk.specs.Layout.{Swap, bundle_of, Fitting, answer_of}

@@ -1,7 +1,7 @@
 -- The two numbers as they stand in the buffer.
 -- Assumes nothing.
 use Rattle.laws.proofs.Prelude.{ℕ, ◌+◌, ◌*◌, ◌≤◌, ◌<◌, ◌≡◌, List, length, number_at, over}
-use Rattle.laws.specs.Little.{first_read, second_read}
+use Rattle.laws.proofs.Little.{first_read, second_read}
 use Rattle.sheet.specs.Field.{count}
 use Rattle.call_timelocks.specs.Fields.{n_lock_time, n_sequence, field_bytes, timelock_bytes}
 

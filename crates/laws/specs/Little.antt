@@ -1,11 +1,11 @@
 -- Numbers in bytes: "All integers of more than one byte are little-endian." The laws hold for every number k of bytes.
 -- Assumes nothing.
 use Rattle.std.specs.Prelude.{ℕ, zero, suc, ◌+◌, ◌*◌, ◌/◌, ◌%◌, ◌^◌, ◌≤◌, ◌<◌, ◌≡◌, refl, List, [], ◌∷◌, ◌++◌, length, take, drop, get_or}
-use Rattle.std.proofs.Common.{add-zero, zero-add, pow-suc, mod-eq_of_lt, mul-le-mul, mul-le-mul_left, mul-suc, arith, sym, ap, ap₂, ◌∙◌, length-append, pow-add, get_or-take, get_or-drop, get_or-append-add, drop-cons, take_all}
+use Rattle.std.proofs.Common.{add-zero, zero-add, pow-suc, mul-le-mul, arith, sym, ap, ap₂, ◌∙◌, length-append, pow-add, get_or-take, get_or-drop, get_or-append-add, drop-cons}
 use Rattle.std.proofs.Math.Nat.{pow-succ', one-le-pow}
 use Rattle.std.proofs.Math.Arith.{mod-mul}
 use Rattle.std.proofs.Math.ListN.{get_or-append}
-use Rattle.laws.specs.Gather.{gather, length_gather, gather_at}
+use Rattle.laws.specs.Gather.{gather, gather_at}
 use Rattle.laws.specs.Over.{over, over_front}
 
 -- the k lowest bytes of x, the lowest first
@@ -24,7 +24,7 @@ unfolding bytes_of
 length_bytes zero x = refl
 length_bytes (suc k) x = ap suc (length_bytes k (x / 256))
 
-bytes_below : (k x j : ℕ) → get_or (bytes_of k x) j 0 < 256
+pub bytes_below : (k x j : ℕ) → get_or (bytes_of k x) j 0 < 256
 unfolding bytes_of
 bytes_below zero x j = omega arith
 bytes_below (suc k) x zero = omega arith
@@ -101,10 +101,6 @@ number_bytes (suc k) x =
     let rest = number_behind k (x % 256 ∷ []) (bytes_of k (x / 256)) 1 0 refl ∙ number_bytes k (x / 256) in
     rw (rest, pow-suc 256 k, mod-mul x {m = 256 ^ k} {c = 256} (one-le-pow k 256 (omega arith)) (omega arith)) (omega arith)
 
--- a number that fits
-pub number_back : (k x : ℕ) → x < 256 ^ k → number_at k (bytes_of k x) 0 ≡ x
-number_back k x h = number_bytes k x ∙ mod-eq_of_lt h
-
 pub bytes_back : (k : ℕ) (l : List ℕ) (i : ℕ) → i + k ≤ length l → ((j : ℕ) → j < k → get_or l (i + j) 0 < 256) → bytes_of k (number_at k l i) ≡ take k (drop i l)
 unfolding number_at bytes_of
 bytes_back zero l i h b = refl
@@ -115,14 +111,6 @@ bytes_back (suc k) l i h b =
     let rest = bytes_back k l (suc i) (omega arith) (λ j m. rw (next i j) (b (suc j) (omega arith))) in
     rw (drop-cons l i 0 (omega arith)) (ap₂ (λ (a : ℕ) (r : List ℕ). a ∷ r) first (ap (bytes_of k) second ∙ rest))
 
--- the k lowest bytes of x as a number have the same bytes
-pub bytes_again : (k x : ℕ) → bytes_of k (x % 256 ^ k) ≡ bytes_of k x
-bytes_again k x =
-    let e = length_bytes k x in
-    ap (bytes_of k) (sym (number_bytes k x))
-    ∙ bytes_back k (bytes_of k x) 0 (omega (arith, e)) (λ j m. bytes_below k x (0 + j))
-    ∙ take_all k (bytes_of k x) (omega (arith, e))
-
 -- ---- two numbers of k bytes for each t, over the front of a buffer
 module _ (k : ℕ) (f g : ℕ → ℕ) where
   abbrev pair : ℕ → List ℕ
@@ -130,23 +118,3 @@ module _ (k : ℕ) (f g : ℕ → ℕ) where
 
   pub length_pair : (t : ℕ) → length (pair t) ≡ k + k
   length_pair t = length-append (bytes_of k (f t)) (bytes_of k (g t)) ∙ rw (length_bytes k (f t), length_bytes k (g t))
-
-  module _ (n : ℕ) (out : List ℕ) (room : (k + k) * n ≤ length out) (t : ℕ) (h : t < n) where
-    pair_at : (j : ℕ) → j + k ≤ k + k → number_at k (over (gather n pair) out) ((k + k) * t + j) ≡ number_at k (pair t) j
-    pair_at j m =
-        let all = length_gather pair (k + k) length_pair n in
-        let past : (k + k) * suc t ≤ (k + k) * n = mul-le-mul_left (k + k) h in
-        number_over k (gather n pair) out ((k + k) * t + j) (omega (arith, all)) (omega (arith, all, past, mul-suc (k + k) t))
-        ∙ number_gather pair (k + k) length_pair k n t j h m
-
-    pub first_read : f t < 256 ^ k → number_at k (over (gather n pair) out) ((k + k) * t) ≡ f t
-    first_read b =
-        rw (add-zero ((k + k) * t)) at (pair_at 0 (omega arith))
-        ∙ number_front k (bytes_of k (f t)) (bytes_of k (g t)) 0 (omega (arith, length_bytes k (f t)))
-        ∙ number_back k (f t) b
-
-    pub second_read : g t < 256 ^ k → number_at k (over (gather n pair) out) ((k + k) * t + k) ≡ g t
-    second_read b =
-        pair_at k (omega arith)
-        ∙ rw (add-zero k) at (number_behind k (bytes_of k (f t)) (bytes_of k (g t)) k 0 (length_bytes k (f t)))
-        ∙ number_back k (g t) b
