@@ -14,7 +14,7 @@ use Rattle.claim_careful.proofs.Apart.{secret_alice_shown, secret_bob_shown, bob
 use Rattle.claim_careful.proofs.Invariant.{SecretBobOut, SecretAliceOut, Invariant}
 use Rattle.claim_careful.proofs.Payouts.{Paid, paid, stands, pays, above, not_both_paid}
 use Rattle.claim_careful.proofs.Setting.{sheet}
-use Rattle.claim_careful.proofs.Table.{rules, pays_alice, pays_bob_lem, contracts, below}
+use Rattle.claim_careful.proofs.Table.{needs, pays_alice, pays_bob_lem, contracts, below}
 use Rattle.claim_model.specs.Words.{swap_timed_out}
 use Rattle.claim_model.specs.Claim.{Takes, Fair}
 use Rattle.claim_model.proofs.Shared.{shown_in_lem, held_has, shared_has, signs_spend_b, some_bit, shared_shown}
