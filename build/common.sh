@@ -15,7 +15,7 @@ closure() { # NAME
             for (k = 1; k <= count; k++) visit(part[k])
             print n
         }
-        { sub(/#.*/, ""); at = index($0, ":"); if (at) needs[substr($0, 1, at - 1)] = substr($0, at + 1) }
+        { sub(/#.*/, ""); at = index($0, ":"); if (at) { split(substr($0, 1, at - 1), head, " "); needs[head[1]] = substr($0, at + 1) } }
         END { visit(name) }' "$top/crates.txt"
 }
 

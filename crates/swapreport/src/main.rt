@@ -6,104 +6,110 @@
 ghost use Rattle.std.specs.Prelude.{◌*◌, ◌≤◌, length};
 ghost use Rattle.readings.specs.Reported.{row_width};
 
-use libc::{STDERR_FILENO, STDOUT_FILENO};
 use printed::{First, Line};
 use readings::reported::REPORT_SIZE;
+use std::env::{Env, FillError};
+use std::io;
+use std::io::{Eprint, Print, Write};
 
 mod files;
 
 // A number, and a space after it.
-fn print_number(n: u64) {
-    io::print_decimal(STDOUT_FILENO, n);
-    io::write_all(STDOUT_FILENO, b" ");
+fn print_number(rt: &impl Print, n: u64) -> io::Result<()> {
+    print!(rt; "{n} ")
 }
 
 // The last number of a line.
-fn print_last(n: u64) {
-    io::print_decimal(STDOUT_FILENO, n);
-    io::write_all(STDOUT_FILENO, b"\n");
+fn print_last(rt: &impl Print, n: u64) -> io::Result<()> {
+    println!(rt; "{n}")
 }
 
-fn print_first(line: First) {
-    print_number(line.accepted as u64);
-    print_number(line.refusal as u64);
-    print_last(line.blocks as u64);
+fn print_first(rt: &impl Print, line: First) -> io::Result<()> {
+    print_number(rt, line.accepted as u64)?;
+    print_number(rt, line.refusal as u64)?;
+    print_last(rt, line.blocks as u64)
 }
 
-fn print_line(t: usize, line: Line) {
-    print_number(t as u64);
-    print_number(line.status as u64);
-    print_number(line.payee as u64);
-    print_number(line.block as u64);
-    print_number(line.lock as u64);
-    print_last(line.deadline as u64);
+fn print_line(rt: &impl Print, t: usize, line: Line) -> io::Result<()> {
+    print_number(rt, t as u64)?;
+    print_number(rt, line.status as u64)?;
+    print_number(rt, line.payee as u64)?;
+    print_number(rt, line.block as u64)?;
+    print_number(rt, line.lock as u64)?;
+    print_last(rt, line.deadline as u64)
 }
 
 // The lines of the first n transactions.
-fn print_lines(report: &[u8], n: usize)
+fn print_lines(rt: &impl Print, report: &[u8], n: usize) -> io::Result<()>
     requires { row_width * n ≤ length report.now }
 {
-    let mut t: usize = 0;
-    while t < n {
-        print_line(t, printed::transaction_line(report, t));
-        t += 1;
+    for t in 0..n {
+        print_line(rt, t, printed::transaction_line(report, t))?;
     }
+    Ok(())
 }
 
 // The first line, and without a refusal a line for each transaction.
-fn print_report(sheet: &[u8], setup: &[u8], journal: &[u8]) {
+fn print_report(rt: &impl Print, sheet: &[u8], setup: &[u8], journal: &[u8]) -> io::Result<()> {
     let first = printed::first_line(sheet, setup, journal);
     let n = first.lines;
-    print_first(first);
+    print_first(rt, first)?;
     let mut report = [0u8; REPORT_SIZE];
     call_report::report(sheet, setup, journal, &mut report);
-    print_lines(&report, n);
+    print_lines(rt, &report, n)
 }
 
 // The first bytes of a text.
-fn print_front(text: &[u8], end: usize)
+fn print_front(rt: &impl Print, text: &[u8], end: usize) -> io::Result<()>
     requires { end ≤ length text.now }
 {
-    io::write_all(STDOUT_FILENO, &text[..end]);
+    io::writer(rt).write_all(&text[..end])
 }
 
 // The page; on a refusal nothing but the number on standard error.
-fn print_page(sheet: &[u8], setup: &[u8], journal: &[u8]) {
+fn print_page<R: Print + Eprint>(
+    rt: &R,
+    sheet: &[u8],
+    setup: &[u8],
+    journal: &[u8],
+) -> io::Result<()> {
     let first = printed::first_line(sheet, setup, journal);
     let mut page = [0u8; 2409];
     let number = call_page::page(sheet, setup, journal, &mut page);
     if number != 0 {
-        io::write_all(STDERR_FILENO, b"no page: refused with ");
-        io::print_decimal(STDERR_FILENO, number as u64);
-        io::write_all(STDERR_FILENO, b"\n");
-        return;
+        return eprintln!(rt; "no page: refused with {number}");
     }
-    print_front(&page, 73 * (first.lines + 1));
+    print_front(rt, &page, 73 * (first.lines + 1))
+}
+
+// Whether the program was given an argument, whatever it is.
+fn has_argument(rt: &impl Env) -> bool {
+    let mut text = [0u8; 1];
+    !matches!(rt.arg(1, &mut text), Err(FillError::NotPresent))
 }
 
 // Each file is read up to one byte more than the largest valid length, so that one that is too long is refused as such.
-fn main() {
+fn main(rt: HostRuntime) -> io::Result<()> {
     let mut sheet = [0u8; 199];
-    let sheet_file = files::read_file(b"sheet.bin", &mut sheet);
+    let sheet_file = files::read_file(&rt, "sheet.bin", &mut sheet);
     if !sheet_file.readable {
-        return;
+        return Ok(());
     }
     let mut setup = [0u8; 5];
-    let setup_file = files::read_file(b"setup.bin", &mut setup);
+    let setup_file = files::read_file(&rt, "setup.bin", &mut setup);
     if !setup_file.readable {
-        return;
+        return Ok(());
     }
     let mut journal = [0u8; 65537];
-    let journal_file = files::read_file(b"journal.bin", &mut journal);
+    let journal_file = files::read_file(&rt, "journal.bin", &mut journal);
     if !journal_file.readable {
-        return;
+        return Ok(());
     }
     let s = sheet_file.length;
     let u = setup_file.length;
     let j = journal_file.length;
-    if 1 < os::arg_count() {
-        print_page(&sheet[..s], &setup[..u], &journal[..j]);
-        return;
+    if has_argument(&rt) {
+        return print_page(&rt, &sheet[..s], &setup[..u], &journal[..j]);
     }
-    print_report(&sheet[..s], &setup[..u], &journal[..j]);
+    print_report(&rt, &sheet[..s], &setup[..u], &journal[..j])
 }

@@ -18,7 +18,8 @@ pub returns-then-ran-eq0 : goal.returns-then-ran-eq0
 returns-then-ran-eq0 c =
     let z = sym c.long_refusal-of_call.ensures ∙ c.if-of_call-ne0.false in
     let e = ran_whole _ _ _ z _ c.start.ensures _ c.run_from-ran.ensures in
-    answer_none _ _ _ _ z (rw e at c.if-ran-eq0.true)
+    let whole = answer_none _ _ _ c.args.out.now z (rw e at c.if-ran-eq0.true) in
+    record { refusal_value = whole.0; count_value = whole.1.0; out_after = whole.1.1 }
 
 pub slice_bounds-write_shrunk-end : goal.slice_bounds-write_shrunk-end
 slice_bounds-write_shrunk-end c = sym (row_length _ _ _ (sym c.long_refusal-of_call.ensures ∙ c.if-of_call-ne0.false) _ c.start.ensures _ c.run_from-ran.ensures c.if-ran-eq0.false)

@@ -22,7 +22,7 @@ pub per_day-requires : goal.per_day-requires
 per_day-requires c = (field_fit _ _ _ (sym c.field_refusal-refused.ensures ∙ c.if-refused-ne0.false)).setup.size
 
 pub write_fields-requires : goal.write_fields-requires
-write_fields-requires c = let z = sym c.field_refusal-refused.ensures ∙ c.if-refused-ne0.false in record { sized = (field_fit _ _ _ z).checked.sized; base_value = (rw c.per_day.ensures (all_absolute _ _ _ z), omega (arith, c.if-out-n.false, c.count-n.ensures.is)); sheet_in_bounds =  }
+write_fields-requires c = let z = sym c.field_refusal-refused.ensures ∙ c.if-refused-ne0.false in record { sized = (field_fit _ _ _ z).checked.sized; base_value = rw c.per_day.ensures (all_absolute _ _ _ z); sheet_in_bounds = omega (arith, c.if-out-n.false, c.count-n.ensures.is) }
 
 pub returns : goal.returns
 returns c =

@@ -7,13 +7,13 @@ pub returns-then-twin : goal.returns-then-twin
 returns-then-twin c = λ e. inl c.if-twin.true
 
 pub returns-then-kind-ne6 : goal.returns-then-kind-ne6
-returns-then-kind-ne6 c = clash e refl
+returns-then-kind-ne6 c e = clash e refl
 
 pub returns-then-not-lost : goal.returns-then-not-lost
-returns-then-not-lost c = clash e refl
+returns-then-not-lost c e = clash e refl
 
 pub returns-then-ran-ne0 : goal.returns-then-ran-ne0
-returns-then-ran-ne0 c = clash e refl
+returns-then-ran-ne0 c e = clash e refl
 
 pub returns : goal.returns
 returns c = λ e. inr (meets_found _ _ _ _ _ _ c.run_from-ran.ensures (not-false _ c.if-not-lost.false) c.if-ran-ne0.false (c.same.ensures e))

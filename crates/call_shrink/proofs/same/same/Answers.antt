@@ -4,10 +4,10 @@ use Rattle.call_shrink.proofs.SameParts.{positions_same}
 use Rattle.call_shrink.proofs.same.same.Goals as goal
 
 pub returns-then-p-q : goal.returns-then-p-q
-returns-then-p-q c = clash e refl
+returns-then-p-q c e = clash e refl
 
 pub returns-then-not-same_keys : goal.returns-then-not-same_keys
-returns-then-not-same_keys c = clash e refl
+returns-then-not-same_keys c e = clash e refl
 
 pub returns : goal.returns
 returns c =

@@ -7,7 +7,7 @@ pub loop-k-init : goal.loop-k-init
 loop-k-init c = (search rules, agree_start _ _ _)
 
 pub returns-then-p-k : goal.returns-then-p-k
-returns-then-p-k c = clash e refl
+returns-then-p-k c e = clash e refl
 
 pub loop-k-preserved : goal.loop-k-preserved
 loop-k-preserved c = (search rules, agree_more _ _ _ _ c.loop-k.invariant.1 c.if-p-k.false)

@@ -4,34 +4,34 @@ use Rattle.call_shrink.proofs.SameParts.{slots_same}
 use Rattle.call_shrink.proofs.same.same_slot.Goals as goal
 
 pub returns-then-x-y : goal.returns-then-x-y
-returns-then-x-y c = clash e refl
+returns-then-x-y c e = clash e refl
 
 pub returns-then-x-y-2 : goal.returns-then-x-y-2
-returns-then-x-y-2 c = clash e refl
+returns-then-x-y-2 c e = clash e refl
 
 pub returns-then-x-y-3 : goal.returns-then-x-y-3
-returns-then-x-y-3 c = clash e refl
+returns-then-x-y-3 c e = clash e refl
 
 pub returns-then-x-y-4 : goal.returns-then-x-y-4
-returns-then-x-y-4 c = clash e refl
+returns-then-x-y-4 c e = clash e refl
 
 pub returns-then-x-y-5 : goal.returns-then-x-y-5
-returns-then-x-y-5 c = clash e refl
+returns-then-x-y-5 c e = clash e refl
 
 pub returns-then-x-y-6 : goal.returns-then-x-y-6
-returns-then-x-y-6 c = clash e refl
+returns-then-x-y-6 c e = clash e refl
 
 pub returns-then-x-y-7 : goal.returns-then-x-y-7
-returns-then-x-y-7 c = clash e refl
+returns-then-x-y-7 c e = clash e refl
 
 pub returns-then-x-y-8 : goal.returns-then-x-y-8
-returns-then-x-y-8 c = clash e refl
+returns-then-x-y-8 c e = clash e refl
 
 pub returns-then-x-y-9 : goal.returns-then-x-y-9
-returns-then-x-y-9 c = clash e refl
+returns-then-x-y-9 c e = clash e refl
 
 pub returns-then-x-y-10 : goal.returns-then-x-y-10
-returns-then-x-y-10 c = clash e refl
+returns-then-x-y-10 c e = clash e refl
 
 pub returns : goal.returns
 returns c =

@@ -7,7 +7,7 @@ pub loop-k-init : goal.loop-k-init
 loop-k-init c = (search rules, agree_start _ _ _)
 
 pub returns-then-not-same_slot : goal.returns-then-not-same_slot
-returns-then-not-same_slot c = clash e refl
+returns-then-not-same_slot c e = clash e refl
 
 pub loop-k-preserved : goal.loop-k-preserved
 loop-k-preserved c = (search rules, agree_more _ _ _ _ c.loop-k.invariant.1 (c.same_slot.ensures (not-false _ c.if-not-same_slot.false-raw)))
