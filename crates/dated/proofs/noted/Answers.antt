@@ -1,7 +1,7 @@
 -- The counts of the transactions before t are noted.
 use Rattle.dated.specs.Dated.{noted}
 use Rattle.dated.proofs.OpenViews.{first_open_view, may_open, count_stays}
-use Rattle.laws.proofs.Prelude.{rewrite_start, rewrite_again, rewrite_done, length_of_map, ◌-◌, ◌≡◌, refl, ◌∙◌, length, get_or, rules, arith}
+use Rattle.laws.proofs.Prelude.{rewrite_start, rewrite_again, rewrite_done, length_of_map, ◌≡◌, refl, ◌∙◌, length, get_or, rules, arith}
 use Rattle.position.proofs.Rules.{never, slot, since_in}
 use Rattle.laws.specs.Each.{rewrite_past}
 use Rattle.dated.proofs.noted.Goals as goal

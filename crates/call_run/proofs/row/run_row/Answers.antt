@@ -1,5 +1,5 @@
 -- What is left to do from each step on is the whole, and the view is the position's.
-use Rattle.laws.proofs.Prelude.{◌-◌, ◌*◌, ◌≡◌, refl, sym, ◌∙◌, rules, arith, either}
+use Rattle.laws.proofs.Prelude.{◌*◌, ◌≡◌, refl, sym, ◌∙◌, rules, arith}
 use Rattle.position.proofs.Rules.{count, decode_bytes, step, slot, view_below, step_at}
 use Rattle.position.specs.declared.Stepped.{Stepped}
 use Rattle.steps.proofs.RightFields.{give_listed, pool_listed, miner_listed, include_listed, bump_listed}

@@ -1,6 +1,6 @@
 -- None before this one.
 use Rattle.dated.specs.Forms.Opens.{at_hand_in}
-use Rattle.laws.proofs.Prelude.{any_start, any_more, any_found, any_done, ℕ, ◌-◌, ◌≡◌, sym, ◌∙◌, Bool, false, List, rules}
+use Rattle.laws.proofs.Prelude.{any_start, any_more, any_found, any_done, ℕ, ◌≡◌, sym, ◌∙◌, Bool, List, rules}
 use Rattle.position.proofs.Rules.{party_at, Slot, View}
 use Rattle.dated.proofs.opens.at_hand_of_some.Goals as goal
 

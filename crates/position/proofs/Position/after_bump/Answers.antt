@@ -4,7 +4,7 @@ use Rattle.position.proofs.BlockSets.{bumped_right}
 use Rattle.position.proofs.NoEntries.{bumped_outside}
 use Rattle.position.specs.Effect.{with_slots, change_slots, after_bump}
 use Rattle.position.specs.Position.{slot}
-use Rattle.laws.proofs.Prelude.{length_of_map, ◌-◌, ◌≡◌, refl, ◌∙◌, length}
+use Rattle.laws.proofs.Prelude.{length_of_map, ◌≡◌, refl, ◌∙◌, length}
 use Rattle.position.proofs.Position.after_bump.Goals as goal
 
 pub loop-k-init : goal.loop-k-init

@@ -4,7 +4,7 @@ use Rattle.position.proofs.BlockSets.{mined_right}
 use Rattle.position.proofs.NoEntries.{mined_outside}
 use Rattle.position.specs.Effect.{with_slots, change_slots, with_mined, after_mine}
 use Rattle.position.specs.Position.{slot}
-use Rattle.laws.proofs.Prelude.{length_of_map, ◌+◌, ◌-◌, ◌≡◌, refl, ap, ◌∙◌, length}
+use Rattle.laws.proofs.Prelude.{length_of_map, ◌+◌, ◌≡◌, refl, ap, ◌∙◌, length}
 use Rattle.position.proofs.Position.after_entries.Goals as goal
 
 pub loop-t-init : goal.loop-t-init

@@ -2,7 +2,7 @@
 use Rattle.position.proofs.Due.{due_first, due_next_lem, due_found}
 use Rattle.position.specs.Forms.View.{since_in}
 use Rattle.position.specs.Position.{slot}
-use Rattle.laws.proofs.Prelude.{any_done, ◌-◌, true, false}
+use Rattle.laws.proofs.Prelude.{any_done}
 use Rattle.position.proofs.Position.any_due.Goals as goal
 
 pub loop-t-init : goal.loop-t-init

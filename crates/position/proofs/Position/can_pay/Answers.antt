@@ -1,7 +1,7 @@
 -- Some transaction pays. None below t does.
 use Rattle.position.specs.Position.{slot}
 use Rattle.position.proofs.Guards.{pays_turn, pays_found, pays_none}
-use Rattle.laws.proofs.Prelude.{any_start, any_more, length_of_map, ◌-◌, ◌≡◌, sym, ◌∙◌, false, length, rules}
+use Rattle.laws.proofs.Prelude.{any_start, any_more, length_of_map, ◌≡◌, sym, ◌∙◌, length, rules}
 use Rattle.position.proofs.Position.can_pay.Goals as goal
 
 pub loop-t-init : goal.loop-t-init

@@ -1,7 +1,7 @@
 -- They are made where those from t on, the next of the set, are.
 use Rattle.position.proofs.FirstSets.{made_start, made_broken, made_more, made_done}
 use Rattle.position.specs.Position.{slot, marked}
-use Rattle.laws.proofs.Prelude.{◌-◌, sym, ◌∙◌, true, not-true, not-false}
+use Rattle.laws.proofs.Prelude.{sym, ◌∙◌, not-true, not-false}
 use Rattle.position.proofs.Position.first_shares_made.Goals as goal
 
 pub loop-t-init : goal.loop-t-init

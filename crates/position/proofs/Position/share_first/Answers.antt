@@ -2,7 +2,7 @@
 use Rattle.position.proofs.FirstSets.{first_low, share_start, share_more, share_done}
 use Rattle.position.specs.Effect.{with_slots}
 use Rattle.position.specs.Position.{slot, keys}
-use Rattle.laws.proofs.Prelude.{◌-◌, true, rules}
+use Rattle.laws.proofs.Prelude.{rules}
 use Rattle.position.proofs.Position.share_first.Goals as goal
 
 pub loop-t-init : goal.loop-t-init

@@ -3,7 +3,7 @@ use Rattle.position.proofs.Due.{soonest_below, soonest_first, soonest_next}
 use Rattle.position.specs.Forms.Owed.{soonest_in}
 use Rattle.position.specs.Forms.View.{since_in}
 use Rattle.position.specs.Position.{slot}
-use Rattle.laws.proofs.Prelude.{least_done, ◌-◌, true}
+use Rattle.laws.proofs.Prelude.{least_done}
 use Rattle.position.proofs.Position.soonest_in.Goals as goal
 
 pub loop-t-init : goal.loop-t-init

@@ -1,7 +1,7 @@
 -- The view of the transactions below k.
 use Rattle.position.proofs.Views.{view_start, view_more, view_done}
 use Rattle.position.specs.Position.{slot}
-use Rattle.laws.proofs.Prelude.{◌-◌, refl, rules}
+use Rattle.laws.proofs.Prelude.{refl, rules}
 use Rattle.position.proofs.Position.view.Goals as goal
 
 pub loop-k-init : goal.loop-k-init

@@ -2,7 +2,7 @@
 use Rattle.position.proofs.Renewed.{joined_start, joined_more, joined_done}
 use Rattle.position.specs.Forms.Seen.{view_kept}
 use Rattle.position.specs.Position.{slot}
-use Rattle.laws.proofs.Prelude.{◌-◌, refl, true}
+use Rattle.laws.proofs.Prelude.{refl}
 use Rattle.position.proofs.Position.view_over.Goals as goal
 
 pub loop-k-init : goal.loop-k-init

@@ -2,7 +2,7 @@
 use Rattle.readings.proofs.Holders.{end_start, end_more, end_done}
 use Rattle.readings.specs.Holder.{holder}
 use Rattle.readings.specs.Forms.Holder.{coin_end}
-use Rattle.laws.proofs.Prelude.{◌-◌, rules}
+use Rattle.laws.proofs.Prelude.{rules}
 use Rattle.readings.proofs.holder.coin_end.Goals as goal
 
 pub loop-t-init : goal.loop-t-init

@@ -1,6 +1,6 @@
 -- Some child of t is in the set. None below k is.
 use Rattle.readings.specs.Holder.{confirmed_child}
-use Rattle.laws.proofs.Prelude.{any_start, any_more, any_found, any_done, ◌-◌, sym, ◌∙◌, false, rules}
+use Rattle.laws.proofs.Prelude.{any_start, any_more, any_found, any_done, sym, ◌∙◌, rules}
 use Rattle.readings.proofs.holder.confirmed_child.Goals as goal
 
 pub loop-k-init : goal.loop-k-init

@@ -1,5 +1,5 @@
 -- The set of those below i.
-use Rattle.laws.proofs.Prelude.{set_start, set_more, set_done, ◌-◌, rules}
+use Rattle.laws.proofs.Prelude.{set_start, set_more, set_done, rules}
 use Rattle.readings.proofs.open.give_set.Goals as goal
 
 pub loop-i-init : goal.loop-i-init

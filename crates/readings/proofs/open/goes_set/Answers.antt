@@ -1,5 +1,5 @@
 -- The set of those below t.
-use Rattle.laws.proofs.Prelude.{set_start, set_more, set_done, ◌-◌, rules}
+use Rattle.laws.proofs.Prelude.{set_start, set_more, set_done, rules}
 use Rattle.readings.specs.Forms.Context.{goes_set}
 use Rattle.readings.proofs.open.goes_set.Goals as goal
 

@@ -1,5 +1,5 @@
 -- The set of those below t.
-use Rattle.laws.proofs.Prelude.{set_start, set_more, set_done, ◌-◌, rules}
+use Rattle.laws.proofs.Prelude.{set_start, set_more, set_done, rules}
 use Rattle.readings.proofs.reported.confirmed_set.Goals as goal
 
 pub loop-t-init : goal.loop-t-init

@@ -1,7 +1,5 @@
 -- Each start mask below k is right.
-use Rattle.laws.proofs.Prelude.{◌-◌, sym, true, not-true, not-false, rules, all_start, all_more, all_broken, all_done}
-use Rattle.sheet.specs.Field.{start_mask}
-use Rattle.sheet.specs.Check.{within}
+use Rattle.laws.proofs.Prelude.{sym, not-true, not-false, rules, all_start, all_more, all_broken, all_done}
 use Rattle.sheet.proofs.check.starts_right.Goals as goal
 
 pub loop-k-init : goal.loop-k-init

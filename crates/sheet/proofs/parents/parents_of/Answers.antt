@@ -1,6 +1,6 @@
 -- The parents of the members below k.
 use Rattle.sheet.proofs.ParentSets.{parents_start, parents_more, parents_done}
-use Rattle.laws.proofs.Prelude.{◌-◌, rules}
+use Rattle.laws.proofs.Prelude.{rules}
 use Rattle.sheet.proofs.parents.parents_of.Goals as goal
 
 pub loop-k-init : goal.loop-k-init

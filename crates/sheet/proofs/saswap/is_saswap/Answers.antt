@@ -2,7 +2,7 @@
 use Rattle.sheet.proofs.SaswapLength.{saswap_length}
 use Rattle.sheet.specs.Setup.{is_saswap}
 use Rattle.laws.specs.Same.{same}
-use Rattle.laws.proofs.Prelude.{all_start, all_more, all_broken, all_done, ◌-◌, sym, true, eq-eqb, ne_eqb, rules}
+use Rattle.laws.proofs.Prelude.{all_start, all_more, all_broken, all_done, sym, eq-eqb, ne_eqb, rules}
 use Rattle.sheet.proofs.saswap.is_saswap.Goals as goal
 
 pub returns-then-sheet-ne95 : goal.returns-then-sheet-ne95

@@ -1,5 +1,5 @@
 -- The table at offset 0, with the two bytes that go by the offset.
-use Rattle.sheet.specs.Saswap.{offset, saswap_at, saswap}
+use Rattle.sheet.specs.Saswap.{saswap_at, saswap}
 use Rattle.laws.proofs.Prelude.{arith}
 use Rattle.sheet.proofs.Offset.{offset_bound}
 use Rattle.sheet.proofs.saswap.saswap_sheet.Goals as goal

@@ -1,7 +1,7 @@
 -- None below k, the next of the set, is a child.
 use Rattle.slots.proofs.Children.{child_first, child_next, child_found}
 use Rattle.sheet.specs.Forms.Parents.{is_parent_below}
-use Rattle.laws.proofs.Prelude.{any_done, ◌-◌, true, false, rules}
+use Rattle.laws.proofs.Prelude.{any_done, rules}
 use Rattle.slots.proofs.conflict.child_in.Goals as goal
 
 pub loop-k-init : goal.loop-k-init

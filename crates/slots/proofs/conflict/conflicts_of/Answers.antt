@@ -1,6 +1,6 @@
 -- None where the set is empty; else the set of those below t.
 use Rattle.slots.proofs.ConflictSets.{conflicts_none}
-use Rattle.laws.proofs.Prelude.{set_start, set_more, set_done, ◌-◌, rules}
+use Rattle.laws.proofs.Prelude.{set_start, set_more, set_done, rules}
 use Rattle.slots.proofs.conflict.conflicts_of.Goals as goal
 
 pub returns-then-members-eq0 : goal.returns-then-members-eq0

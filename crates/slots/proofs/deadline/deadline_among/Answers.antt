@@ -1,7 +1,7 @@
 -- The least lock height of a rival above the own one. The best of those below k.
 use Rattle.slots.proofs.Deadlines.{rival_turn}
 use Rattle.slots.specs.Deadline.{deadline}
-use Rattle.laws.proofs.Prelude.{least_start, least_more, least_done, ◌-◌, rules, arith}
+use Rattle.laws.proofs.Prelude.{least_start, least_more, least_done, rules, arith}
 use native.Mathlib.Nat.{min-le_left}
 use Rattle.slots.proofs.deadline.deadline_among.Goals as goal
 

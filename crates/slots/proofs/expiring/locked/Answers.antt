@@ -1,6 +1,6 @@
 -- The set of those below k.
 use Rattle.slots.specs.Forms.Expiring.{has_lock}
-use Rattle.laws.proofs.Prelude.{set_start, set_more, set_done, ◌-◌, rules}
+use Rattle.laws.proofs.Prelude.{set_start, set_more, set_done, rules}
 use Rattle.slots.proofs.expiring.locked.Goals as goal
 
 pub loop-k-init : goal.loop-k-init

@@ -1,7 +1,7 @@
 -- None below k, the next of the set, has a rival but itself.
 use Rattle.slots.proofs.AnyMember.{any_first, any_next_member, any_member}
 use Rattle.slots.specs.Forms.HasConflicts.{has_conflicts_in}
-use Rattle.laws.proofs.Prelude.{any_done, ◌-◌, sym, ◌∙◌, true, false}
+use Rattle.laws.proofs.Prelude.{any_done, sym, ◌∙◌}
 use Rattle.slots.proofs.has_conflicts.has_conflicts.Goals as goal
 
 pub loop-k-init : goal.loop-k-init

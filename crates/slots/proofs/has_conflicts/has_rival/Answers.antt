@@ -1,6 +1,6 @@
 -- None below k is a rival of t but itself.
 use Rattle.slots.proofs.OtherRivals.{other_itself, other_stranger, other_found, none_before, none_after}
-use Rattle.laws.proofs.Prelude.{any_more, ◌-◌, false, rules}
+use Rattle.laws.proofs.Prelude.{any_more, rules}
 use Rattle.slots.proofs.has_conflicts.has_rival.Goals as goal
 
 pub loop-k-init : goal.loop-k-init

@@ -1,6 +1,5 @@
 -- The bit of the party's place among the payees.
 use Rattle.laws.proofs.Prelude.{held, not-true, not-false, arith}
-use Rattle.sheet.specs.Field.{place}
 use Rattle.sheet.proofs.Parties.{parties_few, place_below}
 use Rattle.slots.specs.Destination.{is_payee}
 use Rattle.slots.proofs.party.is_payee.Goals as goal

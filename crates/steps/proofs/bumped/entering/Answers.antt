@@ -1,6 +1,5 @@
 -- The set of those below k.
-use Rattle.steps.specs.Forms.Blocks.{enters_in}
-use Rattle.laws.proofs.Prelude.{set_start, set_more, set_done, ◌-◌, rules}
+use Rattle.laws.proofs.Prelude.{set_start, set_more, set_done, rules}
 use Rattle.steps.proofs.bumped.entering.Goals as goal
 
 pub loop-k-init : goal.loop-k-init
