@@ -1,6 +1,6 @@
 -- Decimal digits: the last one and those before it, how many they are, and how they are made from the last one on.
 -- Assumes nothing.
-use Rattle.laws.proofs.Prelude.{ℕ, zero, suc, ◌+◌, ◌-◌, ◌/◌, ◌%◌, ◌^◌, ◌≤◌, ◌<◌, ◌≡◌, refl, sym, ap, ◌∙◌, true, false, List, [], ◌∷◌, ◌++◌, append-nil, ltb, length, take}
+use Rattle.laws.proofs.Prelude.{ℕ, zero, suc, ◌-◌, ◌/◌, ◌%◌, ◌^◌, ◌≤◌, ◌<◌, ◌≡◌, refl, sym, ap, ◌∙◌, true, false, List, [], ◌∷◌, ◌++◌, append-nil, ltb, length, take}
 use Rattle.laws.proofs.Prelude.{drop, set, length-append, length-set, length-drop, ltb-true, ltb-false, lt-ltb, le-ltb, arith, not-suc-le-zero, le_of_suc-le-suc}
 use Rattle.laws.proofs.Prelude.{take_all, split}
 use native.Mathlib.Nat.{pow-succ'}

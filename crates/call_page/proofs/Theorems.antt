@@ -1,6 +1,6 @@
 -- Every line has its length; read back, it gives the report's row.
 -- Assumes nothing.
-use Rattle.laws.proofs.Prelude.{ℕ, suc, ◌+◌, ◌*◌, ◌^◌, ◌≤◌, ◌<◌, ◌≡◌, refl, sym, ap, ◌∙◌, true, false, List, ◌++◌, ◌⊎◌, inl, inr, eqb, ltb, length, take, drop}
+use Rattle.laws.proofs.Prelude.{ℕ, suc, ◌*◌, ◌^◌, ◌≤◌, ◌<◌, ◌≡◌, refl, sym, ap, ◌∙◌, true, false, List, ◌++◌, ◌⊎◌, inl, inr, eqb, ltb, length, take, drop}
 use Rattle.laws.proofs.Prelude.{length-drop, eqb-true, eqb-false, ltb-true, ltb-false, lt-ltb, le-ltb, arith, zero-add, mul-le-mul_left, drop_at, split, over, take_over}
 use Rattle.laws.proofs.Prelude.{length_over, stores_over}
 use Rattle.position.proofs.Rules.{accepted, buffer_short, count, entry_to, slot, is_confirmed, confirmed_to, block_of, lock_height_in, deadline_in, run, unconfirmed}

@@ -27,7 +27,7 @@ fn rivals_of(sheet: &[u8], t: usize) -> u32
 // Those of all, in a table.
 pub fn rivals(sheet: &[u8]) -> [u32; 32]
     requires { Sized sheet.now }
-    ensures* { λ r. ⌜ Filled (λ t v. v ≡ set_below (count sheet.now) (λ r. conflict sheet.now r t)) (count sheet.now) r ⌝ }
+    ensures { Filled (λ t v. v ≡ set_below (count sheet.now) (λ r. conflict sheet.now r t)) (count sheet.now) result }
 {
     let n = sheet::field::count(sheet);
     let mut table = [0u32; 32];

@@ -31,16 +31,16 @@ returns-then-of_step-ne0 c =
 
 pub overflow_sub-buffer : goal.overflow_sub-buffer
 unfolding commit_run
-overflow_sub-buffer c = stands c.before
+overflow_sub-buffer c = stands (goal.at.overflow_sub-buffer c).After-step_number-of_step
 
 pub returns-then-buffer-n-lt4 : goal.returns-then-buffer-n-lt4
 returns-then-buffer-n-lt4 c =
     by_room _ _ _ _ _ _ _ c.commit_run-ran.ensures
     c.if-ran-ne0.false c.if-count-ran.false _
-    c.step_number-of_step.ensures c.if-of_step-ne0.false (omega (arith, c.if-buffer-n-lt4.true, stands c.before.before))
+    c.step_number-of_step.ensures c.if-of_step-ne0.false (omega (arith, c.if-buffer-n-lt4.true, stands (goal.at.returns-then-buffer-n-lt4 c).After-step_number-of_step))
 
 pub returns : goal.returns
 returns c =
     by_none _ _ _ _ _ _ _ c.commit_run-ran.ensures
     c.if-ran-ne0.false c.if-count-ran.false _
-    c.step_number-of_step.ensures c.if-of_step-ne0.false (omega (arith, c.if-buffer-n-lt4.false, stands c.before.before))
+    c.step_number-of_step.ensures c.if-of_step-ne0.false (omega (arith, c.if-buffer-n-lt4.false, stands (goal.at.returns c).After-step_number-of_step))

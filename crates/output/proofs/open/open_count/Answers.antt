@@ -1,7 +1,7 @@
 -- The sum over the sets before i.
 use Rattle.output.specs.Forms.Emitted.{open_count}
 use Rattle.output.proofs.Lengths.{count_bound}
-use Rattle.laws.proofs.Prelude.{sum_start, sum_more, sum_done, ℕ, ◌+◌, ◌-◌, ◌*◌, ◌≤◌, ◌≡◌, ◌∙◌, rules, arith, ap₂}
+use Rattle.laws.proofs.Prelude.{sum_start, sum_more, sum_done, ℕ, ◌+◌, ◌*◌, ◌≤◌, ◌≡◌, ◌∙◌, rules, arith, ap₂}
 use Rattle.laws.specs.Ones.{bits_short, bits_low}
 use native.Mathlib.Nat.{mod-lt}
 use Rattle.output.proofs.open.open_count.Goals as goal

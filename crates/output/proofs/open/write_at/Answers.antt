@@ -1,6 +1,6 @@
 -- The steps of the destinations before d.
 use Rattle.output.specs.Forms.Emitted.{emitted_at, opens}
-use Rattle.laws.proofs.Prelude.{turns_start, turn_room, turn_end, turn_more, turns_done, ◌-◌, arith}
+use Rattle.laws.proofs.Prelude.{turns_start, turn_room, turn_end, turn_more, turns_done, arith}
 use Rattle.output.proofs.open.write_at.Goals as goal
 use Rattle.output.proofs.open.write_at.Invariants.{turn}
 

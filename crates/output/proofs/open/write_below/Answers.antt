@@ -1,6 +1,6 @@
 -- None, or the steps on the transactions before t.
 use Rattle.output.proofs.Four.{four_below, none_below}
-use Rattle.laws.proofs.Prelude.{over_none, turns_start, turn_room, turn_end, turn_more, turns_done, ◌-◌, refl, rules, arith}
+use Rattle.laws.proofs.Prelude.{over_none, turns_start, turn_room, turn_end, turn_more, turns_done, refl, rules, arith}
 use Rattle.output.proofs.open.write_below.Goals as goal
 
 pub returns-then-alice-bob-eq0 : goal.returns-then-alice-bob-eq0
@@ -27,7 +27,8 @@ loop-t-preserved c = turn_more _ _ _ _ _ _ _ _ c.loop-t.invariant c.loop-t-test.
 pub shape_of-out : goal.shape_of-out
 shape_of-out c = c.loop-t.invariant.wrote.long
 
-pub returns : goal.returns
-returns c =
-    let w = turns_done _ _ _ _ _ _ c.loop-t.invariant c.loop-t-test.false in
-    rw (four_below c.args.below c.args.actor c.args.k) (w.at, w.is)
+pub returns-clause-value : goal.returns-clause-value
+returns-clause-value c = rw (four_below c.args.below c.args.actor c.args.k) (turns_done _ _ _ _ _ _ c.loop-t.invariant c.loop-t-test.false).at
+
+pub returns-clause-out_after : goal.returns-clause-out_after
+returns-clause-out_after c = rw (four_below c.args.below c.args.actor c.args.k) (turns_done _ _ _ _ _ _ c.loop-t.invariant c.loop-t-test.false).is

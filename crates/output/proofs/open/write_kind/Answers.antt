@@ -1,53 +1,55 @@
 -- The steps on the transactions, then those of byte 255.
 use Rattle.output.specs.Forms.Emitted.{below_bytes, last_bytes, kind_bytes}
-use Rattle.laws.proofs.Prelude.{gather, Wrote, wrote_first, wrote_room, wrote_more, front_fits, ℕ, ◌+◌, ◌-◌, ◌≤◌, List, ◌++◌, length, rules, arith}
+use Rattle.laws.proofs.Prelude.{gather, over, Wrote, wrote_first, wrote_room, wrote_more, front_fits, ℕ, ◌+◌, ◌-◌, ◌≤◌, ◌≡◌, List, ◌++◌, length, take, drop, rules, arith}
 use borrow.Rule.Slice.PartMut.{put_mid}
 use Rattle.output.proofs.open.write_kind.Goals as goal
-use Rattle.output.proofs.open.write_kind.Goals.{After-slice_known-2-1, After-slice_known-3-1, Start}
 
--- the two parts, and that they fit
-abbrev start : Start → List ℕ
-start s = gather 32 (below_bytes s.args.below s.args.actor s.args.k)
-
-abbrev rest : Start → List ℕ
-rest s = last_bytes s.args.last s.args.actor s.args.k
-
-fits : (s : Start) → length (start s ++ rest s) ≤ length s.args.out.now
+-- the two parts fit
+fits : (below : List ℕ) (last actor k m : ℕ) → length (kind_bytes below last actor k) ≤ m
+    → length (gather 32 (below_bytes below actor k) ++ last_bytes last actor k) ≤ m
 unfolding kind_bytes
-fits s = s.requires.k_in_bounds
+fits below last actor k m h = h
 
--- the buffer after the first part, and after both
-one : (c : After-slice_known-2-1) → Wrote (start c.before.before.before.before.before) c.args.out.now c.write_below-start.new.out c.write_below-start.result
-one c =
-    wrote_first _ _ _ _ (front_fits (start c.before.before.before.before.before) (rest c.before.before.before.before.before) _ (fits c.before.before.before.before.before)) c.write_below-start.ensures.value c.write_below-start.ensures.out_after
+module _ (below : List ℕ) (last actor k : ℕ) (l₀ l : List ℕ) (n : ℕ) (h : length (kind_bytes below last actor k) ≤ length l₀)
+    (e : n ≡ length (gather 32 (below_bytes below actor k))) (o : l ≡ over (gather 32 (below_bytes below actor k)) l₀) where
+  -- the buffer after the first part, and after both
+  one : Wrote (gather 32 (below_bytes below actor k)) l₀ l n
+  one = wrote_first _ _ _ _ (front_fits _ (last_bytes last actor k) _ (fits below last actor k _ h)) e o
 
-two : (c : After-slice_known-3-1) → Wrote (start c.before.before.before.before.before.before.before.before.before ++ rest c.before.before.before.before.before.before.before.before.before) c.args.out.now (put_mid c.write_below-start.result (length c.write_below-start.new.out - c.write_below-start.result) c.write_below-start.new.out c.write_last-rest.new.out) (c.write_below-start.result + c.write_last-rest.result)
-two c =
-    wrote_more _ _ _ _ _ _ _ (one c.before.before.before.before) (fits c.before.before.before.before.before.before.before.before.before) c.write_last-rest.ensures.value c.write_last-rest.ensures.out_after
+  room : length (last_bytes last actor k) ≤ length (take (length l - n) (drop n l))
+  room = wrote_room _ _ _ (last_bytes last actor k) _ one (fits below last actor k _ h)
+
+  two : (m : ℕ) (ys : List ℕ) → m ≡ length (last_bytes last actor k) → ys ≡ over (last_bytes last actor k) (take (length l - n) (drop n l))
+      → Wrote (kind_bytes below last actor k) l₀ (put_mid n (length l - n) l ys) (n + m)
+  unfolding kind_bytes
+  two m ys x y = wrote_more _ _ _ _ _ _ _ one (fits below last actor k _ h) x y
 
 pub write_below-start-requires : goal.write_below-start-requires
-unfolding kind_bytes
-write_below-start-requires c = record { k_bound = search rules; k_in_bounds = front_fits (start c.before.before) (rest c.before.before) _ (fits c.before.before) }
+write_below-start-requires c =
+    record { k_bound = search rules; k_in_bounds = front_fits _ (last_bytes c.args.last c.args.actor c.args.k) _ (fits _ _ _ _ _ c.requires.k_in_bounds) }
 
 pub slice_bounds-write_last-count : goal.slice_bounds-write_last-count
-unfolding kind_bytes
-slice_bounds-write_last-count c = omega (arith, one c)
+slice_bounds-write_last-count c = omega (arith, one _ _ _ _ _ _ _ c.requires.k_in_bounds c.write_below-start.ensures.value c.write_below-start.ensures.out_after)
 
 pub slice_bounds-write_last-start : goal.slice_bounds-write_last-start
-unfolding kind_bytes
-slice_bounds-write_last-start c = omega (arith, one c)
+slice_bounds-write_last-start c = omega (arith, one _ _ _ _ _ _ _ c.requires.k_in_bounds c.write_below-start.ensures.value c.write_below-start.ensures.out_after)
 
 pub write_last-rest-requires : goal.write_last-rest-requires
-write_last-rest-requires c = record { k_bound = search rules; k_in_bounds = wrote_room _ _ _ (rest c.before.before.before.before.before.before) _ (one c.before) (fits c.before.before.before.before.before.before) }
+write_last-rest-requires c =
+    record { k_bound = search rules; k_in_bounds = room _ _ _ _ _ _ _ c.requires.k_in_bounds c.write_below-start.ensures.value c.write_below-start.ensures.out_after }
 
 pub overflow_add-result : goal.overflow_add-result
-unfolding kind_bytes
-overflow_add-result c = omega (arith, two c)
+overflow_add-result c =
+    omega (arith, two _ _ _ _ _ _ _ c.requires.k_in_bounds c.write_below-start.ensures.value c.write_below-start.ensures.out_after _ _ c.write_last-rest.ensures.value c.write_last-rest.ensures.out_after)
 
 pub shape_of-out : goal.shape_of-out
-unfolding kind_bytes
-shape_of-out c = (two c).long
+shape_of-out c =
+    (two _ _ _ _ _ _ _ c.requires.k_in_bounds c.write_below-start.ensures.value c.write_below-start.ensures.out_after _ _ c.write_last-rest.ensures.value c.write_last-rest.ensures.out_after).long
 
-pub returns : goal.returns
-unfolding kind_bytes
-returns c = record { value = (two c).at; out_after = (two c).is }
+pub returns-clause-value : goal.returns-clause-value
+returns-clause-value c =
+    (two _ _ _ _ _ _ _ c.requires.k_in_bounds c.write_below-start.ensures.value c.write_below-start.ensures.out_after _ _ c.write_last-rest.ensures.value c.write_last-rest.ensures.out_after).at
+
+pub returns-clause-out_after : goal.returns-clause-out_after
+returns-clause-out_after c =
+    (two _ _ _ _ _ _ _ c.requires.k_in_bounds c.write_below-start.ensures.value c.write_below-start.ensures.out_after _ _ c.write_last-rest.ensures.value c.write_last-rest.ensures.out_after).is

@@ -1,6 +1,6 @@
 -- The steps of the kinds before k + 1.
 use Rattle.output.specs.Forms.Emitted.{actor_bytes}
-use Rattle.laws.proofs.Prelude.{turns_start, turn_room, turn_end, turn_more, turns_done, ◌-◌, rules, arith}
+use Rattle.laws.proofs.Prelude.{turns_start, turn_room, turn_end, turn_more, turns_done, rules, arith}
 use Rattle.output.proofs.open.write_open.Goals as goal
 
 pub loop-k-init : goal.loop-k-init

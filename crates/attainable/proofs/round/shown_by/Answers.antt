@@ -1,0 +1,8 @@
+-- A member shows its secrets.
+use Rattle.attainable.proofs.round.shown_by.Goals as goal
+
+pub returns-then-has : goal.returns-then-has
+returns-then-has c = simp (← c.has.ensures, c.if-has.true)
+
+pub returns : goal.returns
+returns c = simp (← c.has.ensures, c.if-has.false)

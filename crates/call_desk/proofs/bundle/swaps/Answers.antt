@@ -1,0 +1,7 @@
+-- The first byte.
+use Rattle.call_desk.specs.Bundle.{swaps}
+use Rattle.call_desk.proofs.bundle.swaps.Goals as goal
+
+pub returns : goal.returns
+unfolding swaps
+returns c = c.wide.ensures

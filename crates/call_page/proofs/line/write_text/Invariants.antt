@@ -1,0 +1,13 @@
+-- The column, byte by byte.
+use Rattle.laws.proofs.Prelude.{◌-◌}
+use Rattle.call_page.specs.Line.{column}
+use Rattle.output.proofs.Writing.{Copied}
+use Rattle.call_page.proofs.line.write_text.Given as goal
+
+abbrev pub invariant-loop-i : goal.invariant-loop-i
+invariant-loop-i l =
+    Copied (column l.width l.text) l.initial.out l.out l.i
+
+abbrev pub decreases-loop-i : goal.decreases-loop-i
+decreases-loop-i l =
+    l.end - l.i

@@ -1,0 +1,12 @@
+-- The numbers of the transactions before t.
+use Rattle.call_timelocks.specs.Fields.{field_bytes}
+use Rattle.laws.proofs.Prelude.{Turns, ◌-◌}
+use Rattle.call_timelocks.proofs.fields.write_fields.Given as goal
+
+abbrev pub invariant-loop-t : goal.invariant-loop-t
+invariant-loop-t l =
+    Turns (field_bytes l.sheet l.per_day l.base) l.n l.initial.out l.out l.at l.t
+
+abbrev pub decreases-loop-t : goal.decreases-loop-t
+decreases-loop-t l =
+    l.n - l.t

@@ -1,0 +1,8 @@
+-- By its kind, then by its children.
+use Rattle.kept.proofs.kept.leads.Goals as goal
+
+pub returns-then-has : goal.returns-then-has
+returns-then-has c = rw (← c.has.ensures, c.if-has.true) c.has-then-has.ensures
+
+pub returns : goal.returns
+returns c = rw (← c.has.ensures, c.if-has.false)

@@ -1,0 +1,13 @@
+-- Those below t.
+use Rattle.laws.proofs.Prelude.{◌-◌, ◌≤◌, ◌≡◌}
+use Rattle.laws.specs.Sets.{set_below}
+use Rattle.soonest.specs.Soonest.{since_locked}
+use Rattle.prospect.proofs.kinds.since_locked.Given as goal
+
+abbrev pub invariant-loop-t : goal.invariant-loop-t
+invariant-loop-t l =
+    (l.t ≤ l.n) × (l.found ≡ set_below l.t (since_locked l.sheet))
+
+abbrev pub decreases-loop-t : goal.decreases-loop-t
+decreases-loop-t l =
+    l.n - l.t

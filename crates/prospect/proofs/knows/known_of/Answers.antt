@@ -1,0 +1,16 @@
+-- The secrets of those below t.
+use Rattle.laws.proofs.Prelude.{rules}
+use Rattle.attainable.specs.Forms.Round.{shown_at, shown_in}
+use Rattle.attainable.proofs.Masks.{union_start, union_more, union_done}
+use Rattle.prospect.proofs.knows.known_of.Goals as goal
+
+pub loop-t-init : goal.loop-t-init
+loop-t-init c = (search rules, union_start _)
+
+pub loop-t-preserved : goal.loop-t-preserved
+unfolding shown_at
+loop-t-preserved c = (search rules, union_more _ _ _ _ c.loop-t.invariant.1 c.shown_by-found.ensures)
+
+pub returns : goal.returns
+unfolding shown_in
+returns c = rw (← c.count-n.ensures.is, ← (union_done _ _ _ _ c.loop-t.invariant.0 c.loop-t-test.false c.loop-t.invariant.1))

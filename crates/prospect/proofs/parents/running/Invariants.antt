@@ -1,0 +1,15 @@
+-- Those below t.
+use Rattle.laws.proofs.Prelude.{◌-◌, ◌≤◌, ◌≡◌}
+use Rattle.laws.specs.Sets.{set_below}
+use mathlib.Core.Bool.{not, ◌&&◌}
+use Rattle.slots.specs.Ancestry.{has_parent}
+use Rattle.laws.specs.Mask.{bit}
+use Rattle.prospect.proofs.parents.running.Given as goal
+
+abbrev pub invariant-loop-t : goal.invariant-loop-t
+invariant-loop-t l =
+    (l.t ≤ l.n) × (l.found ≡ set_below l.t (λ k. not (bit l.fixed k) && has_parent l.sheet (bit l.can) k))
+
+abbrev pub decreases-loop-t : goal.decreases-loop-t
+decreases-loop-t l =
+    l.n - l.t

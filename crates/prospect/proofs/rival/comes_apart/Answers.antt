@@ -1,0 +1,8 @@
+-- By the two sets.
+use Rattle.prospect.proofs.rival.comes_apart.Goals as goal
+
+pub returns-then-has : goal.returns-then-has
+returns-then-has c = rw (← c.has.ensures, c.if-has.true)
+
+pub returns : goal.returns
+returns c = rw (← c.has.ensures, c.if-has.false) c.has-2.ensures
