@@ -19,9 +19,9 @@ closure() { # NAME
         END { visit(name) }' "$top/crates.txt"
 }
 
-# The words that build a file, and its sources by name and content, as one number.
+# The words that build a file, and its sources by name and content, as one number; what rt keeps beside a crate's sources is none.
 sum_of() { # WORDS SOURCE..
-    (cd "$top" && echo "$1" && find "${@:2}" -type f -print0 | sort -z | xargs -0 sha256sum) | sha256sum
+    (cd "$top" && echo "$1" && find "${@:2}" -name out -prune -o -type f -print0 | sort -z | xargs -0 sha256sum) | sha256sum
 }
 
 # Whether the file stands as it was built, by these words and from these sources as they are now. Times don't matter.

@@ -42,32 +42,28 @@ const CRATES: [&str; 15] = [
 /// Where each call's answer is defined, and the definition's name; of slack its parts too.
 const ANSWERS: [(&str, &str); 16] = [
     ("position.specs.Play", "run"),
-    ("position.specs.Answers", "listAnswer"),
-    ("sheet.specs.Check", "sheetRefusal"),
-    ("dated.specs.Report", "reportAnswer"),
-    ("call_page.specs.Page", "pageAnswer"),
-    ("call_outage.specs.Answer", "outageAnswer"),
-    ("call_slack.specs.Answer", "slackAnswer"),
-    ("call_slack.specs.Row", "countedAt, destinationFor, isDue"),
+    ("position.specs.Answers", "list_answer"),
+    ("sheet.specs.Check", "sheet_refusal"),
+    ("dated.specs.Report", "report_answer"),
+    ("call_page.specs.Page", "page_answer"),
+    ("call_outage.specs.Answer", "outage_answer"),
+    ("call_slack.specs.Answer", "slack_answer"),
+    ("call_slack.specs.Row", "counted_at, destination_for, is_due"),
     ("slack.specs.Slack", "lasts"),
-    ("call_timelocks.specs.Timelocks", "timelocksAnswer"),
-    ("call_desk.specs.Desk", "deskAnswer"),
-    ("call_blocks.specs.BlockList", "blocksRefusal"),
-    ("call_earliest.specs.Answer", "earliestAnswer"),
-    ("call_ask.specs.Ask", "askAnswer"),
-    ("call_ask.specs.Commit", "commitAnswer"),
-    ("call_shrink.specs.Shrink", "shrinkAnswer"),
+    ("call_timelocks.specs.Timelocks", "timelocks_answer"),
+    ("call_desk.specs.Desk", "desk_answer"),
+    ("call_blocks.specs.BlockList", "blocks_refusal"),
+    ("call_earliest.specs.Answer", "earliest_answer"),
+    ("call_ask.specs.Ask", "ask_answer"),
+    ("call_ask.specs.Commit", "commit_answer"),
+    ("call_shrink.specs.Shrink", "shrink_answer"),
 ];
 /// What every file of cases uses beside the answers.
 const HEAD: &str = "-- Cases and the model's answers.
-use Prim.Native.Nat.{ℕ}
-use mathlib.Core.Path.{_≡_, refl}
-use mathlib.Core.Bool.{true, not, _&&_}
-use mathlib.Core.List.{List, [], _∷_}
-use lib.Dec.{eqb}
-use Rattle·laws.specs.Same.{same}
-use Rattle·position.specs.Answers.{packed}
-use Rattle·definitions·specs.specs.Opened.{opened}
+use Rattle.std.specs.Prelude.{ℕ, ◌≡◌, refl, true, not, ◌&&◌, List, [], ◌∷◌, eqb}
+use Rattle.laws.specs.Same.{same}
+use Rattle.position.specs.Answers.{packed}
+use Rattle.definitions.specs.Opened.{opened}
 ";
 
 /// The bytes as a list of antt.
@@ -88,7 +84,7 @@ fn named(name: &str, number: usize, bytes: &[u8]) -> String {
 
 /// One name that opens every definition that the calls answer by, found in the files of `specs/`.
 fn opener(crates: &Path) -> io::Result<String> {
-    let mut uses = "use Rattle·position.proofs.Opened as position\n".to_string();
+    let mut uses = "use Rattle.position.proofs.Opened as position\n".to_string();
     let mut names = "position.opened".to_string();
     for name in CRATES {
         let mut files: Vec<_> = fs::read_dir(crates.join(name).join("specs"))?
@@ -105,7 +101,7 @@ fn opener(crates: &Path) -> io::Result<String> {
             let found: Vec<&str> = found.filter_map(|line| line.split(' ').next()).collect();
             if !found.is_empty() {
                 let alias = format!("{name}{stem}");
-                writeln!(uses, "use Rattle·{name}.specs.{stem} as {alias}").unwrap();
+                writeln!(uses, "use Rattle.{name}.specs.{stem} as {alias}").unwrap();
                 found
                     .iter()
                     .for_each(|word| write!(names, " {alias}.{word}").unwrap());
@@ -123,24 +119,24 @@ fn answer(request: &Request, number: usize) -> String {
     let (s, u) = (format!("s{number}"), format!("u{number}"));
     let (j, out) = (format!("j{number}"), "out");
     match request {
-        Request::Four(Call::Check) => format!("sheetRefusal {s}"),
+        Request::Four(Call::Check) => format!("sheet_refusal {s}"),
         Request::Four(Call::Run) => format!("run {s} {u} {j}"),
-        Request::Four(Call::List) => format!("listAnswer {s} {u} {j} {out}"),
-        Request::Four(Call::Report) => format!("reportAnswer {s} {u} {j} {out}"),
-        Request::Page => format!("pageAnswer {s} {u} {j} {out}"),
-        Request::Outage { blocks } => format!("outageAnswer {s} {u} {j} {blocks} {out}"),
-        Request::Slack => format!("slackAnswer {s} {u} {j} {out}"),
-        Request::Timelocks { base } => format!("timelocksAnswer {s} {u} {base} {out}"),
-        Request::Desk { bundle } => format!("deskAnswer {s} ({}) {out}", list(bundle)),
-        Request::Blocks { list: entries } => format!("blocksRefusal {s} {u} ({})", list(entries)),
+        Request::Four(Call::List) => format!("list_answer {s} {u} {j} {out}"),
+        Request::Four(Call::Report) => format!("report_answer {s} {u} {j} {out}"),
+        Request::Page => format!("page_answer {s} {u} {j} {out}"),
+        Request::Outage { blocks } => format!("outage_answer {s} {u} {j} {blocks} {out}"),
+        Request::Slack => format!("slack_answer {s} {u} {j} {out}"),
+        Request::Timelocks { base } => format!("timelocks_answer {s} {u} {base} {out}"),
+        Request::Desk { bundle } => format!("desk_answer {s} ({}) {out}", list(bundle)),
+        Request::Blocks { list: entries } => format!("blocks_refusal {s} {u} ({})", list(entries)),
         Request::Earliest { mask, dests } => {
-            format!("earliestAnswer {s} {u} {mask} ({}) {out}", list(dests))
+            format!("earliest_answer {s} {u} {mask} ({}) {out}", list(dests))
         }
-        Request::Ask { step } => format!("askAnswer {s} {u} {j} ({})", list(step)),
+        Request::Ask { step } => format!("ask_answer {s} {u} {j} ({})", list(step)),
         Request::Commit { step, count, size } => {
-            format!("commitAnswer {s} {u} ({}) {count} {out} {size}", list(step))
+            format!("commit_answer {s} {u} ({}) {count} {out} {size}", list(step))
         }
-        Request::Shrink => format!("shrinkAnswer {s} {u} k{number} {out}"),
+        Request::Shrink => format!("shrink_answer {s} {u} k{number} {out}"),
     }
 }
 
@@ -157,14 +153,14 @@ fn rows(number: usize, bytes: &[u8]) -> String {
             k => format!("(lasts {s} {u} p {x} {k} && not (lasts {s} {u} p {x} {}))", k + 1),
         };
         let (blocks, t, d) = (row.blocks, bytes[4], bytes[5]);
-        let due = format!("isDue {s} {u} p {x} {blocks} {t}");
+        let due = format!("is_due {s} {u} p {x} {blocks} {t}");
         let due = if row.due { due } else { format!("not ({due})") };
         format!(
-            "({lasts} && (eqb (countedAt {s} {u} p {x} {blocks}) {t} && (eqb (destinationFor {s} {x} {t}) {d} && {due})))"
+            "({lasts} && (eqb (counted_at {s} {u} p {x} {blocks}) {t} && (eqb (destination_for {s} {x} {t}) {d} && {due})))"
         )
     });
     let facts: Vec<String> = facts.collect();
-    let run = format!("run s{number} u{number} j{number} .position");
+    let run = format!("(run s{number} u{number} j{number}).position");
     format!("(let p = {run} in {})", facts.join(" && "))
 }
 
@@ -175,10 +171,10 @@ fn fact(request: &Request, case: &Case, number: usize, room: usize) -> (String, 
     let answered = by_model(request, &Inputs::of(case), &mut after);
     let value = answer(request, number);
     let (count, buffer) = match request {
-        Request::Four(Call::Run) => ("(a .accepted)", false),
-        Request::Ask { .. } => ("(a .count)", false),
+        Request::Four(Call::Run) => ("a.accepted", false),
+        Request::Ask { .. } => ("a.count", false),
         Request::Timelocks { .. } => ("0", true),
-        _ => ("(a .count)", true),
+        _ => ("a.count", true),
     };
     let claim = match request {
         Request::Four(Call::Check) | Request::Blocks { .. } => {
@@ -189,11 +185,11 @@ fn fact(request: &Request, case: &Case, number: usize, room: usize) -> (String, 
             rows(number, &after[..slack::ROW * parties])
         }
         _ if buffer => format!(
-            "(let out = {} in let a = {value} in eqb (packed (a .refusal) {count}) {answered} && same (a .buffer) ({}))",
+            "(let out = {} in let a = {value} in eqb (packed a.refusal {count}) {answered} && same a.buffer ({}))",
             list(&before),
             list(&after)
         ),
-        _ => format!("(let a = {value} in eqb (packed (a .refusal) {count}) {answered})"),
+        _ => format!("(let a = {value} in eqb (packed a.refusal {count}) {answered})"),
     };
     let name = format!("{}{number}", request.name());
     let text = format!("{name} : {claim} ≡ true\nunfolding opened packed same\n{name} = refl\n\n");
@@ -273,7 +269,7 @@ fn main() -> io::Result<()> {
     fs::write(folder.join("specs/Opened.antt"), opener(Path::new(crates))?)?;
     let mut head = HEAD.to_string();
     for (place, name) in ANSWERS {
-        writeln!(head, "use Rattle·{place}.{{{name}}}").unwrap();
+        writeln!(head, "use Rattle.{place}.{{{name}}}").unwrap();
     }
     let mut modules = "pub mod Opened\n".to_string();
     let mut refusals = [0; 38];

@@ -1,0 +1,12 @@
+-- The answer fits the number that C gets.
+use Rattle.position.specs.Answers.{packed}
+use Rattle.call_slack.proofs.SlackAnswers.{slack_below}
+use Rattle.laws.proofs.Prelude.{arith}
+use Rattle.swap.proofs.swap_slack.Goals as goal
+
+pub overflow_mul-result : goal.overflow_mul-result
+overflow_mul-result c = record { fits = omega (arith, c.slack.ensures.value, slack_below c.args.sheet.now c.args.setup.now c.args.journal.now c.args.out.now) }
+
+pub returns : goal.returns
+unfolding packed
+returns c = record { value = omega (arith, c.slack.ensures.value); out_after = c.slack.ensures.out_after }
