@@ -1,7 +1,7 @@
 -- The answer of ask, case by case.
 -- Assumes nothing.
 use Rattle.laws.proofs.Prelude.{ℕ, ◌≤◌, ◌<◌, ◌≡◌, refl, sym, ◌∙◌, Bool, List, [], ◌∷◌, eqb, lit<, length, eqb-true, eqb-false, eq-eqb, ne_eqb, arith, split}
-use Rattle.position.proofs.Rules.{accepted, step_field, step}
+use Rattle.position.proofs.Rules.{step_field, step}
 use Rattle.position.specs.declared.Position.{Position}
 use Rattle.position.specs.declared.Ran.{Ran}
 use Rattle.call_run.proofs.Bounds.{step_below}

@@ -2,7 +2,7 @@
 -- Assumes nothing.
 use Rattle.laws.proofs.Prelude.{ℕ, ◌≤◌, ◌<◌, ◌≡◌, refl, sym, ◌∙◌, Bool, true, false, false≢true, List, [], ◌∷◌, ◌++◌, eqb, lit<, lit≤, eqb-true, eqb-false, ne_eqb, arith}
 use Rattle.laws.proofs.Prelude.{split, first_failing, passed, passed_append, failed_append, answer_below}
-use Rattle.position.proofs.Rules.{accepted, journal_length, array_tests, sheet_tests, sheet_refusal, setup_tests, setup_refusal, Fit, start, journal_steps, journal_right}
+use Rattle.position.proofs.Rules.{journal_length, array_tests, sheet_tests, sheet_refusal, setup_tests, setup_refusal, Fit, start, journal_steps, journal_right}
 use Rattle.position.specs.declared.Ran.{Ran}
 use Rattle.position.proofs.Rules.{call_tests, run}
 use Rattle.call_run.proofs.Runs.{row_counts, run_allowed, run_refused, run_checked, ran_fit}

@@ -1,6 +1,6 @@
 -- Lists of a list's elements, end to end: where each stands.
 -- Assumes nothing.
-use Rattle.laws.proofs.Prelude.{ℕ, zero, suc, ◌+◌, ◌*◌, ◌≤◌, ◌<◌, ◌≡◌, refl, sym, ap, ◌∙◌, List, [], ◌∷◌, ◌++◌, append_assoc, append-nil, length, get_or, take, drop}
+use Rattle.laws.proofs.Prelude.{ℕ, zero, suc, ◌*◌, ◌≤◌, ◌<◌, ◌≡◌, refl, sym, ap, ◌∙◌, List, [], ◌∷◌, ◌++◌, append_assoc, append-nil, length, get_or, take, drop}
 use Rattle.laws.proofs.Prelude.{length-append, arith, not-suc-le-zero, le_of_suc-le-suc, flat_map, All, also, gather, sum_below}
 use native.Mathlib.Nat.{mul-zero, mul-suc}
 use lib.Seq.{take-append_seam, drop-append-add}

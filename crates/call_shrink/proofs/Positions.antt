@@ -1,6 +1,6 @@
 -- A round is the same where each step is tried from the position before it.
 -- Assumes nothing.
-use Rattle.laws.proofs.Prelude.{ℕ, ◌+◌, ◌≡◌, refl, sym, ap, ◌∙◌, Bool, true, false, List, [], ◌∷◌, ◌++◌, append_assoc, append-nil, length, arith, split, either}
+use Rattle.laws.proofs.Prelude.{ℕ, ◌≡◌, refl, sym, ap, ◌∙◌, Bool, true, false, List, [], ◌∷◌, ◌++◌, append_assoc, append-nil, length, arith, split, either}
 use Rattle.position.proofs.Rules.{start, FourBytes, step, run_from}
 use Rattle.position.specs.declared.Position.{Position}
 use Rattle.position.proofs.RowSteps.{run_ends}

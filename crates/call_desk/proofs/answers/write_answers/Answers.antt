@@ -1,5 +1,5 @@
 -- The answers of the swaps before i; the journal of swap i starts at `start`.
-use Rattle.laws.proofs.Prelude.{◌-◌, arith, turns_start}
+use Rattle.laws.proofs.Prelude.{arith, turns_start}
 use Rattle.call_desk.proofs.Bundles.{arrays, arrays_some, stands, start_first, start_next}
 use Rattle.call_desk.proofs.Swaps.{all_room, eight_room, eight_end, eight_more, answers_done}
 use Rattle.call_desk.proofs.answers.write_answers.Goals as goal

@@ -1,5 +1,5 @@
 -- The sum of the lengths before i.
-use Rattle.laws.proofs.Prelude.{◌-◌, rules, arith, sum_start, sum_more, sum_done}
+use Rattle.laws.proofs.Prelude.{rules, arith, sum_start, sum_more, sum_done}
 use Rattle.call_desk.proofs.Bundles.{arrays_some}
 use Rattle.call_desk.proofs.bundle.lengths_sum.Goals as goal
 

@@ -1,5 +1,5 @@
 -- What is written and what is left to write come to the whole.
-use Rattle.laws.proofs.Prelude.{◌-◌, ◌<◌, arith}
+use Rattle.laws.proofs.Prelude.{◌<◌, arith}
 use Rattle.output.proofs.Writing.{writing_start, writing_more, writing_done}
 use Rattle.call_shrink.proofs.Writing.{bytes_start, bytes_turn, bytes_none, all_room, turn_room, turn_end, round_written}
 use Rattle.call_shrink.proofs.Twins.{twins_start, twins_more}

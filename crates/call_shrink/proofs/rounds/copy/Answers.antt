@@ -1,5 +1,5 @@
 -- The first i bytes are over the front.
-use Rattle.laws.proofs.Prelude.{◌-◌, refl}
+use Rattle.laws.proofs.Prelude.{refl}
 use Rattle.output.proofs.Writing.{copied_none, copied_more, copied_all}
 use Rattle.call_shrink.proofs.rounds.copy.Goals as goal
 

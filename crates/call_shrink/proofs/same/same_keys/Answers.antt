@@ -1,5 +1,5 @@
 -- The same below k.
-use Rattle.laws.proofs.Prelude.{◌-◌, refl, rules, clash}
+use Rattle.laws.proofs.Prelude.{refl, rules, clash}
 use Rattle.call_shrink.proofs.SameParts.{agree_start, agree_more, agree_all}
 use Rattle.call_shrink.proofs.same.same_keys.Goals as goal
 

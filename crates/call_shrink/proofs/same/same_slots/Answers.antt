@@ -1,5 +1,5 @@
 -- The same below k.
-use Rattle.laws.proofs.Prelude.{◌-◌, refl, not-false, rules, clash, length_of_map}
+use Rattle.laws.proofs.Prelude.{refl, not-false, rules, clash, length_of_map}
 use Rattle.call_shrink.proofs.SameParts.{agree_start, agree_more, agree_all}
 use Rattle.call_shrink.proofs.same.same_slots.Goals as goal
 

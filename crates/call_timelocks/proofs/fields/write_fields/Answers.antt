@@ -2,7 +2,7 @@
 use Rattle.call_timelocks.proofs.Lengths.{field_length, fields_room}
 use Rattle.call_timelocks.specs.Fields.{n_lock_time, n_sequence, field_bytes, timelock_bytes}
 use Rattle.call_timelocks.specs.Limits.{absolute_right}
-use Rattle.laws.proofs.Prelude.{all_at, bytes_of, turns_start, turn_room, turn_end, turn_more, turns_done, ℕ, ◌-◌, ◌<◌, ◌≡◌, sym, List, ◌++◌, arith}
+use Rattle.laws.proofs.Prelude.{all_at, bytes_of, turns_start, turn_room, turn_end, turn_more, turns_done, ℕ, ◌<◌, ◌≡◌, sym, List, ◌++◌, arith}
 use Rattle.sheet.specs.Field.{count}
 use Rattle.call_timelocks.proofs.fields.write_fields.Goals as goal
 

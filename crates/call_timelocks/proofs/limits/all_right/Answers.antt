@@ -1,6 +1,5 @@
 -- A rule for all transactions. Each transaction below t passes.
-use Rattle.call_timelocks.specs.Forms.Limits.{limit_rule}
-use Rattle.laws.proofs.Prelude.{all_start, all_more, all_broken, all_done, ◌-◌, sym, ◌∙◌, true, not-true, not-false, rules}
+use Rattle.laws.proofs.Prelude.{all_start, all_more, all_broken, all_done, sym, ◌∙◌, not-true, not-false, rules}
 use Rattle.call_timelocks.proofs.limits.all_right.Goals as goal
 
 pub loop-t-init : goal.loop-t-init
