@@ -45,7 +45,7 @@ known_from s p members = bit_or (shared_secrets s (λ k. shared_any (slot p k)))
 unfoldable pub overdue : List ℕ → List ℕ → Position → ℕ → Bool
 overdue s u p t = eqb (stealth u) 0 && leb (deadline_in s u p t) p.mined
 
--- "under careful conduct, X being Bob: refund_1 once success has a shared entry, refund_2 once Alice holds secret_bob": what a careful Alice
+-- "under careful conduct, X being Bob: refund_1 once success has a shared entry, refund_2 once Alice holds secretBob": what a careful Alice
 -- no longer sends, by document 01's Conduct
 unfoldable pub forgone : List ℕ → List ℕ → Position → ℕ → Bool
 forgone s u p t = is_careful u && not (safe_to_send s p alice t)

@@ -5,7 +5,8 @@ use Rattle.position.proofs.Rules.{count, invalidated, reported_line, in_pool, in
 use Rattle.position.specs.declared.Position.{Position}
 use Rattle.position.proofs.Rules.{report_bytes, printed_line}
 use native.Mathlib.Nat.{mod-le}
-use Rattle.laws.specs.Little.{number_bytes, bytes_again}
+use Rattle.laws.specs.Little.{number_bytes}
+use Rattle.laws.proofs.Little.{bytes_again}
 use Rattle.readings.specs.Reported.{row_line}
 use Rattle.step_laws.proofs.Reports.{line_read}
 use Rattle.call_page.specs.Line.{line}

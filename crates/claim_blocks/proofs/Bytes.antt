@@ -2,7 +2,7 @@
 -- Assumes nothing.
 use Rattle.laws.proofs.Prelude.{◌%◌, ◌<◌, ◌≡◌, refl, Bool, true, List, [], ◌∷◌, length, arith, and_parts, All, empty, also, every, bytes_of}
 use Rattle.position.proofs.Rules.{Entry}
-use Rattle.laws.specs.Little.{number_back}
+use Rattle.laws.proofs.Little.{number_back}
 use Rattle.call_blocks.specs.BlockList.{list_entries, entry_bytes, list_bytes}
 use Rattle.call_blocks.proofs.Lengths.{length_list}
 

@@ -62,7 +62,7 @@ module _ (u : List ℕ) (c : conduct u ≡ 2) (p : Position) where
       let z = eqb-true (shared p success contract) 0 (may_send_lem u c p alice refund1 e w).1 in
       clash (rw z at h) (no_bit i)
 
-  -- "once she holds secret_bob she sends spend_B only"
+  -- "once she holds secretBob she sends spend_B only"
   pub alice_refund2 : (e : ℕ) → Sent (sheet u) u p alice refund2 e → holds p alice secret_bob ≡ true → ⊥
   unfolding safe_to_send secret_safe opened
   alice_refund2 e w h = false≢true (rw h at (may_send_lem u c p alice refund2 e w).1)

@@ -19,7 +19,7 @@ use Rattle.claim_careful.specs.Claim.{in_shared}
 unfoldable pub all_shared : Position → ℕ → List ℕ → Bool
 all_shared p i ids = every (λ t. bit (shared p t contract) i) ids
 
--- "Phase_1_cond": sig_alice on what Alice shares first, sig_bob on what Bob does: "∃ tx ∈ shared_knowledge : tx.id = id ∧ sig_alice ∈ tx.ss"
+-- "Phase_1_cond": sig_alice on what Alice shares first, sig_bob on what Bob does: "∃ tx ∈ shared_knowledge : tx.id = id ∧ sigAlice ∈ tx.ss"
 unfoldable pub both_shared : Position → Bool
 both_shared p = all_shared p sig_alice (first_shares alice) && all_shared p sig_bob (first_shares bob)
 

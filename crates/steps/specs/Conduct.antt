@@ -17,11 +17,11 @@ alice_shares_rule phase refund late t = eqb phase 3 && (eqb t success && (not re
 unfoldable pub may_share_rule : ℕ → Bool → ℕ → ℕ → Bool
 may_share_rule phase hers party t = pick (eqb t no_transaction) (eqb phase 0) (eqb party alice && hers)
 
--- "Phase 3: Alice gives sig_alice if she holds secret_bob and it isn't late"
+-- "Phase 3: Alice gives sigAlice if she holds secretBob and it isn't late"
 unfoldable pub alice_gives_rule : ℕ → Bool → Bool → ℕ → Bool
 alice_gives_rule phase knows late i = eqb phase 3 && (eqb i sig_alice && (knows && not late))
 
--- "Phases 2 and 3: .. He gives secret_bob if he has sig_alice and lacks secret_alice for success, and it isn't late."
+-- "Phases 2 and 3: .. He gives secretBob if he has sigAlice and lacks secretAlice for success, and it isn't late."
 unfoldable pub bob_gives_rule : ℕ → ℕ → Bool → ℕ → Bool
 bob_gives_rule phase has late i = leb 2 phase && (eqb i secret_bob && (bit has sig_alice && (not (bit has secret_alice) && not late)))
 
@@ -36,7 +36,7 @@ may_send phase party t =
     (eqb party alice && ((eqb phase 1 && eqb t lock_a) || leb 2 phase))
     || (eqb party bob && leb 2 phase)
 
--- "Of the others that need secret_alice, once she holds secret_bob she sends spend_B only."
+-- "Of the others that need secretAlice, once she holds secretBob she sends spend_B only."
 unfoldable pub secret_safe_rule : List ℕ → Bool → ℕ → Bool
 secret_safe_rule s knows t = not (bit (required s t) secret_alice) || (not knows || eqb t spend_b)
 

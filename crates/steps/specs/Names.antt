@@ -2,7 +2,7 @@
 -- Assumes nothing.
 use Rattle.std.specs.Prelude.{ℕ}
 
--- "signature bits 1 sig_alice, 2 sig_bob, 4 secret_alice, 8 secret_bob": a signature's number is "its bit's place"
+-- "signature bits 1 sigAlice, 2 sigBob, 4 secretAlice, 8 secretBob": a signature's number is "its bit's place"
 abbrev pub sig_alice : ℕ
 sig_alice = 0
 
