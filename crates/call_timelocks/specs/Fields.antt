@@ -1,4 +1,4 @@
--- The two numbers of each transaction: "The signing boxes need n_lock_time and n_sequence."
+-- The two numbers of each transaction: "The signing boxes need nLockTime and nSequence."
 -- Assumes nothing.
 use Rattle.std.specs.Prelude.{ℕ, ◌+◌, List, ◌++◌, eqb}
 use Rattle.laws.specs.Booleans.{pick}
