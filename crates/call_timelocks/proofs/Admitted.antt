@@ -17,7 +17,7 @@ module _ (from at : Block) where
   unfolding admitted is_final relative bit
   none_admitted = refl
 
-  -- FFFFFFFE: by n_lock_time alone, held to what it is
+  -- FFFFFFFE: by nLockTime alone, held to what it is
   clock_admitted : (l : ℕ) → admitted (boxed l 4294967294) from at ≡ (eqb l 0 || ltb l (pick (ltb l threshold) at.height at.time))
   unfolding admitted is_final clock relative bit
   clock_admitted l = ends (eqb l 0) (ltb l (pick (ltb l threshold) at.height at.time))

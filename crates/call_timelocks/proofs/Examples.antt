@@ -21,7 +21,7 @@ boxed_fields = (refl, refl, refl)
 block : Block
 block = record { height = 800000; time = 1690000000 }
 
--- n_lock_time: none; a height that is passed, and one that is not; a time that is passed, and one that is not; a final sequence
+-- nLockTime: none; a height that is passed, and one that is not; a time that is passed, and one that is not; a final sequence
 unlocked : is_final (boxed 0 0) block ≡ true
 unfolding opened block
 unlocked = refl

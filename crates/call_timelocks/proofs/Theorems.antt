@@ -48,7 +48,7 @@ pub relative_needed : (field_refusal (pair 2 255) (1 ∷ 1 ∷ 0 ∷ 0 ∷ []) 0
 unfolding opened pair
 relative_needed = (refl, refl, refl)
 
--- By example, 27: from 500,000,000 on n_lock_time is a time. It would be passed before the lock height, by today's time, and by an earlier
+-- By example, 27: from 500,000,000 on nLockTime is a time. It would be passed before the lock height, by today's time, and by an earlier
 -- time not be passed after it.
 pub absolute_needed : (field_refusal (pair 1 1) (1 ∷ 0 ∷ 0 ∷ 0 ∷ []) 499999999 ≡ 27)
     × (admitted (boxed (n_lock_time (pair 1 1) 1 499999999 1) (n_sequence (pair 1 1) 1 1)) (real 499999999 1 0) (real 499999999 1 1690000000) ≡ true)

@@ -1,4 +1,4 @@
--- Bitcoin's public rules on the blocks that a time-locked transaction may stand in: n_lock_time, and n_sequence by BIP 68. The transaction
+-- Bitcoin's public rules on the blocks that a time-locked transaction may stand in: nLockTime, and nSequence by BIP 68. The transaction
 -- has one input, which spends an output of its parent.
 -- Assumes nothing.
 use Rattle.std.specs.Prelude.{ℕ, ◌+◌, ◌*◌, ◌%◌, Bool, not, ◌&&◌, ◌||◌, eqb, ltb, leb}
@@ -16,7 +16,7 @@ pub record Block : Type 0 where
   pub height : ℕ
   pub time : ℕ
 
--- LOCKTIME_THRESHOLD: an n_lock_time below it is a height, from it on a time
+-- LOCKTIME_THRESHOLD: an nLockTime below it is a height, from it on a time
 abbrev pub threshold : ℕ
 threshold = 500000000
 
@@ -24,19 +24,19 @@ threshold = 500000000
 abbrev pub final : ℕ
 final = 4294967295
 
--- what n_lock_time is held to
+-- what nLockTime is held to
 unfoldable pub clock : Transaction → Block → ℕ
 clock x at = pick (ltb x.lock_time threshold) at.height at.time
 
--- IsFinalTx: n_lock_time is 0, or it is passed, or every input's sequence is final
+-- IsFinalTx: nLockTime is 0, or it is passed, or every input's sequence is final
 unfoldable pub is_final : Transaction → Block → Bool
 is_final x at = eqb x.lock_time 0 || (ltb x.lock_time (clock x at) || eqb x.sequence final)
 
--- BIP 68 is in force: version 2 or more, and the disable flag (SEQUENCE_LOCKTIME_DISABLE_FLAG), bit 31 of n_sequence, is not set
+-- BIP 68 is in force: version 2 or more, and the disable flag (SEQUENCE_LOCKTIME_DISABLE_FLAG), bit 31 of nSequence, is not set
 unfoldable pub relative : Transaction → Bool
 relative x = leb 2 x.version && not (bit x.sequence 31)
 
--- its value: the low 16 bits of n_sequence (SEQUENCE_LOCKTIME_MASK)
+-- its value: the low 16 bits of nSequence (SEQUENCE_LOCKTIME_MASK)
 unfoldable pub value : Transaction → ℕ
 value x = x.sequence % 65536
 

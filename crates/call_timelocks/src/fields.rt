@@ -13,10 +13,10 @@ use slots::lock_height::lock_blocks;
 // FFFFFFFF: no lock at all.
 const FINAL: u32 = 4294967295;
 
-// FFFFFFFE: n_lock_time counts, and BIP 68 does not.
+// FFFFFFFE: nLockTime counts, and BIP 68 does not.
 const NOT_FINAL: u32 = 4294967294;
 
-// n_lock_time, where 27 is not given.
+// nLockTime, where 27 is not given.
 fn lock_time(sheet: &[u8], per_day: u16, base: u32, t: usize) -> u32
     requires sized { Sized sheet.now }
     requires t_bound { t < count sheet.now }
@@ -29,7 +29,7 @@ fn lock_time(sheet: &[u8], per_day: u16, base: u32, t: usize) -> u32
     base + lock_blocks(sheet, per_day, t)
 }
 
-// n_sequence.
+// nSequence.
 pub fn sequence(sheet: &[u8], per_day: u16, t: usize) -> u32
     requires sized { Sized sheet.now }
     requires t_bound { t < count sheet.now }

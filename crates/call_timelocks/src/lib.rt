@@ -1,4 +1,4 @@
-// Locks in Bitcoin's own fields: n_lock_time and n_sequence of a sheet's transactions, for the signing boxes.
+// Locks in Bitcoin's own fields: nLockTime and nSequence of a sheet's transactions, for the signing boxes.
 
 #![tactic(auto)]
 
@@ -27,7 +27,7 @@ fn field_refusal(sheet: &[u8], setup: &[u8], base: u32) -> u32
     limits::limit_refusal(sheet, per_day(setup), base)
 }
 
-// n_lock_time and n_sequence of every transaction, over the base height: the refusal; where there is none, eight bytes for each stand at
+// nLockTime and nSequence of every transaction, over the base height: the refusal; where there is none, eight bytes for each stand at
 // the front of the buffer.
 pub fn timelocks(sheet: &[u8], setup: &[u8], base: u32, out: &mut [u8]) -> u32
     ensures value { result ≡ (timelocks_answer sheet.now setup.now base out.old).refusal }

@@ -13,7 +13,7 @@ use slots::lock_height::lock_blocks;
 // The largest value that BIP 68 reads, its low 16 bits.
 const RELATIVE_MOST: u32 = 65535;
 
-// From here on n_lock_time is a time.
+// From here on nLockTime is a time.
 const THRESHOLD: u64 = 500000000;
 
 // A sum that cannot wrap.

@@ -116,7 +116,7 @@ pub extern "C" fn swap_page(sheet: &[u8], setup: &[u8], journal: &[u8], out: &mu
     page(sheet, setup, journal, out) * 65536
 }
 
-// n_lock_time and n_sequence of every transaction, over a base height: refusal × 65,536.
+// nLockTime and nSequence of every transaction, over a base height: refusal × 65,536.
 #[unsafe(no_mangle)]
 pub extern "C" fn swap_timelocks(sheet: &[u8], setup: &[u8], base: u32, out: &mut [u8]) -> u32
     ensures value { result ≡ packed (timelocks_answer sheet.now setup.now base out.old).refusal 0 }
