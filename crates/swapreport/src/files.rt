@@ -1,5 +1,6 @@
 // A file read into a buffer.
 ghost use Rattle.std.specs.Prelude.{◌≡◌, ◌≤◌, false, length};
+ghost use Rattle.io.specs.Counts.{IsPrefixLen};
 ghost use Rattle.swapreport.specs.Files.{succeeded, is_readable, Unread};
 
 use std::fs::File;
@@ -52,7 +53,7 @@ fn read_more<R: Eprint, F: Read>(rt: &R, name: &str, file: &mut F) -> isize {
 // failure. No contract says what the system answers, so the two answers are free, and so is, once the file is open, what stands in the
 // buffer and how many bytes of it count.
 pub fn read_file<R: Files + Eprint>(rt: &R, name: &str, buf: &mut [u8]) -> Got
-    ensures prefix_len { result.length ≤ length buf.new }
+    ensures prefix_len { IsPrefixLen result.length buf.new }
     ensures readable_value { result.readable ≡ is_readable result }
     ensures unread { succeeded result.opened ≡ false → Unread result buf.old buf.new }
 {
