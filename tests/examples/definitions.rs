@@ -48,7 +48,10 @@ const ANSWERS: [(&str, &str); 16] = [
     ("call_page.specs.Page", "page_answer"),
     ("call_outage.specs.Answer", "outage_answer"),
     ("call_slack.specs.Answer", "slack_answer"),
-    ("call_slack.specs.Row", "counted_at, destination_for, is_due"),
+    (
+        "call_slack.specs.Row",
+        "counted_at, destination_for, is_due",
+    ),
     ("slack.specs.Slack", "lasts"),
     ("call_timelocks.specs.Timelocks", "timelocks_answer"),
     ("call_desk.specs.Desk", "desk_answer"),
@@ -134,7 +137,10 @@ fn answer(request: &Request, number: usize) -> String {
         }
         Request::Ask { step } => format!("ask_answer {s} {u} {j} ({})", list(step)),
         Request::Commit { step, count, size } => {
-            format!("commit_answer {s} {u} ({}) {count} {out} {size}", list(step))
+            format!(
+                "commit_answer {s} {u} ({}) {count} {out} {size}",
+                list(step)
+            )
         }
         Request::Shrink => format!("shrink_answer {s} {u} k{number} {out}"),
     }

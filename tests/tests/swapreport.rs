@@ -35,7 +35,7 @@ impl Folder {
     fn run_with(&self, arguments: &[&str]) -> Output {
         let program = top().join("target/bin/swapreport").canonicalize();
         let mut command =
-            Command::new(program.expect("`rt check swapreport` has built the program"));
+            Command::new(program.expect("`build/crate swapreport` has built the program"));
         command.current_dir(&self.0).args(arguments);
         command.output().expect("it runs")
     }
