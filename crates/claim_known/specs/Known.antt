@@ -1,8 +1,7 @@
--- Document 01's known positions P1 to P10 and its desk errors, and positions that tell document 02's rules from the older ones, as one table,
--- and the one fact that every row holds.
+-- Document 01's known positions P1 to P10 and its desk errors, and positions that tell document 02's rules from the older ones, as one table
+-- whose every row holds.
 -- Assumes nothing.
-use Rattle.std.specs.Prelude.{ℕ, ◌<◌, ◌≡◌, refl, true, List, [], ◌∷◌, ◌++◌, map, length, get_or}
-use Rattle.laws.specs.Gather.{every, every_at}
+use Rattle.std.specs.Prelude.{ℕ, ◌≡◌, refl, true, List, [], ◌∷◌, ◌++◌}
 use Rattle.sheet.specs.LockHeight.{never}
 use Rattle.slots.specs.Destination.{alice, contract}
 use Rattle.steps.specs.Names.{lock_a, success, refund1, revoke, refund2, timeout, spend_b, spend_revoke}
@@ -230,21 +229,3 @@ rows =
     ∷ row (send_gets careful30 (locked_alone ++ mine ++ mine) 3 (3 ∷ 0 ∷ 3 ∷ 2 ∷ []) 0) refl
     ∷ row (send_gets careful30 (locked_alone ++ mine ++ mine ++ mine ++ mine ++ mine) 6 (3 ∷ 0 ∷ 4 ∷ 2 ∷ []) 0) refl
     ∷ []
-
--- its rows alone
-unfoldable pub known : List Case
-known = map (λ r. r.case) rows
-
-rows_hold : (rs : List Row) → every holds (map (λ r. r.case) rs) ≡ true
-unfolding every
-rows_hold [] = refl
-rows_hold (r ∷ rs) = rw (r.right, rows_hold rs)
-
--- every row holds
-pub all_hold : every holds known ≡ true
-unfolding known
-all_hold = rows_hold rows
-
--- the row at each place holds
-pub holds_at : (i : ℕ) → i < length known → holds (get_or known i (sheet_length 3 95)) ≡ true
-holds_at i h = every_at holds known (sheet_length 3 95) all_hold i h

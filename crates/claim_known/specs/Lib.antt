@@ -3,5 +3,3 @@ pub mod Known
 pub mod Heights
 pub mod Sends
 pub mod Statuses
-pub mod SendRows
-pub mod HeightRows

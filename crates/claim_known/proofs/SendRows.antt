@@ -25,9 +25,11 @@ use Rattle.position.proofs.Opened.{opened}
 use Rattle.call_run.proofs.Runs.{row_append, run_allowed}
 use Rattle.position.proofs.RowSteps.{run_next, run_stops, run_ends}
 use Rattle.claim_known.specs.Case.{send_gets, swap_sheet, passes, send_place, gets_there, holds}
-use Rattle.claim_known.specs.Known.{setup3, careful30, mine, success_at2, revoke_at5, unshared_at5, rows, known}
+use Rattle.claim_known.specs.Known.{setup3, careful30, mine, success_at2, revoke_at5, unshared_at5, rows}
 use Rattle.claim_known.specs.Heights.{refund1_height, revoke_height}
-use Rattle.claim_known.specs.Sends.{ReadyForPool, ReadyForMiner, success_to_pool, success_to_miner, revoke_to_pool}
+use Rattle.claim_known.specs.Sends.{ReadyForPool, ReadyForMiner}
+use Rattle.claim_known.proofs.Known.{known}
+use Rattle.claim_known.proofs.Sends.{success_to_pool, success_to_miner, revoke_to_pool}
 
 -- ---- a step behind an accepted journal
 -- a row of one step gets the step's number

@@ -16,7 +16,8 @@ use Rattle.position.specs.Position.{start}
 use Rattle.position.specs.StepRefusal.{step_refusal}
 use Rattle.position.specs.Report.{status}
 use Rattle.claim_known.specs.Heights.{revoke_height, refund2_lock, timeout_lock, refund2_deadline, spend_revoke_deadline, spend_revoke_never, refund2_waits}
-use Rattle.claim_known.specs.Sends.{ReadyForMiner, revoke_to_miner}
+use Rattle.claim_known.specs.Sends.{ReadyForMiner}
+use Rattle.claim_known.proofs.Sends.{revoke_to_miner}
 use Rattle.claim_known.specs.Statuses.{start_status}
 
 -- P4: "3 a day, revoke in block 7: refund_2 lock 10, timeout 13, refund_2 deadline 13, spend_revoke deadline 10"

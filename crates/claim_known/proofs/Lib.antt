@@ -1,0 +1,4 @@
+pub mod Known
+pub mod Sends
+pub mod SendRows
+pub mod HeightRows
