@@ -5,7 +5,7 @@
  * empty slice), and returns one number: refusal * 65536 + count. No bytes make a call trap; a refused call changes no buffer.
  *
  * The calls are reentrant: they keep no state and no pointer, so any number of threads may call at once. The library is
- * for x86-64. It needs no heap, and of other code memcpy, memmove and memset alone. All its functions are proved; the
+ * for x86-64. It needs no heap, and of other code memcpy and memset alone. All its functions are proved; the
  * macros and the inline functions of this header, as swap_refusal_name, are plain C, compiled with the program that
  * includes it.
  *
