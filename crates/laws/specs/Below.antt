@@ -2,7 +2,7 @@
 -- Assumes nothing.
 use Rattle.std.specs.Prelude.{ℕ, zero, suc, ◌+◌, ◌≤◌, ◌<◌, ◌≡◌, refl, Bool, true, false, ◌||◌, ◌&&◌, ltb}
 use Rattle.std.proofs.Common.{ap, sym, subst, ◌∙◌, ltb-true, ltb-false, ⊎_elim, add-one, le_antisymm, eq-or-lt_of_le, le_of_suc-le-suc, not-suc-le-zero, arith}
-use Rattle.std.proofs.Math.Bool.{or-true, and-true, and-false, and_assoc}
+use Rattle.std.proofs.Math.Bool.{or-true, or-false, or_assoc, and-true, and-false, and_assoc}
 use Rattle.std.proofs.lemmas.Bool.{false≢true}
 use Rattle.laws.specs.Booleans.{and_parts, or_parts, either, split, clash}
 
@@ -79,6 +79,11 @@ pub all_first : (n : ℕ) (p : ℕ → Bool) → all_below (suc n) p ≡ (p 0 &&
 unfolding all_below
 all_first zero p = sym (and-true (p 0))
 all_first (suc n) p = rw (all_first n p) (and_assoc (p 0) (all_below n (λ k. p (suc k))) (p (suc n)))
+
+pub any_first : (n : ℕ) (p : ℕ → Bool) → any_below (suc n) p ≡ (p 0 || any_below n (λ k. p (suc k)))
+unfolding any_below
+any_first zero p = sym (or-false (p 0))
+any_first (suc n) p = rw (any_first n p) (or_assoc (p 0) (any_below n (λ k. p (suc k))) (p (suc n)))
 
 -- every number from n up to m passes
 pub all_upto : (n m : ℕ) (p : ℕ → Bool) → n ≤ m → ((k : ℕ) → n ≤ k → k < m → p k ≡ true) → all_below n p ≡ all_below m p

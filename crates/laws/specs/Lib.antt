@@ -20,3 +20,4 @@ pub mod Wrote
 pub mod Sum
 pub mod Ones
 pub mod Unions
+pub mod Calls

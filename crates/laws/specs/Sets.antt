@@ -89,7 +89,7 @@ set_bit (suc n) p l k h =
     (λ m. rw (set_bit n p (omega arith) k m, ne_eqb k n (λ e. omega (arith, e)), and-false (p n)) (or-false (p k)))
 
 -- a set of the numbers below n is a word of n bits, and of more
-joined_small : (m x n : ℕ) (on : Bool) → x < 2 ^ m → n < m → joined x on n < 2 ^ m
+pub joined_small : (m x n : ℕ) (on : Bool) → x < 2 ^ m → n < m → joined x on n < 2 ^ m
 unfolding joined
 joined_small m x n true h l = or_lt m x (2 ^ n) h (pow-lt l)
 joined_small m x n false h l = h
@@ -106,7 +106,7 @@ digit_same a b h k e =
     (λ x. either (zero_or_one b k) (λ y. x ∙ sym y) (λ y. clash {b = true} refl (rw (x, y) at (sym e))))
     (λ x. either (zero_or_one b k) (λ y. clash {b = true} refl (rw (x, y) at e)) (λ y. x ∙ sym y))
 
-word_same : (n a b : ℕ) → a < 2 ^ n → b < 2 ^ n → ((k : ℕ) → k < n → bit a k ≡ bit b k) → a ≡ b
+pub word_same : (n a b : ℕ) → a < 2 ^ n → b < 2 ^ n → ((k : ℕ) → k < n → bit a k ≡ bit b k) → a ≡ b
 word_same zero a b h k f = omega arith
 word_same (suc n) a b h k f =
     let x : a < 2 * 2 ^ n = rw (pow-succ' 2 n) at h in

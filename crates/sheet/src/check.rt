@@ -52,15 +52,7 @@ fn starts_right(sheet: &[u8]) -> bool
     requires sheet_bound { signatures sheet.now ≤ 8 }
     ensures { result ≡ all_below (parties sheet.now) (λ k. within sheet.now (start_mask sheet.now k)) }
 {
-    let n = field::parties(sheet);
-    let mut k: usize = 0;
-    while k < n {
-        if !within(sheet, field::start_mask(sheet, k)) {
-            return false;
-        }
-        k += 1;
-    }
-    true
+    (0..field::parties(sheet)).all(|k| within(sheet, field::start_mask(sheet, k)))
 }
 
 // The masks of the head, with 1 to 8 signatures.
@@ -203,15 +195,7 @@ fn all_right(sheet: &[u8], parents: u32, rule: u32) -> bool
     requires parents { Parents sheet.now (λ k. true) (count sheet.now) parents }
     ensures { result ≡ all_below (count sheet.now) (array_rule sheet.now rule) }
 {
-    let n = field::count(sheet);
-    let mut t: usize = 0;
-    while t < n {
-        if !array_rule(sheet, parents, rule, t) {
-            return false;
-        }
-        t += 1;
-    }
-    true
+    (0..field::count(sheet)).all(|t| array_rule(sheet, parents, rule, t))
 }
 
 // The first of 5 to 8 that fails.

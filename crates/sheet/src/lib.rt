@@ -10,3 +10,4 @@ pub mod refusal;
 pub mod saswap;
 pub mod set;
 pub mod setup;
+pub mod table;
