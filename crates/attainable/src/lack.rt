@@ -11,7 +11,7 @@ ghost use Rattle.soonest.specs.Forms.Table.{Filled};
 ghost use Rattle.attainable.specs.Forms.Others.{Lacks};
 
 use position::Position;
-use sheet::set;
+use sheet::{set, table};
 use slots::party;
 
 // Above every mask of signatures.
@@ -77,13 +77,9 @@ pub fn lacks(
     requires { Checked sheet.now }
     ensures { Filled (λ t v. Lacks sheet.now (bit unsent t) party (bit_or held (shared_for (slot position t) destination)) destination t v) (count sheet.now) result }
 {
-    let n = sheet::field::count(sheet);
-    let mut table = [0u16; 32];
-    let mut t: usize = 0;
-    while t < n {
-        let x = position.slots[t];
-        let given = x.shared_for(destination);
-        table[t] = lack_of(
+    table::filled(sheet::field::count(sheet), 0, |t| {
+        let given = position.slots[t].shared_for(destination);
+        lack_of(
             sheet,
             set::has(unsent, t),
             party,
@@ -91,8 +87,6 @@ pub fn lacks(
             given,
             destination,
             t,
-        );
-        t += 1;
-    }
-    table
+        )
+    })
 }

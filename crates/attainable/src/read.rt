@@ -15,7 +15,7 @@ ghost use Rattle.attainable.specs.Forms.Others.{alice_guards, names_apart, waits
 use crate::{Others, lack};
 use position::Position;
 use readings::report;
-use sheet::set;
+use sheet::{set, table};
 use slots::{Slot, conflict, lock_height, party, signatures};
 use steps::names::{SECRET_BOB, SUCCESS};
 use steps::{Guards, View};
@@ -26,31 +26,15 @@ const NOWHERE: u8 = 255;
 // Careful conduct.
 const CAREFUL: u8 = 2;
 
-// Whether t is confirmed or dead, where `conflicted` has those whose other rival is confirmed.
-fn is_gone(sheet: &[u8], confirmed: u32, conflicted: u32, t: usize) -> bool
-    requires sized { Sized sheet.now }
-    requires t_bound { t < count sheet.now }
-    ensures { result ≡ (bit confirmed t || dead_in sheet.now confirmed conflicted t) }
-{
-    if set::has(confirmed, t) {
-        return true;
-    }
-    report::dead_in(sheet, confirmed, conflicted, t)
-}
-
-// Those that are.
+// Those that are confirmed or dead, where `conflicted` has those whose other rival is confirmed.
 fn gone(sheet: &[u8], confirmed: u32, conflicted: u32) -> u32
     requires { Sized sheet.now }
     ensures { result ≡ set_below (count sheet.now) (λ t. bit confirmed t || dead_in sheet.now confirmed conflicted t) }
 {
-    let n = sheet::field::count(sheet);
-    let mut found: u32 = 0;
-    let mut t: usize = 0;
-    while t < n {
-        found = set::join(found, is_gone(sheet, confirmed, conflicted, t), t);
-        t += 1;
-    }
-    found
+    set::below(
+        sheet::field::count(sheet),
+        |t| set::has(confirmed, t) || report::dead_in(sheet, confirmed, conflicted, t),
+    )
 }
 
 // Whether without stealth the deadline of t is passed.
@@ -114,14 +98,10 @@ fn unsent(position: Position, sheet: &[u8], setup: &[u8], party: u8) -> u32
     requires { Fit sheet.now setup.now }
     ensures { result ≡ set_below (count sheet.now) (never_sent sheet.now setup.now position party) }
 {
-    let n = sheet::field::count(sheet);
-    let mut found: u32 = 0;
-    let mut t: usize = 0;
-    while t < n {
-        found = set::join(found, never_sent(position, sheet, setup, party, t), t);
-        t += 1;
-    }
-    found
+    set::below(
+        sheet::field::count(sheet),
+        |t| never_sent(position, sheet, setup, party, t),
+    )
 }
 
 // Whether an entry names a destination other than `off`.
@@ -152,15 +132,10 @@ fn waits(position: Position, sheet: &[u8], off: u8) -> u32
     requires { Sized sheet.now }
     ensures { result ≡ set_below (count sheet.now) (λ t. waits_in (slot position t) off) }
 {
-    let n = sheet::field::count(sheet);
-    let mut found: u32 = 0;
-    let mut t: usize = 0;
-    while t < n {
-        let x = position.slots[t];
-        found = set::join(found, waits_in(x, off), t);
-        t += 1;
-    }
-    found
+    set::below(
+        sheet::field::count(sheet),
+        |t| waits_in(position.slots[t], off),
+    )
 }
 
 // Whether the party may send t for a destination other than `off`.
@@ -186,14 +161,10 @@ fn sends(sheet: &[u8], party: u8, off: u8) -> u32
     requires { Sized sheet.now }
     ensures { result ≡ set_below (count sheet.now) (sends_in sheet.now party off) }
 {
-    let n = sheet::field::count(sheet);
-    let mut found: u32 = 0;
-    let mut t: usize = 0;
-    while t < n {
-        found = set::join(found, sends_in(sheet, party, off, t), t);
-        t += 1;
-    }
-    found
+    set::below(
+        sheet::field::count(sheet),
+        |t| sends_in(sheet, party, off, t),
+    )
 }
 
 // The keys of a party, none for X.
@@ -213,10 +184,8 @@ fn others_keys(view: View, sheet: &[u8], party: u8) -> u8
 {
     let n = sheet::field::parties(sheet);
     let mut found: u8 = 0;
-    let mut k: usize = 0;
-    while k < n {
+    for k in 0..n {
         found = found | other_keys(view, party, sheet::field::party_at(k));
-        k += 1;
     }
     found
 }
@@ -226,15 +195,12 @@ fn shows(sheet: &[u8]) -> [u8; 32]
     requires { Sized sheet.now }
     ensures { Filled (λ t v. v ≡ secrets_of sheet.now t) (count sheet.now) result }
 {
-    let n = sheet::field::count(sheet);
     let secrets = sheet::field::secrets(sheet);
-    let mut table = [0u8; 32];
-    let mut t: usize = 0;
-    while t < n {
-        table[t] = secrets & signatures::exposed_mask(sheet, t);
-        t += 1;
-    }
-    table
+    table::filled(
+        sheet::field::count(sheet),
+        0,
+        |t| secrets & signatures::exposed_mask(sheet, t),
+    )
 }
 
 // What is read for a party.

@@ -40,21 +40,15 @@ fn signers(others: Others, sheet: &[u8], secrets: u32) -> u32
     requires { Sized sheet.now }
     ensures { result ≡ signers sheet.now others secrets }
 {
-    let n = sheet::field::count(sheet);
-    let mut found: u32 = 0;
-    let mut t: usize = 0;
-    while t < n {
-        let on = meets_one(
+    set::below(sheet::field::count(sheet), |t| {
+        meets_one(
             secrets,
             others.alice[t],
             others.bob[t],
             others.contract[t],
             others.carol[t],
-        );
-        found = set::join(found, on, t);
-        t += 1;
-    }
-    found
+        )
+    })
 }
 
 // Whether t is in the set `can`, and its parent is none or there.
@@ -76,10 +70,8 @@ fn reach(sheet: &[u8], confirmed: u32, can: u32) -> u32
 {
     let n = sheet::field::count(sheet);
     let mut found: u32 = 0;
-    let mut t: usize = 0;
-    while t < n {
+    for t in 0..n {
         found = set::join(found, reaches(sheet, can, confirmed | found, t), t);
-        t += 1;
     }
     found
 }
@@ -102,10 +94,8 @@ fn shown(shows: [u8; 32], sheet: &[u8], members: u32) -> u8
 {
     let n = sheet::field::count(sheet);
     let mut found: u8 = 0;
-    let mut t: usize = 0;
-    while t < n {
+    for t in 0..n {
         found = found | shown_by(members, shows[t], t);
-        t += 1;
     }
     found
 }

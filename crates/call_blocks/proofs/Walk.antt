@@ -1,7 +1,7 @@
 -- A list passed entry by entry, each tested over what was passed before: one law for every loop over a list.
 -- Assumes nothing.
 use Rattle.laws.proofs.Prelude.{ℕ, ◌+◌, ◌*◌, ◌≤◌, ◌<◌, ◌≡◌, refl, sym, ◌∙◌, Bool, true, false, not, ◌&&◌, List, [], ◌∷◌, length, drop, length-drop, not-true, not-false}
-use Rattle.laws.proofs.Prelude.{arith, drop-drop, every, number_at}
+use Rattle.laws.proofs.Prelude.{arith, drop-drop, number_at}
 use Rattle.position.proofs.Rules.{Entry}
 use lib.Seq.{get_or-drop}
 use Rattle.laws.specs.Little.{number_part}
@@ -47,7 +47,7 @@ pub entries_next : (list : List ℕ) (k : ℕ) → 4 * k + 4 ≤ length list →
 unfolding entries_from
 entries_next list k h = let e : 4 * k + 4 ≡ 4 * (k + 1) = omega arith in rw (next_at list (4 * k) h, e)
 
-entries_none : (list : List ℕ) (k : ℕ) → length list < 4 * k + 4 → entries_from list k ≡ []
+pub entries_none : (list : List ℕ) (k : ℕ) → length list < 4 * k + 4 → entries_from list k ≡ []
 unfolding entries_from
 entries_none list k h = few (drop (4 * k) list) (omega (arith, length-drop (4 * k) list))
 
@@ -84,9 +84,3 @@ module _ {S : Type 0} (right : S → Entry → Bool) (next : S → Entry → S) 
   pub left_ended : (list : List ℕ) (k : ℕ) (a : S) (w : Bool) → left list k a ≡ w → length list < 4 * k + 4 → true ≡ w
   unfolding left walk
   left_ended list k a w o h = rw (entries_none list k h) at o
-
--- one test of every entry, whatever stands before it
-pub walk_every : (p : Entry → Bool) (l : List Entry) (a : ℕ) → walk (λ (b : ℕ) e. p e) (λ b e. b) l a ≡ every p l
-unfolding walk every
-walk_every p [] a = refl
-walk_every p (e ∷ l) a = rw (walk_every p l a)

@@ -62,16 +62,7 @@ fn fields_named(sheet: &[u8], list: &[u8]) -> bool
     if list.len() % 4 != 0 {
         return false;
     }
-    let n = list.len() / 4;
-    let mut k: usize = 0;
-    while k < n {
-        let entry = listed_at(list, 4 * k);
-        if !entry_named(sheet, entry) {
-            return false;
-        }
-        k += 1;
-    }
-    true
+    (0..list.len() / 4).all(|k| entry_named(sheet, listed_at(list, 4 * k)))
 }
 
 // Whether an entry's block is one of 1 to 10,000.
@@ -108,20 +99,17 @@ fn rises(last: Listed, entry: Listed) -> bool
 fn entries_rise(list: &[u8]) -> bool
     ensures { result ≡ entries_rise (list_entries list.now) }
 {
-    let n = list.len() / 4;
     let mut last = Listed {
         transaction: 0,
         destination: 0,
         block: 0,
     };
-    let mut k: usize = 0;
-    while k < n {
+    for k in 0..list.len() / 4 {
         let entry = listed_at(list, 4 * k);
         if !rises(last, entry) {
             return false;
         }
         last = entry;
-        k += 1;
     }
     true
 }

@@ -59,15 +59,13 @@ pub fn ledger_accepts(sheet: &[u8], per_day: u16, list: &[u8]) -> bool
     requires list_value { fields_named sheet.now list.now ≡ true }
     ensures { result ≡ (ledger sheet.now per_day (list_entries list.now)).accepts }
 {
-    let n = list.len() / 4;
     let none = Listed {
         transaction: 0,
         destination: 0,
         block: 0,
     };
     let mut kept = [none; 32];
-    let mut k: usize = 0;
-    while k < n {
+    for k in 0..list.len() / 4 {
         let entry = listed_at(list, 4 * k);
         let coin = readings::holder::coin_of(sheet, sheet::field::wide(entry.transaction));
         let last = kept[coin];
@@ -75,7 +73,6 @@ pub fn ledger_accepts(sheet: &[u8], per_day: u16, list: &[u8]) -> bool
             return false;
         }
         kept[coin] = entry;
-        k += 1;
     }
     true
 }

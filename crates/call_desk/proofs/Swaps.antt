@@ -1,7 +1,7 @@
 -- The answers of the swaps, one after the other: what each need of their writer asks.
 -- Assumes nothing.
-use Rattle.laws.proofs.Prelude.{ℕ, ◌+◌, ◌-◌, ◌*◌, ◌≤◌, ◌<◌, ◌≡◌, sym, List, ◌++◌, length, take, drop, arith, gather, length_gather, bytes_of, over, Turns, turn_room}
-use Rattle.laws.proofs.Prelude.{turn_end, turn_more, turns_done}
+use Rattle.laws.proofs.Prelude.{ℕ, ◌+◌, ◌-◌, ◌*◌, ◌≤◌, ◌<◌, ◌≡◌, sym, List, ◌++◌, length, take, drop, arith, gather, length_gather, bytes_of, over, Turns}
+use Rattle.laws.proofs.Prelude.{turn_more, turns_done}
 use Rattle.position.proofs.Rules.{run}
 use Rattle.position.specs.declared.Ran.{Ran}
 use borrow.Rule.Slice.PartMut.{put_mid}
@@ -30,19 +30,14 @@ module _ (s b : List ℕ) where
   all_room n m e h = omega (arith, e, h, length_gather (swap_bytes s b) 8 (swap_length s b) n)
 
   -- a turn writes eight bytes, the answer of the run r
-  module _ (n : ℕ) (l₀ l : List ℕ) (at t : ℕ) where
-    pub eight_room : Turns (swap_bytes s b) n l₀ l at t → t < n → 8 ≤ length (take (length l - at) (drop at l))
-    eight_room h m = omega (arith, swap_length s b t, turn_room (swap_bytes s b) n l₀ l at t h m)
-
-    pub eight_end : Turns (swap_bytes s b) n l₀ l at t → t < n → at + 8 ≤ length l₀
-    eight_end h m = turn_end (swap_bytes s b) n l₀ l at t 8 h m (sym (swap_length s b t))
-
-    pub eight_more : (ys : List ℕ) (r : Ran) → Turns (swap_bytes s b) n l₀ l at t → t < n → r ≡ swap_run s b t
-        → ys ≡ over (bytes_of 4 r.refusal ++ bytes_of 4 r.accepted) (take (length l - at) (drop at l))
-        → Turns (swap_bytes s b) n l₀ (put_mid at (length l - at) l ys) (at + 8) (t + 1)
+  module _ (n : ℕ) (l₀ l : List ℕ) (t : ℕ) where
+    pub eight_more : (ys : List ℕ) (r : Ran) → Turns (swap_bytes s b) n l₀ l (8 * t) t → t < n → r ≡ swap_run s b t
+        → ys ≡ over (bytes_of 4 r.refusal ++ bytes_of 4 r.accepted) (take (length l - 8 * t) (drop (8 * t) l))
+        → Turns (swap_bytes s b) n l₀ (put_mid (8 * t) (length l - 8 * t) l ys) (8 * (t + 1)) (t + 1)
     eight_more ys r h m e o =
-        turn_more (swap_bytes s b) n l₀ l ys at t 8 h m (sym (swap_length s b t)) (rw (entry_of s b t r e) at o)
+        let next : 8 * t + 8 ≡ 8 * (t + 1) = omega arith in
+        rw (← next) (turn_more (swap_bytes s b) n l₀ l ys (8 * t) t 8 h m (sym (swap_length s b t)) (rw (entry_of s b t r e) at o))
 
-    pub answers_done : n ≡ swaps b → Turns (swap_bytes s b) n l₀ l at t → n ≤ t → l ≡ over (desk_bytes s b) l₀
+    pub answers_done : n ≡ swaps b → Turns (swap_bytes s b) n l₀ l (8 * t) t → n ≤ t → l ≡ over (desk_bytes s b) l₀
     unfolding desk_bytes
-    answers_done e h m = rw (← e) (turns_done (swap_bytes s b) n l₀ l at t h m).is
+    answers_done e h m = rw (← e) (turns_done (swap_bytes s b) n l₀ l (8 * t) t h m).is

@@ -31,14 +31,10 @@ pub fn write_answers(sheet: &[u8], bundle: &[u8], out: &mut [u8])
 {
     let n = bundle::swaps(bundle);
     let mut start = 1 + 8 * n;
-    let mut at: usize = 0;
-    let mut i: usize = 0;
-    while i < n {
+    for i in 0..n {
         let size = bundle::length_of(bundle, i);
         let ran = swap_ran(sheet, bundle, i, start, size);
-        write_pair(&mut out[at..], ran.refusal, ran.accepted);
+        write_pair(&mut out[8 * i..], ran.refusal, ran.accepted);
         start += size;
-        at += 8;
-        i += 1;
     }
 }

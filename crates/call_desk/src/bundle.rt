@@ -30,12 +30,9 @@ fn lengths_sum(bundle: &[u8]) -> usize
     requires { Arrays bundle.now }
     ensures { result ≡ sum_below (swaps bundle.now) (length_of bundle.now) }
 {
-    let n = swaps(bundle);
     let mut sum: usize = 0;
-    let mut i: usize = 0;
-    while i < n {
+    for i in 0..swaps(bundle) {
         sum += length_of(bundle, i);
-        i += 1;
     }
     sum
 }

@@ -5,21 +5,14 @@ ghost use Rattle.call_earliest.specs.Forms.Table.{members, block_in, table};
 
 use endings::block::earliest_block;
 use endings::planned::is_planned;
-use sheet::set;
+use sheet::{set, table};
 
 // All these, as a set.
 pub fn members(sheet: &[u8], mask: u32) -> u32
     requires { Sized sheet.now }
     ensures { result ≡ members sheet.now mask }
 {
-    let n = sheet::field::count(sheet);
-    let mut found: u32 = 0;
-    let mut t: usize = 0;
-    while t < n {
-        found = set::join(found, is_planned(sheet, mask, t), t);
-        t += 1;
-    }
-    found
+    set::below(sheet::field::count(sheet), |t| is_planned(sheet, mask, t))
 }
 
 // The earliest block of t where it is in the set, else one beyond the last.
@@ -39,12 +32,9 @@ pub fn table(sheet: &[u8], per_day: u16, found: u32) -> [u32; 32]
     requires { Sized sheet.now }
     ensures { result ≡ table sheet.now per_day found }
 {
-    let n = sheet::field::count(sheet);
-    let mut blocks = [0u32; 32];
-    let mut t: usize = 0;
-    while t < n {
-        blocks[t] = block_in(sheet, per_day, found, t);
-        t += 1;
-    }
-    blocks
+    table::filled(
+        sheet::field::count(sheet),
+        0,
+        |t| block_in(sheet, per_day, found, t),
+    )
 }

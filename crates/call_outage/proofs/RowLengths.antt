@@ -14,6 +14,6 @@ module _ (s u : List ℕ) (p : Position) (blocks : ℕ) where
   unfolding outage_bytes
   rows_length = length_gather (outage_row s u p blocks) 10 row_length (count s)
 
-  -- n rows have room where all have
-  pub rows_room : (n m : ℕ) → n ≡ count s → 10 * count s ≤ m → length (gather n (outage_row s u p blocks)) ≤ m
-  rows_room n m e h = rw (length_gather (outage_row s u p blocks) 10 row_length n, e) h
+  -- they have room where ten bytes for each have
+  pub rows_room : (m : ℕ) → 10 * count s ≤ m → length (gather (count s) (outage_row s u p blocks)) ≤ m
+  rows_room m h = rw (length_gather (outage_row s u p blocks) 10 row_length (count s)) h

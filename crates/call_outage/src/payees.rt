@@ -15,12 +15,9 @@ pub fn lines(sheet: &[u8]) -> [u32; 32]
     requires { Sized sheet.now }
     ensures { Filled (λ k x. x ≡ line_set sheet.now k) (count sheet.now) result }
 {
-    let n = sheet::field::count(sheet);
     let mut lines = [0u32; 32];
-    let mut t: usize = 0;
-    while t < n {
+    for t in 0..sheet::field::count(sheet) {
         lines[t] = set::join(table::above(lines, sheet, t), true, t);
-        t += 1;
     }
     lines
 }
@@ -44,12 +41,9 @@ pub fn payees_below(sheet: &[u8], lines: [u32; 32], t: usize) -> u8
     requires t_bound { t < count sheet.now }
     ensures { result ≡ payees_in sheet.now lines t }
 {
-    let n = sheet::field::count(sheet);
     let mut found: u8 = 0;
-    let mut k: usize = 0;
-    while k < n {
+    for k in 0..sheet::field::count(sheet) {
         found = found | payees_at(sheet, lines[k], t, k);
-        k += 1;
     }
     found
 }

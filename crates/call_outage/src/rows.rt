@@ -61,15 +61,12 @@ pub fn write_rows(position: Position, sheet: &[u8], setup: &[u8], blocks: u32, o
     requires sheet_in_bounds { 10 * count sheet.now ≤ length out.old }
     ensures { out.new ≡ over (outage_bytes sheet.now setup.now position blocks) out.old }
 {
-    let n = sheet::field::count(sheet);
     let per_day = sheet::setup::per_day(setup);
     let view = position.view(sheet);
     let conflicted = conflict::conflicts_of(sheet, view.confirmed, true);
     let soonest = block::soonest_blocks(position, sheet, per_day);
     let lines = payees::lines(sheet);
-    let mut at: usize = 0;
-    let mut t: usize = 0;
-    while t < n {
+    for t in 0..sheet::field::count(sheet) {
         let up = parent::slot_above(sheet, t);
         let above = position.slots[up];
         let since = parent::block_above(sheet, t, above.height);
@@ -83,9 +80,7 @@ pub fn write_rows(position: Position, sheet: &[u8], setup: &[u8], blocks: u32, o
             since,
             blocks,
             t,
-            &mut out[at..],
+            &mut out[10 * t..],
         );
-        at += 10;
-        t += 1;
     }
 }

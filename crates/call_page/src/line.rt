@@ -14,13 +14,6 @@ const NEVER: u32 = 2147483647;
 
 const WIDTHS: [usize; 6] = [3, 4, 9, 8, 16, 16];
 
-// How many bytes a text lacks of a width.
-fn lack(width: usize, length: usize) -> usize
-    ensures { result ≡ width - length }
-{
-    if length < width { width - length } else { 0 }
-}
-
 // The byte at place i of a text with so many blanks before it.
 fn aligned(text: &[u8], before: usize, i: usize) -> u8
     requires { i < before + length text.now }
@@ -38,12 +31,10 @@ fn write_text(width: usize, text: &[u8], out: &mut [u8]) -> usize
     ensures value { result ≡ length (column width text.now) }
     ensures out_after { out.new ≡ over (column width text.now) out.old }
 {
-    let before = lack(width, text.len());
+    let before = width.saturating_sub(text.len());
     let end = before + text.len();
-    let mut i: usize = 0;
-    while i < end {
+    for i in 0..end {
         out[i] = aligned(text, before, i);
-        i += 1;
     }
     end
 }
@@ -56,7 +47,8 @@ fn digit(d: u32) -> u8
     (48 + d) as u8
 }
 
-// A number in its column, in decimal digits. They are made from the last one on, at the end of ten places.
+// A number in its column, in decimal digits. They are made from the last one on, at the end of ten places: by hand, since a page goes straight
+// into the caller's buffer and nothing is allocated.
 fn write_number(width: usize, x: u32, out: &mut [u8]) -> usize
     requires { length (column width (digits x)) ≤ length out.old }
     ensures value { result ≡ length (column width (digits x)) }
@@ -65,6 +57,7 @@ fn write_number(width: usize, x: u32, out: &mut [u8]) -> usize
     let mut made = [0u8; 10];
     let mut at: usize = 10;
     let mut rest = x;
+    // no count: each turn divides what is left of the number
     while 9 < rest {
         at -= 1;
         made[at] = digit(rest % 10);
@@ -128,13 +121,6 @@ fn write_title(k: usize, out: &mut [u8]) -> usize
     }
 }
 
-// A byte as a wider number.
-fn wide(x: u8) -> u32
-    ensures { result ≡ x }
-{
-    x as u32
-}
-
 // A transaction's text of column k, from its number and the values of its row.
 fn write_value(k: usize, t: u32, row: Line, out: &mut [u8]) -> usize
     requires k_bound { k < 6 }
@@ -145,7 +131,7 @@ fn write_value(k: usize, t: u32, row: Line, out: &mut [u8]) -> usize
     let w = width(k);
     match k {
         0 => write_number(w, t, out),
-        1 => write_number(w, wide(row.status), out),
+        1 => write_number(w, u32::from(row.status), out),
         2 => write_payee(w, row.payee, out),
         3 => write_number(w, row.block, out),
         4 => write_height(w, row.lock, out),
@@ -177,11 +163,9 @@ fn write_line(report: &[u8], i: usize, out: &mut [u8])
     ensures { out.new ≡ over (line (line_texts (reported_line report.now) i)) out.old }
 {
     let mut at: usize = 0;
-    let mut k: usize = 0;
-    while k < 6 {
+    for k in 0..6 {
         let wrote = write_cell(report, i, k, &mut out[at..]);
         at += wrote;
-        k += 1;
     }
     write_text(73 - at, b"\n", &mut out[at..]);
 }
@@ -194,10 +178,8 @@ pub fn write_page(report: &[u8], n: usize, out: &mut [u8])
     ensures { out.new ≡ over (page_of n (reported_line report.now)) out.old }
 {
     let mut at: usize = 0;
-    let mut i: usize = 0;
-    while i <= n {
+    for i in 0..n + 1 {
         write_line(report, i, &mut out[at..]);
         at += 73;
-        i += 1;
     }
 }

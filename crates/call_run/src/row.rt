@@ -72,8 +72,7 @@ pub fn run_row(
     let mut opened = counts;
     let mut view = seen;
     let mut known: u32 = 0;
-    let mut k: usize = 0;
-    while k < n {
+    for k in 0..n {
         let i = 4 * k;
         let kind = journal[i];
         let byte = journal[i + 2];
@@ -141,7 +140,6 @@ pub fn run_row(
             let counted = noted(opened, position, sheet, setup, view);
             opened = counted;
         }
-        k += 1;
     }
-    stopped(refusal::ACCEPTED, k, position, opened, view)
+    stopped(refusal::ACCEPTED, n, position, opened, view)
 }

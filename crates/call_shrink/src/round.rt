@@ -177,8 +177,7 @@ pub fn write_round(sheet: &[u8], setup: &[u8], number: u32, steps: &[u8], out: &
     };
     let mut at: usize = 0;
     let mut went = true;
-    let mut k: usize = 0;
-    while k < n {
+    for k in 0..n {
         let twin = again(went, steps, 4 * k);
         let stay = stays(
             twin,
@@ -195,7 +194,6 @@ pub fn write_round(sheet: &[u8], setup: &[u8], number: u32, steps: &[u8], out: &
         here = past(going, here, sheet, setup, steps, 4 * k);
         at += wrote;
         went = going;
-        k += 1;
     }
     at / 4
 }

@@ -16,12 +16,7 @@ fn copy(from: &[u8], out: &mut [u8])
     requires { length from.now ≤ length out.old }
     ensures { out.new ≡ over from.now out.old }
 {
-    let n = from.len();
-    let mut i: usize = 0;
-    while i < n {
-        out[i] = from[i];
-        i += 1;
-    }
+    out[..from.len()].copy_from_slice(from);
 }
 
 // The rounds on the first n steps of the part, each written to the spare bytes and, where it dropped a step, copied back: the number of

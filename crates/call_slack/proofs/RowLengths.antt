@@ -25,9 +25,9 @@ module _ (s u : List ℕ) (p : Position) where
   unfolding slack_bytes
   rows_length = length_gather row_at 8 row_length (parties s)
 
-  -- n rows have room where all have
-  pub rows_room : (n m : ℕ) → n ≡ parties s → 8 * parties s ≤ m → length (gather n row_at) ≤ m
-  rows_room n m e h = rw (length_gather row_at 8 row_length n, e) h
+  -- they have room where eight bytes for each have
+  pub rows_room : (m : ℕ) → 8 * parties s ≤ m → length (gather (parties s) row_at) ≤ m
+  rows_room m h = rw (length_gather row_at 8 row_length (parties s)) h
 
 -- the row where something is counted on
 pub row_counted : (s u : List ℕ) (p : Position) (x blocks t to due : ℕ) → t < none → to ≡ destination_of s x t → due ≡ pick (is_due s u p x blocks t) 1 0

@@ -73,13 +73,8 @@ pub fn write_rows(position: Position, sheet: &[u8], setup: &[u8], out: &mut [u8]
     requires sheet_in_bounds { 8 * parties sheet.now ≤ length out.old }
     ensures { out.new ≡ over (slack_bytes sheet.now setup.now position) out.old }
 {
-    let n = sheet::field::parties(sheet);
-    let mut at: usize = 0;
-    let mut k: usize = 0;
-    while k < n {
+    for k in 0..sheet::field::parties(sheet) {
         let party = sheet::field::party_at(k);
-        write_at(position, sheet, setup, party, &mut out[at..]);
-        at += 8;
-        k += 1;
+        write_at(position, sheet, setup, party, &mut out[8 * k..]);
     }
 }

@@ -13,6 +13,6 @@ module _ (s : List ℕ) (d base : ℕ) where
   unfolding timelock_bytes
   bytes_length = length_gather (field_bytes s d base) 8 field_length (count s)
 
-  -- n of them have room where all do
-  pub fields_room : (n m : ℕ) → n ≡ count s → 8 * count s ≤ m → length (gather n (field_bytes s d base)) ≤ m
-  fields_room n m e h = rw (length_gather (field_bytes s d base) 8 field_length n, e) h
+  -- they have room where eight bytes for each have
+  pub fields_room : (m : ℕ) → 8 * count s ≤ m → length (gather (count s) (field_bytes s d base)) ≤ m
+  fields_room m h = rw (length_gather (field_bytes s d base) 8 field_length (count s)) h

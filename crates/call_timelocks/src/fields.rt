@@ -52,14 +52,9 @@ pub fn write_fields(sheet: &[u8], per_day: u16, base: u32, out: &mut [u8])
     requires sheet_in_bounds { 8 * count sheet.now ≤ length out.old }
     ensures { out.new ≡ over (timelock_bytes sheet.now per_day base) out.old }
 {
-    let n = field::count(sheet);
-    let mut at: usize = 0;
-    let mut t: usize = 0;
-    while t < n {
+    for t in 0..field::count(sheet) {
         let first = lock_time(sheet, per_day, base, t);
         let second = sequence(sheet, per_day, t);
-        write_pair(&mut out[at..], first, second);
-        at += 8;
-        t += 1;
+        write_pair(&mut out[8 * t..], first, second);
     }
 }

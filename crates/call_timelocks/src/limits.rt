@@ -64,15 +64,7 @@ fn all_right(sheet: &[u8], per_day: u16, base: u32, rule: u32) -> bool
     requires { Sized sheet.now }
     ensures { result ≡ all_below (count sheet.now) (limit_rule sheet.now per_day base rule) }
 {
-    let n = field::count(sheet);
-    let mut t: usize = 0;
-    while t < n {
-        if !limit_rule(sheet, per_day, base, rule, t) {
-            return false;
-        }
-        t += 1;
-    }
-    true
+    (0..field::count(sheet)).all(|t| limit_rule(sheet, per_day, base, rule, t))
 }
 
 // The first of 26 and 27 that fails, 0 where none does.

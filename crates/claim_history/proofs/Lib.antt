@@ -1,3 +1,4 @@
+pub mod Holders
 pub mod Playing
 pub mod Writing
 pub mod Numbers

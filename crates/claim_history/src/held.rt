@@ -9,20 +9,16 @@ ghost use Rattle.claim_history.specs.Promise.{holders, reported_holders, rows};
 use position::Position;
 use queries::holder;
 use readings::reported;
+use sheet::table;
 
 // "read .. from the position".
 pub fn holders_in(position: Position, sheet: &[u8]) -> [u8; 32]
     requires { Checked sheet.now }
     ensures { result ≡ holders sheet.now (holder_in sheet.now position) }
 {
-    let n = sheet::field::count(sheet);
-    let mut held = [255u8; 32];
-    let mut coin: usize = 0;
-    while coin < n {
-        held[coin] = holder::holder_in(position, sheet, coin);
-        coin += 1;
-    }
-    held
+    table::filled(sheet::field::count(sheet), 255, |coin| {
+        holder::holder_in(position, sheet, coin)
+    })
 }
 
 // The same from the bytes of a report.
@@ -31,14 +27,9 @@ fn holders_by(sheet: &[u8], report: &[u8]) -> [u8; 32]
     requires sheet_in_bounds { row_width * count sheet.now ≤ length report.now }
     ensures { result ≡ holders sheet.now (reported_holder sheet.now report.now) }
 {
-    let n = sheet::field::count(sheet);
-    let mut held = [255u8; 32];
-    let mut coin: usize = 0;
-    while coin < n {
-        held[coin] = reported::reported_holder(sheet, report, coin);
-        coin += 1;
-    }
-    held
+    table::filled(sheet::field::count(sheet), 255, |coin| {
+        reported::reported_holder(sheet, report, coin)
+    })
 }
 
 // ".. and from the report of the accepted steps where that report answers 0", at the front of the buffer; else nobody.

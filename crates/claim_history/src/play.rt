@@ -55,10 +55,8 @@ pub fn play_steps(sheet: &[u8], setup: &[u8], steps: &[u8]) -> Played
         position: journal::start(sheet),
         accepted: 0,
     };
-    let mut k: usize = 0;
-    while k < n {
+    for k in 0..n {
         played = play_one(played, sheet, setup, steps, 4 * k);
-        k += 1;
     }
     played
 }

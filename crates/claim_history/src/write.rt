@@ -37,12 +37,10 @@ pub fn write_accepted(sheet: &[u8], setup: &[u8], steps: &[u8], out: &mut [u8])
     let n = steps.len() / 4;
     let mut here = journal::start(sheet);
     let mut at: usize = 0;
-    let mut k: usize = 0;
-    while k < n {
+    for k in 0..n {
         let stepped = step_at(here, sheet, setup, steps, 4 * k);
         here = stepped.position;
         let wrote = write_taken(stepped.refusal, steps, 4 * k, &mut out[at..]);
         at += wrote;
-        k += 1;
     }
 }

@@ -43,19 +43,15 @@ pub fn noted(
     let n = sheet::field::count(sheet);
     let per_day = sheet::setup::per_day(setup);
     let mut counts = opened;
-    let mut t: usize = 0;
-    while t < n {
+    for t in 0..n {
         if opens::stays(sheet, view, t, counts[t]) {
-            t += 1;
             continue;
         }
         let x = position.slots[t];
         let up = parent::slot_above(sheet, t);
         let above = position.slots[up];
         let since = parent::block_above(sheet, t, above.height);
-        let c = opens::first_open(sheet, per_day, view, x, since, t);
-        counts[t] = c;
-        t += 1;
+        counts[t] = opens::first_open(sheet, per_day, view, x, since, t);
     }
     counts
 }

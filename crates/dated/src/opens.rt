@@ -36,14 +36,7 @@ fn at_hand_of_some(sheet: &[u8], view: View, x: Slot, t: usize) -> bool
     ensures { result ≡ any_below (parties sheet.now) (λ k. at_hand_in sheet.now view x t (party_at k)) }
 {
     let n = sheet::field::parties(sheet);
-    let mut k: usize = 0;
-    while k < n {
-        if at_hand(sheet, view, x, t, sheet::field::party_at(k)) {
-            return true;
-        }
-        k += 1;
-    }
-    false
+    (0..n).any(|k| at_hand(sheet, view, x, t, sheet::field::party_at(k)))
 }
 
 // Whether the lock of t is reached.

@@ -1,9 +1,7 @@
 // The tests of an ending: 33, then 34.
 ghost use Rattle.std.specs.Prelude.{◌*◌, ◌^◌, ◌≤◌, ◌<◌, ◌≡◌, not, ◌&&◌, ltb, length};
-ghost use Rattle.laws.specs.Booleans.{pick};
 ghost use Rattle.laws.specs.Below.{all_below};
 ghost use Rattle.laws.specs.Failing.{first_failing};
-ghost use Rattle.laws.specs.Mask.{bit};
 ghost use Rattle.laws.specs.Sum.{bits_below};
 ghost use Rattle.sheet.specs.Field.{count, Sized};
 ghost use Rattle.sheet.specs.Checked.{Fit};
@@ -20,26 +18,13 @@ use sheet::little::u32_at;
 use sheet::set;
 use slots::party;
 
-// 1 where t is in the mask, else 0.
-fn one_if(mask: u32, t: usize) -> usize
-    requires { t < 32 }
-    ensures { Ones (pick (bit mask t) 1 0) 1 result }
-{
-    if set::has(mask, t) { 1 } else { 0 }
-}
-
 // The number of a mask's bits below n.
 pub fn ones_below(mask: u32, n: usize) -> usize
     requires { n ≤ 32 }
     ensures { Ones (bits_below n mask) n result }
 {
-    let mut sum: usize = 0;
-    let mut t: usize = 0;
-    while t < n {
-        sum += one_if(mask, t);
-        t += 1;
-    }
-    sum
+    let below = (1u64 << n) - 1;
+    (mask as u64 & below).count_ones() as usize
 }
 
 // Whether a number is a payee of t, which is a paying transaction.
@@ -77,15 +62,7 @@ fn all_named(sheet: &[u8], mask: u32, dests: &[u8]) -> bool
     requires dests_len { length dests.now ≡ 4 * bits_below (count sheet.now) mask }
     ensures { result ≡ all_below (count sheet.now) (paying_named sheet.now mask dests.now) }
 {
-    let n = sheet::field::count(sheet);
-    let mut t: usize = 0;
-    while t < n {
-        if !paying_named(sheet, mask, dests, t) {
-            return false;
-        }
-        t += 1;
-    }
-    true
+    (0..sheet::field::count(sheet)).all(|t| paying_named(sheet, mask, dests, t))
 }
 
 // Whether every number of the mask is below n.
@@ -139,15 +116,7 @@ fn apart_from(sheet: &[u8], mask: u32, x: usize) -> bool
     requires x_bound { x < count sheet.now }
     ensures { result ≡ all_below (count sheet.now) (coins_apart sheet.now mask x) }
 {
-    let n = sheet::field::count(sheet);
-    let mut y: usize = 0;
-    while y < n {
-        if !coins_apart(sheet, mask, x, y) {
-            return false;
-        }
-        y += 1;
-    }
-    true
+    (0..sheet::field::count(sheet)).all(|y| coins_apart(sheet, mask, x, y))
 }
 
 // No two of the mask are of one coin.
@@ -155,15 +124,7 @@ fn all_apart(sheet: &[u8], mask: u32) -> bool
     requires { Sized sheet.now }
     ensures { result ≡ all_below (count sheet.now) (λ x. all_below (count sheet.now) (coins_apart sheet.now mask x)) }
 {
-    let n = sheet::field::count(sheet);
-    let mut x: usize = 0;
-    while x < n {
-        if !apart_from(sheet, mask, x) {
-            return false;
-        }
-        x += 1;
-    }
-    true
+    (0..sheet::field::count(sheet)).all(|x| apart_from(sheet, mask, x))
 }
 
 // Whether t is not planned, or its earliest block is none beyond the last.
@@ -183,15 +144,7 @@ fn all_in_time(sheet: &[u8], per_day: u16, mask: u32) -> bool
     requires { Sized sheet.now }
     ensures { result ≡ all_below (count sheet.now) (in_time sheet.now per_day mask) }
 {
-    let n = sheet::field::count(sheet);
-    let mut t: usize = 0;
-    while t < n {
-        if !in_time(sheet, per_day, mask, t) {
-            return false;
-        }
-        t += 1;
-    }
-    true
+    (0..sheet::field::count(sheet)).all(|t| in_time(sheet, per_day, mask, t))
 }
 
 // What 34 comes to: no two of one coin, and no block beyond the last.

@@ -27,13 +27,5 @@ pub fn is_planned(sheet: &[u8], mask: u32, t: usize) -> bool
     requires t_bound { t < count sheet.now }
     ensures { result ≡ planned sheet.now mask t }
 {
-    let n = sheet::field::count(sheet);
-    let mut x: usize = 0;
-    while x < n {
-        if leads_to(sheet, mask, t, x) {
-            return true;
-        }
-        x += 1;
-    }
-    false
+    (0..sheet::field::count(sheet)).any(|x| leads_to(sheet, mask, t, x))
 }

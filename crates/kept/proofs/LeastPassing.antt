@@ -3,14 +3,17 @@
 use Rattle.laws.proofs.Prelude.{ℕ, zero, suc, ◌≤◌, ◌<◌, ◌≡◌, refl, sym, ap, ◌∙◌, Bool, true, false, ltb, ltb-true, ltb-false, eq-eqb, ne_eqb, arith}
 use native.Mathlib.Nat.{le_antisymm}
 use Rattle.laws.specs.Booleans.{pick, split, clash}
-use Rattle.laws.specs.Below.{any_below, any_none}
+use Rattle.std.specs.declared.option.Option.{Option}
+use Rattle.std.specs.Prelude.{None, Some}
+use Rattle.std.specs.Option.{MatchOption}
+use Rattle.laws.specs.Below.{any_below, any_none, any_all_false}
 use Rattle.laws.specs.Least.{least_below, least_top, least_le, least_from}
 use Rattle.kept.specs.declared.Prospect.{Prospect}
 use Rattle.kept.specs.Forms.Evaluation.{reached_in, sure_in, lowest_in, counted_in}
 
 module _ (p : ℕ → Bool) where
   -- none below t passes, and t does
-  pub lowest_found : (n t d : ℕ) → t < n → n ≤ d → p t ≡ true → any_below t p ≡ false → t ≡ least_below n p (λ k. k) d
+  lowest_found : (n t d : ℕ) → t < n → n ≤ d → p t ≡ true → any_below t p ≡ false → t ≡ least_below n p (λ k. k) d
   lowest_found n t d l m e h =
       le_antisymm
       (least_from p (λ k. k) d t n (omega arith)
@@ -18,9 +21,16 @@ module _ (p : ℕ → Bool) where
       (least_le p (λ k. k) d n t l e)
 
   -- none passes
-  pub lowest_none : (n d : ℕ) → any_below n p ≡ false → d ≡ least_below n p (λ k. k) d
+  lowest_none : (n d : ℕ) → any_below n p ≡ false → d ≡ least_below n p (λ k. k) d
   lowest_none n d h =
       le_antisymm (least_from p (λ k. k) d d n (omega arith) (λ k i y. clash y (any_none n p h k i))) (least_top p (λ k. k) d n)
+
+  -- the first that passes, if one does, and what is made of it
+  pub lowest_first : (n d v : ℕ) (r : Option ℕ) → n ≤ d
+      → MatchOption r ((k : ℕ) → 0 ≤ k → k < n → p k ≡ false) (λ i. (0 ≤ i) × (i < n) × (p i ≡ true) × ((k : ℕ) → 0 ≤ k → k < i → p k ≡ false))
+      → MatchOption r (v ≡ d) (λ i. v ≡ i) → v ≡ least_below n p (λ k. k) d
+  lowest_first n d v None l h e = e ∙ lowest_none n d (any_all_false n p (λ k i. h k (omega arith) i))
+  lowest_first n d v (Some i) l h e = e ∙ lowest_found n i d h.1 l h.2 (any_all_false i p (λ k j. h.3 k (omega arith) j))
 
 -- two tests that agree below n
 pub least_same : (n : ℕ) (p q : ℕ → Bool) (f : ℕ → ℕ) (d : ℕ) → ((k : ℕ) → k < n → p k ≡ q k) → least_below n p f d ≡ least_below n q f d

@@ -1,7 +1,6 @@
 // Which transaction X counts on.
-ghost use Rattle.std.specs.Prelude.{◌+◌, ◌*◌, ◌<◌, ◌≤◌, ◌≡◌, not, ◌&&◌, leb, get_or};
+ghost use Rattle.std.specs.Prelude.{◌+◌, ◌*◌, ◌<◌, ◌≤◌, ◌≡◌, leb, get_or};
 ghost use Rattle.laws.specs.Below.{any_below};
-ghost use Rattle.laws.specs.Mask.{bit};
 ghost use Rattle.sheet.specs.LockHeight.{never};
 ghost use Rattle.kept.specs.Forms.Evaluation.{Bounded, sure_in, lowest_in, counted_in};
 
@@ -17,26 +16,7 @@ fn is_beaten(beat: &[u32; 1024], n: usize, t: usize, off: u32) -> bool
     requires t_bound { t < 32 }
     ensures { result ≡ any_below n (λ r. leb (get_or beat.now (32 * t + r) 0) off) }
 {
-    let mut r: usize = 0;
-    while r < n {
-        if beat[32 * t + r] <= off {
-            return true;
-        }
-        r += 1;
-    }
-    false
-}
-
-// Whether t is of a set, and nothing beats it.
-fn is_sure(beat: &[u32; 1024], n: usize, found: u32, t: usize, off: u32) -> bool
-    requires n_bound { n ≤ 32 }
-    requires t_bound { t < 32 }
-    ensures { result ≡ (bit found t && not (any_below n (λ r. leb (get_or beat.now (32 * t + r) 0) off))) }
-{
-    if set::has(found, t) {
-        return !is_beaten(beat, n, t, off);
-    }
-    false
+    (0..n).any(|r| beat[32 * t + r] <= off)
 }
 
 // Those of a set that nothing beats.
@@ -44,13 +24,7 @@ fn sure(beat: &[u32; 1024], n: usize, found: u32, off: u32) -> u32
     requires { n ≤ 32 }
     ensures { result ≡ sure_in beat.now n found off }
 {
-    let mut safe: u32 = 0;
-    let mut t: usize = 0;
-    while t < n {
-        safe = set::join(safe, is_sure(beat, n, found, t, off), t);
-        t += 1;
-    }
-    safe
+    set::below(n, |t| set::has(found, t) && !is_beaten(beat, n, t, off))
 }
 
 // The lowest of a set.
@@ -58,14 +32,9 @@ fn lowest(n: usize, found: u32) -> u8
     requires { n ≤ 32 }
     ensures { result ≡ lowest_in n found }
 {
-    let mut t: usize = 0;
-    while t < n {
-        if set::has(found, t) {
-            return t as u8;
-        }
-        t += 1;
-    }
-    NOBODY
+    (0..n)
+        .find(|t| set::has(found, *t))
+        .map_or(NOBODY, |t| t as u8)
 }
 
 // What X counts on up to a height: one that nothing beats before others, then the lowest; none where X is paid.

@@ -32,6 +32,7 @@ pub fn kept_for(prospect: Prospect) -> u32
     if !kept_over(prospect, low) {
         return lock_height::NEVER;
     }
+    // It counts nothing: each turn halves what is between the two.
     while low + 1 < high {
         let middle = (low + high) / 2;
         if kept_over(prospect, middle) {

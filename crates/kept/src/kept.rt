@@ -1,5 +1,5 @@
 // What is kept up to a height, over the tables of a prospect.
-ghost use Rattle.std.specs.Prelude.{◌+◌, ◌*◌, ◌<◌, ◌≤◌, ◌≡◌, not, ◌&&◌, ◌||◌, ltb, get_or};
+ghost use Rattle.std.specs.Prelude.{◌+◌, ◌*◌, ◌<◌, ◌≤◌, ◌≡◌, not, ◌||◌, get_or};
 ghost use Rattle.laws.specs.Booleans.{pick};
 ghost use Rattle.laws.specs.Mask.{bit};
 ghost use Rattle.laws.specs.Sets.{set_below};
@@ -9,7 +9,7 @@ ghost use Rattle.soonest.specs.Forms.Table.{Filled};
 ghost use Rattle.kept.specs.Forms.Evaluation.{within, clear_in, reaches_in, is_unmet_in, unmet_in, needs_over, needs_in, parents_in, good_in, rounds_in, reached_in, kept_in, Bounded};
 
 use crate::Prospect;
-use sheet::set;
+use sheet::{set, table};
 
 // Whether each bit of a is b's.
 fn within(a: u32, b: u32) -> bool
@@ -18,17 +18,7 @@ fn within(a: u32, b: u32) -> bool
     a & b == a
 }
 
-// Whether one stands and is unbeaten, where X knows this, up to a height.
-fn is_clear(lacks: u32, until: u32, know: u32, at: u32) -> bool
-    ensures { result ≡ (within lacks know && ltb at until) }
-{
-    if within(lacks, know) {
-        return at < until;
-    }
-    false
-}
-
-// Those that stand and are unbeaten beside what is above t.
+// Those that stand and are unbeaten beside what is above t, where X knows this, up to a height.
 fn clear<'a>(
     lacks: &'a [u32; 32],
     until: &'a [u32; 1024],
@@ -41,24 +31,7 @@ fn clear<'a>(
     requires t_bound { t < 32 }
     ensures { result ≡ clear_in lacks.now until.now n t know at }
 {
-    let mut found: u32 = 0;
-    let mut k: usize = 0;
-    while k < n {
-        found = set::join(found, is_clear(lacks[k], until[32 * t + k], know, at), k);
-        k += 1;
-    }
-    found
-}
-
-// Whether w is aimed at and its line is clear.
-fn is_reached(aims: u32, line: u32, clear: u32, w: usize) -> bool
-    requires { w < 32 }
-    ensures { result ≡ (bit aims w && within line clear) }
-{
-    if set::has(aims, w) {
-        return within(line, clear);
-    }
-    false
+    set::below(n, |k| within(lacks[k], know) && at < until[32 * t + k])
 }
 
 // Whether one that is aimed at has its line clear.
@@ -66,14 +39,7 @@ fn reaches(line: &[u32; 32], n: usize, aims: u32, clear: u32) -> bool
     requires { n ≤ 32 }
     ensures { result ≡ reaches_in line.now n aims clear }
 {
-    let mut w: usize = 0;
-    while w < n {
-        if is_reached(aims, line[w], clear, w) {
-            return true;
-        }
-        w += 1;
-    }
-    false
+    (0..n).any(|w| set::has(aims, w) && within(line[w], clear))
 }
 
 // What decides, for t, whether what beats it is met.
@@ -131,14 +97,10 @@ fn unmet<'a>(
     ensures { result ≡ unmet_in lacks.now until.now line.now secrets.now beat.now n aim }
 {
     let t = aim.t;
-    let mut found: u32 = 0;
-    let mut r: usize = 0;
-    while r < n {
-        let left = is_unmet(lacks, until, line, n, aim, beat[32 * t + r], secrets[r], r);
-        found = set::join(found, left, r);
-        r += 1;
-    }
-    found
+    set::below(
+        n,
+        |r| is_unmet(lacks, until, line, n, aim, beat[32 * t + r], secrets[r], r),
+    )
 }
 
 // The height of the last block, where `end` is it but for stealth and the outage.
@@ -182,23 +144,16 @@ fn all_needs(prospect: Prospect, off: u32) -> [u32; 32]
     ensures { Filled (λ t x. x ≡ needs_in prospect off t) prospect.count result }
 {
     let n = prospect.count;
-    let mut table = [0u32; 32];
-    let mut t: usize = 0;
-    while t < n {
-        let last = last(off, prospect.ends[t], prospect.stealth);
-        let aims = prospect.aims[t];
-        let only = prospect.only[t];
-        let know = prospect.known[t];
-        let fails = prospect.fails[t];
+    table::filled(n, 0, |t| {
         let aim = Aim {
-            t: t,
-            aims: aims,
-            only: only,
-            know: know,
-            last: last,
-            off: off,
+            t,
+            aims: prospect.aims[t],
+            only: prospect.only[t],
+            know: prospect.known[t],
+            last: last(off, prospect.ends[t], prospect.stealth),
+            off,
         };
-        table[t] = needs(
+        needs(
             &prospect.lacks,
             &prospect.until,
             &prospect.line,
@@ -206,11 +161,9 @@ fn all_needs(prospect: Prospect, off: u32) -> [u32; 32]
             &prospect.beat,
             n,
             aim,
-            fails,
-        );
-        t += 1;
-    }
-    table
+            prospect.fails[t],
+        )
+    })
 }
 
 // A set where a test holds, else none.
@@ -226,10 +179,8 @@ fn parents(up: &[u32; 32], n: usize, good: u32) -> u32
     ensures { result ≡ parents_in up.now n good }
 {
     let mut found: u32 = 0;
-    let mut c: usize = 0;
-    while c < n {
+    for c in 0..n {
         found = found | where_good(set::has(good, c), up[c]);
-        c += 1;
     }
     found
 }
@@ -261,13 +212,7 @@ fn all_good(contract: u32, needs: &[u32; 32], parents: u32, n: usize) -> u32
     requires { n ≤ 32 }
     ensures { result ≡ set_below n (λ t. good_in contract (get_or needs.now t 0) parents t) }
 {
-    let mut found: u32 = 0;
-    let mut t: usize = 0;
-    while t < n {
-        found = set::join(found, is_good(contract, needs[t], parents, t), t);
-        t += 1;
-    }
-    found
+    set::below(n, |t| is_good(contract, needs[t], parents, t))
 }
 
 // Those that are good by others, round after round, until a round changes nothing.
@@ -276,14 +221,12 @@ fn good<'a>(up: &'a [u32; 32], needs: &'a [u32; 32], contract: u32, n: usize) ->
     ensures { result ≡ rounds_in up.now (λ t. get_or needs.now t 0) contract n n }
 {
     let mut found: u32 = 0;
-    let mut k: usize = 0;
-    while k < n {
+    for _ in 0..n {
         let next = all_good(contract, needs, parents(up, n, found), n);
         if next == found {
             return found;
         }
         found = next;
-        k += 1;
     }
     found
 }

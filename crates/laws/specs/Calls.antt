@@ -29,11 +29,11 @@ set_of_none answers = record { each = λ k l. absurd (not-suc-le-zero l); small 
 
 pub set_of_more : (answers : ℕ → Bool → Type 0) (n m r : ℕ) (b : Bool) → n < 32 → SetOf answers n m → answers n b → r ≡ joined m b n → SetOf answers (n + 1) r
 set_of_more answers n m r b l h a e = record {
-    each = λ k i. let w : k ≤ n = omega (arith, i) in rw (e, bit_joined m b n k l (omega (arith, i, l)))
-        (either (eq-or-lt_of_le w)
-        (λ q. rw (q, eq-eqb n n refl, and-true b, bit_above m n n h.small (le_refl n)) a)
-        (λ q. rw (ne_eqb k n (λ z. omega (arith, z, q)), and-false b, or-false (bit m k)) (h.each k q)));
-    small = rw e (joined_small (n + 1) m n b (let z : 2 ^ (n + 1) ≡ 2 * 2 ^ n = rw add-one (pow-succ' 2 n) in omega (arith, h.small, z)) (omega arith))
+  each = λ k i. let w : k ≤ n = omega (arith, i) in rw (e, bit_joined m b n k l (omega (arith, i, l)))
+      (either (eq-or-lt_of_le w)
+      (λ q. rw (q, eq-eqb n n refl, and-true b, bit_above m n n h.small (le_refl n)) a)
+      (λ q. rw (ne_eqb k n (λ z. omega (arith, z, q)), and-false b, or-false (bit m k)) (h.each k q)));
+  small = rw e (joined_small (n + 1) m n b (let z : 2 ^ (n + 1) ≡ 2 * 2 ^ n = rw add-one (pow-succ' 2 n) in omega (arith, h.small, z)) (omega arith));
 }
 
 -- the same of a table of m places: an answer at each place below n, and what it was filled with from there on
@@ -53,10 +53,10 @@ table_of_none answers m rest = record { size = length-replicate m rest; each = �
 
 pub table_of_more : {T : Type 0} (answers : ℕ → T → Type 0) (m n : ℕ) (rest v : T) (table : List T) → TableOf answers m n rest table → n < m → answers n v → TableOf answers m (n + 1) rest (set table n v)
 table_of_more answers m n rest v table h l a = record {
-    size = length-set table n v ∙ h.size;
-    each = λ k i.
-        split (eqb k n)
-        (λ y. let e = eqb-true k n y in rw (e, get_or-set_same table n v rest (omega (arith, l, h.size))) a)
-        (λ y. let e = eqb-false k n y in rw (get_or-set_other table n k v rest e) (h.each k (omega (arith, i, e))));
-    other = λ k i. get_or-set_other table n k v rest (λ e. omega (arith, e, i)) ∙ h.other k (omega (arith, i))
+  size = length-set table n v ∙ h.size;
+  each = λ k i.
+      split (eqb k n)
+      (λ y. let e = eqb-true k n y in rw (e, get_or-set_same table n v rest (omega (arith, l, h.size))) a)
+      (λ y. let e = eqb-false k n y in rw (get_or-set_other table n k v rest e) (h.each k (omega (arith, i, e))));
+  other = λ k i. get_or-set_other table n k v rest (λ e. omega (arith, e, i)) ∙ h.other k (omega (arith, i));
 }

@@ -20,10 +20,8 @@ pub fn open_count(below: [u32; 28], last: u32) -> usize
     ensures { Counted below last result }
 {
     let mut sum: usize = 0;
-    let mut i: usize = 0;
-    while i < 28 {
-        sum += ones(below[i]);
-        i += 1;
+    for set in &below {
+        sum += ones(*set);
     }
     sum + ones(last % 268435456)
 }
@@ -60,11 +58,9 @@ fn write_at(on: [bool; 4], kind: u8, actor: u8, t: u8, out: &mut [u8]) -> usize
     ensures out_after { out.new ≡ over (emitted_at (opens on) kind actor t) out.old }
 {
     let mut at: usize = 0;
-    let mut d: usize = 0;
-    while d < 4 {
+    for d in 0..4 {
         let wrote = write_step(on[d], kind, actor, t, d as u8, &mut out[at..]);
         at += wrote;
-        d += 1;
     }
     at
 }
@@ -106,11 +102,9 @@ fn write_below(below: [u32; 28], actor: u8, k: usize, out: &mut [u8]) -> usize
     }
     let kind = (k + 1) as u8;
     let mut at: usize = 0;
-    let mut t: usize = 0;
-    while t < 32 {
+    for t in 0..32 {
         let wrote = write_transaction(alice, bob, contract, carol, kind, actor, t, &mut out[at..]);
         at += wrote;
-        t += 1;
     }
     at
 }
@@ -154,11 +148,9 @@ pub fn write_open(below: [u32; 28], last: u32, actor: u8, out: &mut [u8]) -> usi
     ensures out_after { out.new ≡ over (actor_bytes below last actor) out.old }
 {
     let mut at: usize = 0;
-    let mut k: usize = 0;
-    while k < 7 {
+    for k in 0..7 {
         let wrote = write_kind(below, last, actor, k, &mut out[at..]);
         at += wrote;
-        k += 1;
     }
     at
 }

@@ -1,6 +1,6 @@
 -- The bumps that are owed are those of the pool that wait outside the block and can have a deadline, and the soonest deadline is one of theirs.
 -- Assumes nothing.
-use Rattle.laws.proofs.Prelude.{ℕ, ◌+◌, ◌-◌, ◌≤◌, ◌<◌, ◌≡◌, refl, sym, ap, ◌∙◌, Bool, true, false, ◌&&◌, and-false, List, eqb, ltb, length, eq-eqb, ne_eqb, arith}
+use Rattle.laws.proofs.Prelude.{ℕ, ◌+◌, ◌-◌, ◌≤◌, ◌<◌, ◌≡◌, refl, sym, ap, ◌∙◌, Bool, true, false, ◌&&◌, and-false, List, eqb, ltb, length, ne_eqb, arith}
 use Rattle.laws.proofs.Prelude.{and-true, bit_and, pick, split, any_below, any_same, any_all_false, least_below, least_start, least_more, least_same, bit, bit_and_lem, no_bit}
 use Rattle.laws.proofs.Prelude.{set_bit, bit_outside}
 use Prim.Native.Nat.{min}
@@ -10,8 +10,7 @@ use Rattle.sheet.specs.Setup.{per_day}
 use Rattle.sheet.specs.LockHeight.{never}
 use Rattle.slots.specs.Deadline.{deadline}
 use Rattle.slots.specs.Forms.Expiring.{expiring_set}
-use Rattle.slots.specs.Forms.Next.{Next}
-use Rattle.slots.proofs.AnyMember.{any_first, any_next_member, any_member}
+use Rattle.slots.proofs.Walks.{Gap}
 use Rattle.slots.proofs.Deadlines.{deadline_unexpiring}
 use Rattle.steps.specs.declared.View.{View}
 use Rattle.position.specs.declared.Position.{Position}
@@ -21,31 +20,13 @@ use Rattle.position.specs.Forms.View.{view_below, since_in}
 use Rattle.position.specs.Forms.Owed.{due_in, soonest_in, soonest_due}
 use Rattle.position.proofs.SendTests.{deadline_parent, since_parent_lem}
 
--- a loop over a set: none outside it, none below its first member, and none up to the next
+-- none is due outside the set
 module _ (s : List ℕ) (d : ℕ) (p : Position) (m among : ℕ) where
   no_member : (t : ℕ) → bit among t ≡ false → due_in s d p m among t ≡ false
   unfolding due_in
   no_member t e = rw e
 
-  due_next : ℕ → Bool
-  due_next t = eqb (m + 1) (deadline s d (λ k. since_in s p t) t)
-
-  pub due_first : (n t : ℕ) → Next among 0 n t → any_below t (due_in s d p m among) ≡ false
-  unfolding due_in due_next
-  due_first n t h = any_first among due_next n t h
-
-  -- where h is the deadline that the code found
-  pub due_next_lem : (n t r b h : ℕ) → Next among (t + 1) n r → any_below t (due_in s d p m among) ≡ false → b ≡ since_in s p t
-      → h ≡ deadline s d (λ k. b) t → (m + 1 ≡ h → ⊥) → any_below r (due_in s d p m among) ≡ false
-  unfolding due_in due_next
-  due_next_lem n t r b h g e f a o = any_next_member among due_next n t r g e (rw (← f, ← a, ne_eqb (m + 1) h o) refl)
-
-  pub due_found : (n t b h : ℕ) → t < n → bit among t ≡ true → b ≡ since_in s p t → h ≡ deadline s d (λ k. b) t → m + 1 ≡ h
-      → true ≡ any_below n (due_in s d p m among)
-  unfolding due_in due_next
-  due_found n t b h l e f a o = any_member among due_next n t l e (rw (← f, ← a, eq-eqb (m + 1) h o) refl)
-
--- the same of the soonest deadline
+-- going through the set: the soonest deadline
 module _ (s : List ℕ) (d : ℕ) (p : Position) (m among : ℕ) where
   abbrev height : ℕ → ℕ
   height t = deadline s d (λ k. since_in s p t) t
@@ -56,20 +37,26 @@ module _ (s : List ℕ) (d : ℕ) (p : Position) (m among : ℕ) where
   outside : (j : ℕ) → bit among j ≡ false → (bit among j && ltb m (height j)) ≡ false
   outside j e = rw e
 
-  pub soonest_first : (n t : ℕ) → Next among 0 n t → never ≡ soonest_below t
+  pub soonest_first : never ≡ soonest_below 0
   unfolding soonest_below
-  soonest_first n t h =
-      least_start (λ j. bit among j && ltb m (height j)) height never
-      ∙ sym (least_upto (λ j. bit among j && ltb m (height j)) height never 0 t h.low (λ j a l. outside j (h.gap j a l)))
+  soonest_first = least_start (λ j. bit among j && ltb m (height j)) height never
 
-  -- where h is the deadline that the code found, a what counts of it, and o the lower of this and the best before
-  pub soonest_next : (n t r b h a best o : ℕ) → Next among (t + 1) n r → bit among t ≡ true → best ≡ soonest_below t → b ≡ since_in s p t
-      → h ≡ deadline s d (λ k. b) t → a ≡ pick (ltb m h) h never → o ≡ min best a → o ≡ soonest_below r
+  soonest_upto : (n t k : ℕ) → Gap among t n k → soonest_below t ≡ soonest_below k
   unfolding soonest_below
-  soonest_next n t r b h a best o g i e f c w x =
-      let y : a ≡ pick (bit among t && ltb m (height t)) (height t) never = rw (i, ← f, ← c) w in
-      least_more t (λ j. bit among j && ltb m (height j)) height never best a o e y x
-      ∙ sym (least_upto (λ j. bit among j && ltb m (height j)) height never (t + 1) r g.low (λ j l k. outside j (g.gap j l k)))
+  soonest_upto n t k g =
+      sym (least_upto (λ j. bit among j && ltb m (height j)) height never t k g.low (λ j a l. outside j (g.none j a l)))
+
+  -- where h is its deadline, a what counts of it, and o the lower of this and the best before
+  pub soonest_next : (n t k h a best o : ℕ) → Gap among t n k → bit among k ≡ true → best ≡ soonest_below t → h ≡ height k
+      → a ≡ pick (ltb m h) h never → o ≡ min best a → o ≡ soonest_below (k + 1)
+  unfolding soonest_below
+  soonest_next n t k h a best o g i e c w x =
+      let y : a ≡ pick (bit among k && ltb m (height k)) (height k) never = rw (i, ← c) w in
+      least_more k (λ j. bit among j && ltb m (height j)) height never best a o (e ∙ soonest_upto n t k g) y x
+
+  pub soonest_done : (n t best : ℕ) → Gap among t n n → n ≡ count s → best ≡ soonest_below t → best ≡ soonest_in s d p m among
+  unfolding soonest_below soonest_in
+  soonest_done n t best g l e = (e ∙ soonest_upto n t n g) ∙ ap soonest_below l
 
   pub soonest_none : among ≡ 0 → never ≡ soonest_in s d p m among
   unfolding soonest_in

@@ -1,10 +1,10 @@
 -- The first shares, gone through as the members of a set.
 -- Assumes nothing.
-use Rattle.laws.proofs.Prelude.{ℕ, zero, suc, ◌+◌, ◌-◌, ◌≤◌, ◌<◌, ◌≡◌, refl, sym, ◌∙◌, Bool, true, false, not, ◌||◌, List, [], ◌∷◌, ◌++◌, eqb, ltb, set, ltb-true, arith}
+use Rattle.laws.proofs.Prelude.{ℕ, zero, suc, ◌+◌, ◌-◌, ◌≤◌, ◌<◌, ◌≡◌, refl, ◌∙◌, Bool, true, false, not, ◌||◌, List, [], ◌∷◌, ◌++◌, eqb, ltb, set, ltb-true, arith}
 use Rattle.laws.proofs.Prelude.{all_below, all_at, pick, split, every, bit}
 use Rattle.slots.specs.declared.Slot.{Slot}
 use Rattle.slots.specs.Destination.{alice, contract}
-use Rattle.slots.specs.Forms.Next.{Next}
+use Rattle.slots.proofs.Walks.{Gap}
 use Rattle.slots.specs.Signatures.{share_mask}
 use Rattle.slots.specs.Slot.{with_shared, with_mark}
 use Rattle.steps.specs.Names.{refund1, revoke, refund2, timeout}
@@ -40,13 +40,16 @@ module _ (m : ℕ) where
       (members_step t (omega arith) ∙ rw (f t (omega arith) (omega arith)))
       ∙ (skipped k (t + 1) (omega arith) (λ j a b. f j (omega arith) (omega arith)) ∙ rw e)
 
-  members_next : (t r : ℕ) → Next m t 32 r → members_from m t ≡ members_from m r
-  members_next t r h =
-      let e : t + (r - t) ≡ r = omega (arith, h.low) in
-      skipped (r - t) t (omega (arith, h.low, h.high)) (λ j a b. h.gap j a (omega (arith, h.low))) ∙ rw e
+  members_next : (t k : ℕ) → Gap m t 32 k → members_from m t ≡ members_from m k
+  members_next t k h =
+      let e : t + (k - t) ≡ k = omega (arith, h.low) in
+      skipped (k - t) t (omega (arith, h.low, h.high)) (λ j a b. h.none j a (omega (arith, h.low))) ∙ rw e
 
-  member_next : (t r : ℕ) → t < 32 → bit m t ≡ true → Next m (t + 1) 32 r → members_from m t ≡ t ∷ members_from m r
-  member_next t r l e h = members_step t l ∙ rw (e, members_next (t + 1) r h)
+  member_next : (t k : ℕ) → Gap m t 32 k → k < 32 → bit m k ≡ true → members_from m t ≡ k ∷ members_from m (k + 1)
+  member_next t k h l e = members_next t k h ∙ (members_step k l ∙ rw e)
+
+  members_end : (t : ℕ) → Gap m t 32 32 → members_from m t ≡ []
+  members_end t h = members_next t 32 h ∙ members_none 32 (omega arith)
 
 -- ---- the first shares
 alice_members : members_from 80 0 ≡ revoke ∷ timeout ∷ []
@@ -70,44 +73,40 @@ module _ (m party : ℕ) (is : m ≡ first_set party) where
   first_low t l e =
       ltb-true t 7 (rw (← is, e) at (all_at 32 (λ k. not (bit (first_set party) k) || ltb k 7) (low_members party) t l))
 
-  first_from : (t : ℕ) → Next m 0 32 t → members_from m t ≡ first_shares party
-  first_from t h = sym (members_next m 0 t h) ∙ rw is (first_members party)
+  first_from : members_from m 0 ≡ first_shares party
+  first_from = rw is (first_members party)
 
--- ---- a loop that asks whether they are made: its start, a turn that ends it, one that goes on, and its end
--- the party's marks are on each of m from t on
-unfoldable pub made_from : ℕ → Position → ℕ → ℕ → Bool
-made_from m p party t = every (λ k. marked p party k contract) (members_from m t)
+-- ---- they are made where the party's marks are on each member
+alice_all : (p : ℕ → Bool) → all_below 32 (λ k. not (bit 80 k) || p k) ≡ every p (revoke ∷ timeout ∷ [])
+unfolding all_below bit every
+alice_all p = split (p revoke) (λ e. split (p timeout) (λ f. rw (e, f)) (λ f. rw (e, f))) (λ e. rw e)
 
-module _ (m : ℕ) (p : Position) (party t : ℕ) where
-  pub made_start : m ≡ first_set party → Next m 0 32 t → made_from m p party t ≡ first_shares_made p party
-  unfolding made_from first_shares_made
-  made_start is h = rw (first_from m party is t h)
+bob_all : (p : ℕ → Bool) → all_below 32 (λ k. not (bit 120 k) || p k) ≡ every p (refund1 ∷ revoke ∷ refund2 ∷ timeout ∷ [])
+unfolding all_below bit every
+bob_all p =
+    split (p refund1)
+    (λ e. split (p revoke) (λ f. split (p refund2) (λ g. split (p timeout) (λ h. rw (e, f, g, h)) (λ h. rw (e, f, g, h))) (λ g. rw (e, f, g))) (λ f. rw (e, f)))
+    (λ e. rw e)
 
-  module _ (b : Bool) (so_far : made_from m p party t ≡ b) where
-    pub made_broken : t < 32 → bit m t ≡ true → marked p party t contract ≡ false → false ≡ b
-    unfolding made_from every
-    made_broken l e f = rw (members_step m t l, e, f) at so_far
-
-    pub made_more : t < 32 → bit m t ≡ true → marked p party t contract ≡ true → (r : ℕ) → Next m (t + 1) 32 r → made_from m p party r ≡ b
-    unfolding made_from every
-    made_more l e f r h = rw (member_next m t r l e h, f) at so_far
-
-    pub made_done : 32 ≤ t → true ≡ b
-    unfolding made_from every
-    made_done l = rw (members_none m t l) at so_far
+pub made_all : (m : ℕ) (p : Position) (party : ℕ) → m ≡ first_set party → all_below 32 (λ k. not (bit m k) || marked p party k contract) ≡ first_shares_made p party
+unfolding first_set first_shares first_shares_made
+made_all m p party is =
+    split (eqb party alice)
+    (λ e. rw (is, e) (alice_all (λ k. marked p party k contract)))
+    (λ e. rw (is, e) (bob_all (λ k. marked p party k contract)))
 
 -- ---- a loop that shares them: its start, a turn, and its end
-module _ (m : ℕ) (s : List ℕ) (p : Position) (party t : ℕ) where
-  pub share_start : m ≡ first_set party → Next m 0 32 t → share_each s party (members_from m t) p ≡ share_each s party (first_shares party) p
-  share_start is h = rw (first_from m party is t h)
+module _ (m : ℕ) (s : List ℕ) (p : Position) (party : ℕ) where
+  pub share_start : m ≡ first_set party → share_each s party (members_from m 0) p ≡ share_each s party (first_shares party) p
+  share_start is = rw (first_from m party is)
 
-  module _ (q : Position) (so_far : share_each s party (members_from m t) p ≡ q) where
-    pub share_more : t < 32 → bit m t ≡ true → (held : ℕ) (x : Slot) → held ≡ keys p party
-        → x ≡ with_mark party contract (with_shared contract (share_mask s held t) (slot p t)) → (r : ℕ) → Next m (t + 1) 32 r
-        → share_each s party (members_from m r) (with_slots (set p.slots t x) p) ≡ q
+  module _ (t : ℕ) (q : Position) (so_far : share_each s party (members_from m t) p ≡ q) where
+    pub share_more : (k held : ℕ) (x : Slot) → Gap m t 32 k → k < 32 → bit m k ≡ true → held ≡ keys p party
+        → x ≡ with_mark party contract (with_shared contract (share_mask s held k) (slot p k))
+        → share_each s party (members_from m (k + 1)) (with_slots (set p.slots k x) p) ≡ q
     unfolding share_each share_one change_slot
-    share_more l e held x k y r h = rw (y, k) (rw (member_next m t r l e h) at so_far)
+    share_more k held x h l e a y = rw (y, a) (rw (member_next m t k h l e) at so_far)
 
-    pub share_done : 32 ≤ t → p ≡ q
+    pub share_done : Gap m t 32 32 → p ≡ q
     unfolding share_each
-    share_done l = rw (members_none m t l) at so_far
+    share_done h = rw (members_end m t h) at so_far

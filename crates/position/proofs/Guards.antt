@@ -1,7 +1,7 @@
 -- Conduct over the guards of a position is that of the rules.
 -- Assumes nothing.
-use Rattle.laws.proofs.Prelude.{ℕ, ◌≤◌, ◌<◌, ◌≡◌, refl, sym, ap, ◌∙◌, Bool, true, false, not, ◌&&◌, ◌||◌, and-false, List, eqb, ltb, length, eqb-true, ne_eqb, arith}
-use Rattle.laws.proofs.Prelude.{and-true, split, any_below, any_same, any_found, any_done, bit}
+use Rattle.laws.proofs.Prelude.{ℕ, ◌<◌, ◌≡◌, refl, sym, ap, ◌∙◌, Bool, true, false, not, ◌&&◌, ◌||◌, and-false, List, eqb, ltb, length, eqb-true, ne_eqb, arith}
+use Rattle.laws.proofs.Prelude.{and-true, split, any_below, any_same, bit}
 use mathlib.Core.Bool.{not-not}
 use Rattle.sheet.specs.Field.{count}
 use Rattle.sheet.specs.Setup.{conduct}
@@ -11,7 +11,6 @@ use Rattle.slots.specs.Destination.{alice, bob, contract, is_payee, is_contract}
 use Rattle.steps.specs.declared.View.{View}
 use Rattle.steps.specs.declared.Guards.{Guards}
 use Rattle.steps.specs.Names.{secret_bob, success, refund1}
-use Rattle.steps.specs.Forms.Parent.{slot_above, block_above}
 use Rattle.steps.specs.Forms.View.{sender_in}
 use Rattle.steps.specs.Forms.Conduct.{share_allowed_in, give_allowed_in, send_allowed_in, send_held_in}
 use Rattle.steps.specs.Forms.Sending.{pays_in}
@@ -108,26 +107,15 @@ pub send_guards_made : (u : List ℕ) (p : Position) (way ph : ℕ) (knows : Boo
 unfolding send_guards is_open is_careful success_unshared shared shared_for holds keys
 send_guards_made u p way ph knows e a d = rw (e, a, d)
 
--- what a loop over the transactions asks of each, with guards and a view at hand
+-- what is asked of each transaction, with guards and a view at hand
 module _ (s u : List ℕ) (p : Position) (v : View) (o : Guards) (party : ℕ) where
   unfoldable pub pays_at : ℕ → Bool
   pays_at t = pays_in (send_allowed_in s o party t) s u v (slot p t) (since_in s p t) party t
 
-  pub pays_turn : (t up since : ℕ) (r : Bool) → up ≡ slot_above s t → since ≡ block_above s t (slot p up).height
-      → r ≡ pays_in (send_allowed_in s o party t) s u v (slot p t) since party t → r ≡ pays_at t
-  unfolding pays_at since_in
-  pays_turn t up since r a b d = rw (← a, ← b) d
-
   module _ (fit : Fit s u) (slots : length p.slots ≡ 32) (view : v ≡ view_below s (count s) p) (read : o ≡ send_guards u p) where
-    all_paid : any_below (count s) pays_at ≡ can_pay s u p party
+    pub all_paid : any_below (count s) pays_at ≡ can_pay s u p party
     unfolding pays_at
     all_paid = rw (view, read) (any_pays s u p fit.checked slots party)
-
-    pub pays_found : (n t : ℕ) → n ≡ count s → t < n → pays_at t ≡ true → true ≡ can_pay s u p party
-    pays_found n t e l h = sym (any_found (count s) t pays_at (omega (arith, e, l)) h) ∙ all_paid
-
-    pub pays_none : (n k : ℕ) → n ≡ count s → k ≤ n → n ≤ k → any_below k pays_at ≡ false → false ≡ can_pay s u p party
-    pays_none n k e l m h = any_done k (count s) pays_at false (omega (arith, e, l)) (omega (arith, e, m)) h ∙ all_paid
 
 -- a party that is held back: `first` says that it is to pay first if it can; and a send by who may send and by paying first
 module _ (s u : List ℕ) (p : Position) (party t : ℕ) where

@@ -11,7 +11,7 @@ use Rattle.laws.specs.Sets.{set_outside, bit_removed}
 use Rattle.laws.specs.Unions.{or_assoc, set_grown, union_grown, union_same}
 use Rattle.slots.specs.declared.Slot.{Slot}
 use Rattle.slots.specs.Slot.{shared_any}
-use Rattle.slots.specs.Forms.Next.{Next}
+use Rattle.slots.proofs.Walks.{Gap}
 use Rattle.steps.specs.declared.View.{View}
 use Rattle.steps.specs.Forms.View.{view_with, view_after, view_passed}
 use Rattle.position.specs.declared.Position.{Position}
@@ -30,19 +30,19 @@ joined_upto m (suc n) member q v l h =
     (λ a. joined_upto m n member q v (le_of_suc-le-suc a) (λ k b c. h k b (omega (arith, c))) ∙ rw (h n (le_of_suc-le-suc a) (omega arith)) refl)
 
 module _ (members : ℕ) (q : Position) (v : View) where
-  pub joined_start : (n k : ℕ) → Next members 0 n k → v ≡ view_joined k (bit members) q v
+  pub joined_start : v ≡ view_joined 0 (bit members) q v
   unfolding view_joined
-  joined_start n k h = joined_upto 0 k (bit members) q v h.low h.gap
+  joined_start = refl
 
-  pub joined_more : (n k r : ℕ) (w z : View) (x : Slot) → w ≡ view_joined k (bit members) q v → bit members k ≡ true → z ≡ view_with w k x → x ≡ slot q k
-      → Next members (k + 1) n r → z ≡ view_joined r (bit members) q v
+  pub joined_more : (n t k : ℕ) (w z : View) (x : Slot) → Gap members t n k → w ≡ view_joined t (bit members) q v → bit members k ≡ true → z ≡ view_with w k x
+      → x ≡ slot q k → z ≡ view_joined (k + 1) (bit members) q v
   unfolding view_joined
-  joined_more n k r w z x e b f g h =
-      let a : z ≡ view_joined (k + 1) (bit members) q v = rw (add-one, b) (f ∙ rw (e, g) refl) in
-      a ∙ joined_upto (k + 1) r (bit members) q v h.low h.gap
+  joined_more n t k w z x h e b f g =
+      let a : w ≡ view_joined k (bit members) q v = e ∙ joined_upto t k (bit members) q v h.low h.none in
+      rw (add-one, b) (f ∙ rw (a, g) refl)
 
-  pub joined_done : (k n : ℕ) (w : View) → k ≤ n → n ≤ k → w ≡ view_joined k (bit members) q v → w ≡ view_joined n (bit members) q v
-  joined_done k n w l m e = rw (le_antisymm m l) e
+  pub joined_done : (n t : ℕ) (w : View) → Gap members t n n → w ≡ view_joined t (bit members) q v → w ≡ view_joined n (bit members) q v
+  joined_done n t w h e = e ∙ joined_upto t n (bit members) q v h.low h.none
 
 -- the first t places by a, the others by b
 abbrev mixed : {A : Type 0} → ℕ → (ℕ → A) → (ℕ → A) → ℕ → A
@@ -205,27 +205,26 @@ module _ (n t : ℕ) (few : n ≤ 32) (l : t < n) where
   power_other : (k : ℕ) → k < n → (k ≡ t → ⊥) → bit (2 ^ t) k ≡ false
   power_other k m o = power t k (omega (arith, few, l)) (omega (arith, few, m)) ∙ ne_eqb k t o
 
-  up_to_it : Next (2 ^ t) 0 n t
+  up_to_it : Gap (2 ^ t) 0 n t
   up_to_it =
       record {
         low = omega arith;
         high = omega (arith, l);
-        gap = λ k i j. power_other k (omega (arith, j, l)) (λ z. omega (arith, z, j));
-        here = λ i. power_here t (omega (arith, few, l));
+        none = λ k i j. power_other k (omega (arith, j, l)) (λ z. omega (arith, z, j));
       }
 
-  from_it : Next (2 ^ t) (t + 1) n n
+  from_it : Gap (2 ^ t) (t + 1) n n
   from_it =
       record {
         low = omega (arith, l);
         high = omega arith;
-        gap = λ k i j. power_other k j (λ z. omega (arith, z, i));
-        here = λ i. absurd (omega (arith, i));
+        none = λ k i j. power_other k j (λ z. omega (arith, z, i));
       }
 
   one_joined : (q : Position) (w : View) → view_with w t (slot q t) ≡ view_joined n (bit (2 ^ t)) q w
   one_joined q w =
-      joined_more (2 ^ t) q w n t n w (view_with w t (slot q t)) (slot q t) (joined_start (2 ^ t) q w n t up_to_it) (power_here t (omega (arith, few, l))) refl refl from_it
+      joined_done (2 ^ t) q w n (t + 1) (view_with w t (slot q t)) from_it
+      (joined_more (2 ^ t) q w n 0 t w (view_with w t (slot q t)) (slot q t) up_to_it (joined_start (2 ^ t) q w) (power_here t (omega (arith, few, l))) refl refl)
 
   pub one_member : (p q : Position) (members : ℕ) → removed members t ≡ 0 → Moved n p q members → Moved n p q (2 ^ t)
   one_member p q members z moved =

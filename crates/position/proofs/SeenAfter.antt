@@ -1,10 +1,9 @@
 -- An accepted step of each kind leaves the slots outside `changed_set` as they are, so that the view carried over it is that of the position
 -- after it.
 -- Assumes nothing.
-use Rattle.laws.proofs.Prelude.{ℕ, ◌+◌, ◌/◌, ◌^◌, ◌≤◌, ◌<◌, ◌≡◌, refl, sym, ap, ◌∙◌, Bool, true, false, List, [], ◌∷◌, ◌⊎◌, inl, inr, eqb, ltb, length, get_or, eqb-true}
+use Rattle.laws.proofs.Prelude.{ℕ, ◌+◌, ◌^◌, ◌≤◌, ◌<◌, ◌≡◌, refl, sym, ap, ◌∙◌, Bool, true, false, List, [], ◌∷◌, ◌⊎◌, inl, inr, eqb, ltb, length, get_or, eqb-true}
 use Rattle.laws.proofs.Prelude.{eqb-false, ltb-true, ltb-false, eq-eqb, ne_eqb, lt-ltb, le-ltb, arith, bit_or, or_lt, List·getD-eq-default, set_out, pick, split, either}
 use Rattle.laws.proofs.Prelude.{clash, and_parts, or_neither, bit_or_lem, bit_above, rewrite_first, length_rewrite_first, every, bit, removed, set_small}
-use native.Mathlib.Nat.{div-one}
 use mathlib.Core.Path.{subst}
 use lib.Bits.{or_self}
 use lib.Count.{count_trailing_zeros}
@@ -18,7 +17,7 @@ use Rattle.slots.specs.declared.Step.TheVariants.{Share, Give, SendToPool, HandT
 use Rattle.slots.specs.Destination.{alice, bob, carol, contract, destinations, destination_number}
 use Rattle.slots.specs.Signatures.{share_mask, exposed_mask}
 use Rattle.slots.specs.Slot.{empty_slot, standing, entry_for, entry_to, with_pool, with_block, with_confirmed, with_mark, shared_for, with_shared, shared_any}
-use Rattle.slots.proofs.Trailing.{next_some}
+use Rattle.slots.proofs.Trailing.{at_trailing}
 use Rattle.steps.specs.declared.View.{View}
 use Rattle.steps.specs.Decode.{fields_right, step_bytes}
 use Rattle.steps.specs.Mined.{confirm_entry}
@@ -278,10 +277,7 @@ module _ (s u : List ℕ) (p : Position) (v : View) (fit : Fit s u) (e : v ≡ v
       split (ltb (count_trailing_zeros 32 members) 32)
       (λ y.
       let l = ltb-true (count_trailing_zeros 32 members) 32 y in
-      let i : count_trailing_zeros 32 members ≡ count_trailing_zeros 32 (members / 2 ^ 0) = ap (count_trailing_zeros 32) (sym (div-one members)) in
-      let z : count_trailing_zeros 32 members ≡ 0 + count_trailing_zeros 32 members = omega arith in
-      let h = (next_some members 0 32 (count_trailing_zeros 32 members) i (omega arith) l).here (omega (arith, l)) in
-      rw y (member_low members (count_trailing_zeros 32 members) small (ap (bit members) z ∙ h)))
+      rw y (member_low members (count_trailing_zeros 32 members) small (at_trailing 32 members l)))
       (λ y. rw y fit.checked.some)
 
   -- a step of four bytes, where r is what the code got from it

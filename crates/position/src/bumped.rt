@@ -21,12 +21,10 @@ impl Position {
         let leaving = bumped::displaced(sheet, view, entering);
         let members = view.pool | view.block;
         let n = sheet::field::count(sheet);
-        let mut k = next::next(members, 0, n);
-        while k < n {
+        for k in next::members(members, n) {
             let x = self.slots[k];
             let y = bumped::bumped_slot(sheet, entering, leaving, k, x);
             self.slots[k] = y;
-            k = next::next(members, k + 1, n);
         }
         self
     }

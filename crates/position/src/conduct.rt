@@ -83,15 +83,10 @@ impl Position {
         ensures { result ≡ first_shares_made self party }
     {
         let set = first_shares(party);
-        let mut t = next::next(set, 0, 32);
-        while t < 32 {
+        next::members(set, 32).all(|t| {
             let x = self.slots[t];
-            if !x.marked_for(party, CONTRACT) {
-                return false;
-            }
-            t = next::next(set, t + 1, 32);
-        }
-        true
+            x.marked_for(party, CONTRACT)
+        })
     }
 
     // The phase: by lock_B, lock_A, and the first shares.
@@ -181,19 +176,13 @@ impl Position {
         ensures { result ≡ can_pay sheet.now setup.now self party }
     {
         let o = self.send_guards(setup);
-        let n = sheet::field::count(sheet);
-        let mut t: usize = 0;
-        while t < n {
+        (0..sheet::field::count(sheet)).any(|t| {
             let x = self.slots[t];
             let up = parent::slot_above(sheet, t);
             let above = self.slots[up];
             let since = parent::block_above(sheet, t, above.height);
-            if sending::pays(sheet, setup, view, o, x, since, party, t) {
-                return true;
-            }
-            t += 1;
-        }
-        false
+            sending::pays(sheet, setup, view, o, x, since, party, t)
+        })
     }
 
     // Whether conduct allows a party to send t, but for paying first.

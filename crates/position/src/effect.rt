@@ -54,12 +54,10 @@ impl Position {
     {
         let set = conduct::first_shares(party);
         let held = self.keys(party);
-        let mut t = next::next(set, 0, 32);
-        while t < 32 {
+        for t in next::members(set, 32) {
             let x = self.slots[t];
             let shared = shared_slot(sheet, held, party, t, 2, x);
             self.slots[t] = shared;
-            t = next::next(set, t + 1, 32);
         }
         self
     }

@@ -23,7 +23,7 @@ use steps::View;
 
 // "A position holds, for each of 32 transactions, its pool entry, block entry, confirmation and shared knowledge; beside these the
 // blocks mined, each party's keys held and the shares it has made." 392 bytes, without padding.
-#[derive(Clone, Copy)]
+#[derive(Clone, Copy, PartialEq, Eq)]
 pub struct Position {
     pub slots: [Slot; 32],
     pub mined: u16,
@@ -64,12 +64,8 @@ impl Position {
             shared: 0,
             keys,
         };
-        let mut k: usize = 0;
-        while k < n {
-            let x = self.slots[k];
-            let w = v.add(k, x);
-            v = w;
-            k += 1;
+        for k in 0..n {
+            v = v.add(k, self.slots[k]);
         }
         v
     }

@@ -21,12 +21,10 @@ impl Position {
         let block = self.mined + 1;
         let members = mined::affected(view, leaving);
         let n = sheet::field::count(sheet);
-        let mut t = next::next(members, 0, n);
-        while t < n {
+        for t in next::members(members, n) {
             let x = self.slots[t];
             let y = mined::mined_slot(sheet, block, view.block, leaving, t, x);
             self.slots[t] = y;
-            t = next::next(members, t + 1, n);
         }
         self.mined = block;
         self

@@ -5,8 +5,10 @@ ghost use Rattle.laws.specs.Below.{any_below};
 ghost use Rattle.sheet.specs.Field.{count, Sized};
 ghost use Rattle.sheet.specs.Checked.{Fit};
 ghost use Rattle.sheet.specs.LockHeight.{never};
+ghost use Rattle.slots.specs.Deadline.{deadline};
+ghost use Rattle.slots.specs.Forms.Height.{Height};
 ghost use Rattle.position.specs.Owed.{any_owed, owed};
-ghost use Rattle.position.specs.Forms.View.{view_below};
+ghost use Rattle.position.specs.Forms.View.{view_below, since_in};
 ghost use Rattle.position.specs.Forms.Owed.{due_in, soonest_in, due_before, DueKnown};
 
 use crate::Position;
@@ -35,23 +37,26 @@ impl Position {
         owed::owed_at(sheet, sheet::setup::per_day(setup), view, since, t)
     }
 
+    // The deadline of t, since its parent's block.
+    fn deadline_with(&self, sheet: &[u8], per_day: u16, t: usize) -> u32
+        requires sized { Sized sheet.now }
+        requires t_bound { t < count sheet.now }
+        ensures { Height (deadline sheet.now per_day (λ k. since_in sheet.now self.now t) t) result }
+    {
+        let up = parent::slot_above(sheet, t);
+        let above = self.slots[up];
+        let since = parent::block_above(sheet, t, above.height);
+        deadline::deadline(sheet, per_day, since, t)
+    }
+
     // Whether the next block is the deadline of any of a set.
     fn any_due(self, sheet: &[u8], per_day: u16, mined: u16, among: u32) -> bool
         requires { Sized sheet.now }
         ensures { result ≡ any_below (count sheet.now) (due_in sheet.now per_day self mined among) }
     {
         let n = sheet::field::count(sheet);
-        let mut t = next::next(among, 0, n);
-        while t < n {
-            let up = parent::slot_above(sheet, t);
-            let above = self.slots[up];
-            let since = parent::block_above(sheet, t, above.height);
-            if lock_height::wide(mined) + 1 == deadline::deadline(sheet, per_day, since, t) {
-                return true;
-            }
-            t = next::next(among, t + 1, n);
-        }
-        false
+        next::members(among, n).any(|t| lock_height::wide(mined) + 1
+            == self.deadline_with(sheet, per_day, t))
     }
 
     // Whether any is. Only those outside the block that can have a deadline are looked at.
@@ -74,14 +79,9 @@ impl Position {
     {
         let n = sheet::field::count(sheet);
         let mut best: u32 = lock_height::NEVER;
-        let mut t = next::next(among, 0, n);
-        while t < n {
-            let up = parent::slot_above(sheet, t);
-            let above = self.slots[up];
-            let since = parent::block_above(sheet, t, above.height);
-            let height = deadline::deadline(sheet, per_day, since, t);
+        for t in next::members(among, n) {
+            let height = self.deadline_with(sheet, per_day, t);
             best = deadline::lower(best, ahead(mined, height));
-            t = next::next(among, t + 1, n);
         }
         best
     }

@@ -72,12 +72,10 @@ impl Position {
             shared: view.shared,
             keys,
         };
-        let mut k = next::next(members, 0, n);
-        while k < n {
+        for k in next::members(members, n) {
             let x = self.slots[k];
             let w = v.add(k, x);
             v = w;
-            k = next::next(members, k + 1, n);
         }
         v
     }

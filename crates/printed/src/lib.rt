@@ -49,7 +49,7 @@ pub fn first_line(sheet: &[u8], setup: &[u8], journal: &[u8]) -> First
     First {
         accepted: ran.accepted,
         refusal: ran.refusal,
-        blocks: position.mined as u32,
+        blocks: u32::from(position.mined),
         lines: sheet::field::count(sheet),
     }
 }

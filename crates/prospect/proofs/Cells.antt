@@ -4,7 +4,12 @@ use Rattle.laws.proofs.Prelude.{ℕ, ◌+◌, ◌*◌, ◌/◌, ◌%◌, ◌≤�
 use native.Mathlib.Nat.{not-suc-le-zero}
 use lib.Seq.{get_or-set_same, get_or-set_other}
 use Rattle.laws.specs.Booleans.{split}
+use Rattle.laws.specs.Calls.{TableOf}
 use Rattle.prospect.specs.Forms.Tables.{Cells}
+
+-- a table of pairs that is filled at once
+pub cells_of : (told : ℕ → ℕ → ℕ → Type 0) (answers : ℕ → ℕ → Type 0) (n : ℕ) (table : List ℕ) → TableOf answers 1024 n 0 table → ((i v : ℕ) → i < n → answers i v → told (i / 32) (i % 32) v) → Cells told n table
+cells_of told answers n table h f = record { size = h.size; each = λ i l. f i (get_or table i 0) l (h.each i l) }
 
 module _ (told : ℕ → ℕ → ℕ → Type 0) where
   pub cells_start : (table : List ℕ) → length table ≡ 1024 → Cells told 0 table

@@ -10,21 +10,18 @@ ghost use Rattle.prospect.specs.Forms.Marks.{comers_in};
 
 use crate::{Marks, rival};
 use attainable::{Others, round};
-use sheet::set;
+use sheet::{set, table};
 
 // What can come where the party sends those above each, in a table.
 pub fn can(others: Others, sheet: &[u8], above: [u32; 32]) -> [u32; 32]
     requires { Checked sheet.now }
     ensures { Filled (λ t v. Attains sheet.now others (get_or above t 0) v) (count sheet.now) result }
 {
-    let n = sheet::field::count(sheet);
-    let mut table = [0u32; 32];
-    let mut t: usize = 0;
-    while t < n {
-        table[t] = round::attainable(others, sheet, above[t]);
-        t += 1;
-    }
-    table
+    table::filled(
+        sheet::field::count(sheet),
+        0,
+        |t| round::attainable(others, sheet, above[t]),
+    )
 }
 
 // Of these, what can come for another than the party.
@@ -33,14 +30,11 @@ pub fn elsewhere(others: Others, sheet: &[u8], above: [u32; 32], can: [u32; 32])
     requires filled { Filled (λ t v. Attains sheet.now others (get_or above t 0) v) (count sheet.now) can }
     ensures { Filled (λ t v. AttainsElsewhere sheet.now others (get_or above t 0) v) (count sheet.now) result }
 {
-    let n = sheet::field::count(sheet);
-    let mut table = [0u32; 32];
-    let mut t: usize = 0;
-    while t < n {
-        table[t] = round::attainable_elsewhere(others, sheet, above[t], can[t]);
-        t += 1;
-    }
-    table
+    table::filled(
+        sheet::field::count(sheet),
+        0,
+        |t| round::attainable_elsewhere(others, sheet, above[t], can[t]),
+    )
 }
 
 // The rivals that come beside each, in a table.
@@ -48,14 +42,11 @@ pub fn comers(marks: Marks, can: [u32; 32], elsewhere: [u32; 32]) -> [u32; 32]
     requires { marks.count ≤ 32 }
     ensures { Filled (λ t v. v ≡ comers_in marks (get_or can t 0) (get_or elsewhere t 0) t) marks.count result }
 {
-    let n = marks.count;
-    let mut table = [0u32; 32];
-    let mut t: usize = 0;
-    while t < n {
-        table[t] = rival::comers(marks, can[t], elsewhere[t], t);
-        t += 1;
-    }
-    table
+    table::filled(
+        marks.count,
+        0,
+        |t| rival::comers(marks, can[t], elsewhere[t], t),
+    )
 }
 
 // The others of a set that come for nobody else, in a table.
@@ -63,12 +54,9 @@ pub fn only(sheet: &[u8], paying: u32, elsewhere: [u32; 32]) -> [u32; 32]
     requires { Sized sheet.now }
     ensures { Filled (λ t v. v ≡ removed (bit_and paying (4294967295 - get_or elsewhere t 0)) t) (count sheet.now) result }
 {
-    let n = sheet::field::count(sheet);
-    let mut table = [0u32; 32];
-    let mut t: usize = 0;
-    while t < n {
-        table[t] = set::remove(paying & !elsewhere[t], t);
-        t += 1;
-    }
-    table
+    table::filled(
+        sheet::field::count(sheet),
+        0,
+        |t| set::remove(paying & !elsewhere[t], t),
+    )
 }

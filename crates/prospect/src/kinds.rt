@@ -13,14 +13,7 @@ pub fn contracts(sheet: &[u8]) -> u32
     requires { Sized sheet.now }
     ensures { result ≡ set_below (count sheet.now) (is_contract sheet.now) }
 {
-    let n = sheet::field::count(sheet);
-    let mut found: u32 = 0;
-    let mut t: usize = 0;
-    while t < n {
-        found = set::join(found, party::is_contract(sheet, t), t);
-        t += 1;
-    }
-    found
+    set::below(sheet::field::count(sheet), |t| party::is_contract(sheet, t))
 }
 
 // The others, which pay.
@@ -28,41 +21,21 @@ pub fn paying(sheet: &[u8]) -> u32
     requires { Sized sheet.now }
     ensures { result ≡ set_below (count sheet.now) (λ t. not (is_contract sheet.now t)) }
 {
-    let n = sheet::field::count(sheet);
-    let mut found: u32 = 0;
-    let mut t: usize = 0;
-    while t < n {
-        found = set::join(found, !party::is_contract(sheet, t), t);
-        t += 1;
-    }
-    found
+    set::below(
+        sheet::field::count(sheet),
+        |t| !party::is_contract(sheet, t),
+    )
 }
 
-// Whether t is a contract transaction or pays the party.
-fn is_payable(sheet: &[u8], party: u8, t: usize) -> bool
-    requires sized { Sized sheet.now }
-    requires t_bound { t < count sheet.now }
-    ensures { result ≡ (is_contract sheet.now t || is_payee sheet.now t party) }
-{
-    if party::is_contract(sheet, t) {
-        return true;
-    }
-    party::is_payee(sheet, t, party)
-}
-
-// Those that are or do.
+// The contract transactions, and those that pay the party.
 pub fn payable(sheet: &[u8], party: u8) -> u32
     requires { Sized sheet.now }
     ensures { result ≡ set_below (count sheet.now) (λ t. is_contract sheet.now t || is_payee sheet.now t party) }
 {
-    let n = sheet::field::count(sheet);
-    let mut found: u32 = 0;
-    let mut t: usize = 0;
-    while t < n {
-        found = set::join(found, is_payable(sheet, party, t), t);
-        t += 1;
-    }
-    found
+    set::below(
+        sheet::field::count(sheet),
+        |t| party::is_contract(sheet, t) || party::is_payee(sheet, t, party),
+    )
 }
 
 // Those that are locked since their parent.
@@ -70,12 +43,8 @@ pub fn since_locked(sheet: &[u8]) -> u32
     requires { Sized sheet.now }
     ensures { result ≡ set_below (count sheet.now) (since_locked sheet.now) }
 {
-    let n = sheet::field::count(sheet);
-    let mut found: u32 = 0;
-    let mut t: usize = 0;
-    while t < n {
-        found = set::join(found, sheet::field::lock_type(sheet, t) == 2, t);
-        t += 1;
-    }
-    found
+    set::below(
+        sheet::field::count(sheet),
+        |t| sheet::field::lock_type(sheet, t) == 2,
+    )
 }

@@ -13,7 +13,7 @@ ghost use Rattle.slack.specs.Beaten.{signs};
 
 use crate::pool;
 use position::Position;
-use sheet::set;
+use sheet::{set, table};
 use slots::signatures;
 
 // The keys that the party holds.
@@ -43,12 +43,9 @@ fn known_of(shows: [u8; 32], sheet: &[u8], have: u8, members: u32) -> u8
     requires { Sized sheet.now }
     ensures { result ≡ bit_or have (shown_in sheet.now shows members) }
 {
-    let n = sheet::field::count(sheet);
     let mut found: u8 = 0;
-    let mut t: usize = 0;
-    while t < n {
-        found = found | shown_by(members, shows[t], t);
-        t += 1;
+    for t in 0..sheet::field::count(sheet) {
+        found |= shown_by(members, shows[t], t);
     }
     have | found
 }
@@ -58,14 +55,11 @@ pub fn known(shows: [u8; 32], sheet: &[u8], have: u8, above: [u32; 32]) -> [u8; 
     requires { Sized sheet.now }
     ensures { Filled (λ t v. v ≡ bit_or have (shown_in sheet.now shows (get_or above t 0))) (count sheet.now) result }
 {
-    let n = sheet::field::count(sheet);
-    let mut table = [0u8; 32];
-    let mut t: usize = 0;
-    while t < n {
-        table[t] = known_of(shows, sheet, have, above[t]);
-        t += 1;
-    }
-    table
+    table::filled(
+        sheet::field::count(sheet),
+        0,
+        |t| known_of(shows, sheet, have, above[t]),
+    )
 }
 
 // Those that the party can sign with what it knows.
@@ -73,14 +67,8 @@ pub fn signs(position: Position, sheet: &[u8], party: u8, known: [u8; 32]) -> u3
     requires { Checked sheet.now }
     ensures { result ≡ set_below (count sheet.now) (λ t. signs sheet.now position party (get_or known t 0) t) }
 {
-    let n = sheet::field::count(sheet);
-    let mut found: u32 = 0;
-    let mut t: usize = 0;
-    while t < n {
-        let x = position.slots[t];
-        let given = x.shared_for(pool::destination_of(sheet, party, t));
-        found = set::join(found, signatures::signed(sheet, known[t] | given, t), t);
-        t += 1;
-    }
-    found
+    set::below(sheet::field::count(sheet), |t| {
+        let given = position.slots[t].shared_for(pool::destination_of(sheet, party, t));
+        signatures::signed(sheet, known[t] | given, t)
+    })
 }

@@ -7,7 +7,7 @@ ghost use Rattle.sheet.specs.Field.{count, Sized};
 ghost use Rattle.slots.specs.Forms.Line.{line_set};
 ghost use Rattle.soonest.specs.Forms.Table.{Filled};
 
-use sheet::set;
+use sheet::{set, table};
 use slots::ancestry;
 
 // Those that are not confirmed.
@@ -15,14 +15,7 @@ pub fn unconfirmed(sheet: &[u8], confirmed: u32) -> u32
     requires { Sized sheet.now }
     ensures { result ≡ set_below (count sheet.now) (λ t. not (bit confirmed t)) }
 {
-    let n = sheet::field::count(sheet);
-    let mut found: u32 = 0;
-    let mut t: usize = 0;
-    while t < n {
-        found = set::join(found, !set::has(confirmed, t), t);
-        t += 1;
-    }
-    found
+    set::below(sheet::field::count(sheet), |t| !set::has(confirmed, t))
 }
 
 // Those of a set that are of the line of each, in a table.
@@ -30,14 +23,11 @@ pub fn lines(sheet: &[u8], members: u32) -> [u32; 32]
     requires { Sized sheet.now }
     ensures { Filled (λ t v. v ≡ bit_and members (line_set sheet.now t)) (count sheet.now) result }
 {
-    let n = sheet::field::count(sheet);
-    let mut table = [0u32; 32];
-    let mut t: usize = 0;
-    while t < n {
-        table[t] = members & ancestry::line_of(sheet, t);
-        t += 1;
-    }
-    table
+    table::filled(
+        sheet::field::count(sheet),
+        0,
+        |t| members & ancestry::line_of(sheet, t),
+    )
 }
 
 // Those that are above each, in a table.
@@ -45,12 +35,9 @@ pub fn above(sheet: &[u8], members: u32) -> [u32; 32]
     requires { Sized sheet.now }
     ensures { Filled (λ t v. v ≡ bit_and members (removed (line_set sheet.now t) t)) (count sheet.now) result }
 {
-    let n = sheet::field::count(sheet);
-    let mut table = [0u32; 32];
-    let mut t: usize = 0;
-    while t < n {
-        table[t] = members & set::remove(ancestry::line_of(sheet, t), t);
-        t += 1;
-    }
-    table
+    table::filled(
+        sheet::field::count(sheet),
+        0,
+        |t| members & set::remove(ancestry::line_of(sheet, t), t),
+    )
 }

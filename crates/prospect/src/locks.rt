@@ -26,18 +26,15 @@ pub fn locks(position: Position, sheet: &[u8], setup: &[u8]) -> [u32; 32]
     requires { Fit sheet.now setup.now }
     ensures { Filled (OwnLock sheet.now setup.now position) (count sheet.now) result }
 {
-    let n = sheet::field::count(sheet);
     let per_day = sheet::setup::per_day(setup);
     let soonest = block::soonest_blocks(position, sheet, per_day);
     let mut table = [0u32; 32];
-    let mut t: usize = 0;
-    while t < n {
+    for t in 0..sheet::field::count(sheet) {
         let up = parent::slot_above(sheet, t);
         let above = position.slots[up];
         let since = parent::block_above(sheet, t, above.height);
         let e = block_or(since, table::above(soonest, sheet, t));
         table[t] = lock::lock_at(sheet, per_day, e, t);
-        t += 1;
     }
     table
 }

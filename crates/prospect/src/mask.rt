@@ -3,6 +3,8 @@ ghost use Rattle.std.specs.Prelude.{◌<◌, ◌≡◌, get_or};
 ghost use Rattle.sheet.specs.Field.{count, Sized};
 ghost use Rattle.soonest.specs.Forms.Table.{Filled};
 
+use sheet::table;
+
 // One.
 pub fn wide(mask: u8) -> u32
     ensures { result ≡ mask }
@@ -15,12 +17,5 @@ pub fn widened(masks: [u8; 32], sheet: &[u8]) -> [u32; 32]
     requires { Sized sheet.now }
     ensures { Filled (λ t v. v ≡ get_or masks t 0) (count sheet.now) result }
 {
-    let n = sheet::field::count(sheet);
-    let mut table = [0u32; 32];
-    let mut t: usize = 0;
-    while t < n {
-        table[t] = wide(masks[t]);
-        t += 1;
-    }
-    table
+    table::filled(sheet::field::count(sheet), 0, |t| wide(masks[t]))
 }

@@ -10,7 +10,7 @@ ghost use Rattle.soonest.specs.Forms.Table.{Filled};
 ghost use Rattle.slack.specs.Kept.{paid};
 
 use position::Position;
-use sheet::set;
+use sheet::{set, table};
 use slots::{Slot, party};
 
 // The destination that an entry names.
@@ -38,43 +38,18 @@ pub fn paid(position: Position, sheet: &[u8], party: u8) -> bool
     requires { Sized sheet.now }
     ensures { result ≡ paid sheet.now position party }
 {
-    let n = sheet::field::count(sheet);
-    let mut t: usize = 0;
-    while t < n {
-        let x = position.slots[t];
-        if has_paid(x, party) {
-            return true;
-        }
-        t += 1;
-    }
-    false
+    (0..sheet::field::count(sheet)).any(|t| has_paid(position.slots[t], party))
 }
 
-// Whether t pays the party, and is not confirmed.
-fn is_awaited(sheet: &[u8], confirmed: u32, party: u8, t: usize) -> bool
-    requires sized { Sized sheet.now }
-    requires t_bound { t < count sheet.now }
-    ensures { result ≡ (is_payee sheet.now t party && not (bit confirmed t)) }
-{
-    if party::is_payee(sheet, t, party) {
-        return !set::has(confirmed, t);
-    }
-    false
-}
-
-// Those that do and are not.
+// Those that pay the party, and are not confirmed.
 pub fn awaited(sheet: &[u8], confirmed: u32, party: u8) -> u32
     requires { Sized sheet.now }
     ensures { result ≡ set_below (count sheet.now) (λ t. is_payee sheet.now t party && not (bit confirmed t)) }
 {
-    let n = sheet::field::count(sheet);
-    let mut found: u32 = 0;
-    let mut t: usize = 0;
-    while t < n {
-        found = set::join(found, is_awaited(sheet, confirmed, party, t), t);
-        t += 1;
-    }
-    found
+    set::below(
+        sheet::field::count(sheet),
+        |t| party::is_payee(sheet, t, party) && !set::has(confirmed, t),
+    )
 }
 
 // Those of a set in the set of each, in a table.
@@ -82,12 +57,5 @@ pub fn aims(sheet: &[u8], sets: [u32; 32], members: u32) -> [u32; 32]
     requires { Sized sheet.now }
     ensures { Filled (λ t v. v ≡ bit_and (get_or sets t 0) members) (count sheet.now) result }
 {
-    let n = sheet::field::count(sheet);
-    let mut table = [0u32; 32];
-    let mut t: usize = 0;
-    while t < n {
-        table[t] = sets[t] & members;
-        t += 1;
-    }
-    table
+    table::filled(sheet::field::count(sheet), 0, |t| sets[t] & members)
 }

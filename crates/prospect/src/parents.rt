@@ -7,7 +7,7 @@ ghost use Rattle.sheet.specs.Field.{count, parent, Sized};
 ghost use Rattle.slots.specs.Ancestry.{has_parent};
 ghost use Rattle.soonest.specs.Forms.Table.{Filled};
 
-use sheet::set;
+use sheet::{set, table};
 use steps::parent;
 
 // The openings, and those whose parent is confirmed.
@@ -15,41 +15,21 @@ pub fn fixed(sheet: &[u8], confirmed: u32) -> u32
     requires { Sized sheet.now }
     ensures { result ≡ set_below (count sheet.now) (has_parent sheet.now (bit confirmed)) }
 {
-    let n = sheet::field::count(sheet);
-    let mut found: u32 = 0;
-    let mut t: usize = 0;
-    while t < n {
-        found = set::join(found, parent::parent_there(sheet, confirmed, t), t);
-        t += 1;
-    }
-    found
+    set::below(
+        sheet::field::count(sheet),
+        |t| parent::parent_there(sheet, confirmed, t),
+    )
 }
 
-// Whether t is not of these, and its parent can come.
-fn is_running(sheet: &[u8], fixed: u32, can: u32, t: usize) -> bool
-    requires sized { Sized sheet.now }
-    requires t_bound { t < count sheet.now }
-    ensures { result ≡ (not (bit fixed t) && has_parent sheet.now (bit can) t) }
-{
-    if set::has(fixed, t) {
-        return false;
-    }
-    parent::parent_there(sheet, can, t)
-}
-
-// Those that are not, and whose parent can.
+// Those that are not of these, and whose parent can come.
 pub fn running(sheet: &[u8], fixed: u32, can: u32) -> u32
     requires { Sized sheet.now }
     ensures { result ≡ set_below (count sheet.now) (λ t. not (bit fixed t) && has_parent sheet.now (bit can) t) }
 {
-    let n = sheet::field::count(sheet);
-    let mut found: u32 = 0;
-    let mut t: usize = 0;
-    while t < n {
-        found = set::join(found, is_running(sheet, fixed, can, t), t);
-        t += 1;
-    }
-    found
+    set::below(
+        sheet::field::count(sheet),
+        |t| !set::has(fixed, t) && parent::parent_there(sheet, can, t),
+    )
 }
 
 // The parent of t as a set, empty for an opening.
@@ -70,12 +50,5 @@ pub fn parent_sets(sheet: &[u8]) -> [u32; 32]
     requires { Sized sheet.now }
     ensures { Filled (λ t v. v ≡ pick (ltb (parent sheet.now t) t) (joined 0 true (parent sheet.now t)) 0) (count sheet.now) result }
 {
-    let n = sheet::field::count(sheet);
-    let mut table = [0u32; 32];
-    let mut t: usize = 0;
-    while t < n {
-        table[t] = parent_set(sheet, t);
-        t += 1;
-    }
-    table
+    table::filled(sheet::field::count(sheet), 0, |t| parent_set(sheet, t))
 }

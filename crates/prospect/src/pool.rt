@@ -12,7 +12,7 @@ ghost use Rattle.kept.specs.Forms.Evaluation.{within};
 
 use crate::mask;
 use position::Position;
-use sheet::set;
+use sheet::{set, table};
 use slots::party;
 
 // The destination for which the party counts on t.
@@ -42,16 +42,10 @@ pub fn pooled(position: Position, sheet: &[u8], party: u8) -> u32
     requires { Sized sheet.now }
     ensures { result ≡ set_below (count sheet.now) (pooled sheet.now position party) }
 {
-    let n = sheet::field::count(sheet);
-    let mut found: u32 = 0;
-    let mut t: usize = 0;
-    while t < n {
-        let x = position.slots[t];
-        let to = destination_of(sheet, party, t);
-        found = set::join(found, names(x.pool, to), t);
-        t += 1;
-    }
-    found
+    set::below(
+        sheet::field::count(sheet),
+        |t| names(position.slots[t].pool, destination_of(sheet, party, t)),
+    )
 }
 
 // The required signatures that are not given, none where the transaction is in the pool.
@@ -70,14 +64,8 @@ pub fn lacks(position: Position, sheet: &[u8], party: u8, held: u32) -> [u32; 32
     requires held_value { held ≡ set_below (count sheet.now) (pooled sheet.now position party) }
     ensures { Filled (λ t v. (know : ℕ) → within v know ≡ (signs sheet.now position party know t || pooled sheet.now position party t)) (count sheet.now) result }
 {
-    let n = sheet::field::count(sheet);
-    let mut table = [0u32; 32];
-    let mut t: usize = 0;
-    while t < n {
-        let x = position.slots[t];
-        let given = x.shared_for(destination_of(sheet, party, t));
-        table[t] = lack_of(set::has(held, t), sheet::field::required(sheet, t), given);
-        t += 1;
-    }
-    table
+    table::filled(sheet::field::count(sheet), 0, |t| {
+        let given = position.slots[t].shared_for(destination_of(sheet, party, t));
+        lack_of(set::has(held, t), sheet::field::required(sheet, t), given)
+    })
 }

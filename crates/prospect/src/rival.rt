@@ -79,10 +79,8 @@ pub fn least_late(marks: Marks, t: usize) -> u32
     ensures { result ≡ least_late marks t }
 {
     let mut best: u32 = threshold::NONE;
-    let mut r: usize = 0;
-    while r < marks.count {
+    for r in 0..marks.count {
         best = lower(best, rival_late(marks, t, r));
-        r += 1;
     }
     best
 }
@@ -161,10 +159,8 @@ pub fn least_beat(marks: Marks, come: u32, t: usize) -> u32
     ensures { result ≡ least_beat marks come t }
 {
     let mut best: u32 = threshold::NONE;
-    let mut r: usize = 0;
-    while r < marks.count {
+    for r in 0..marks.count {
         best = lower(best, beat_at(marks, come, t, r));
-        r += 1;
     }
     best
 }

@@ -7,7 +7,7 @@ ghost use Rattle.kept.specs.Forms.Prospect.{none};
 ghost use Rattle.prospect.specs.Forms.Tables.{least_late, beat_at, open_until, fails_at, until_at, ends_at, Sound, Cells};
 
 use crate::{Marks, rival, threshold};
-use sheet::set;
+use sheet::{set, table};
 use slots::lock_height;
 
 // The height from which t fails by a late rival.
@@ -100,14 +100,7 @@ pub fn fails(marks: Marks) -> [u32; 32]
     requires { Sound marks }
     ensures { Filled (λ t v. v ≡ fails_at marks t) marks.count result }
 {
-    let n = marks.count;
-    let mut table = [0u32; 32];
-    let mut t: usize = 0;
-    while t < n {
-        table[t] = fails_at(marks, t);
-        t += 1;
-    }
-    table
+    table::filled(marks.count, 0, |t| fails_at(marks, t))
 }
 
 // The heights of the last blocks.
@@ -115,14 +108,7 @@ pub fn ends(marks: Marks) -> [u32; 32]
     requires { Sound marks }
     ensures { Filled (λ t v. v ≡ ends_at marks t) marks.count result }
 {
-    let n = marks.count;
-    let mut table = [0u32; 32];
-    let mut t: usize = 0;
-    while t < n {
-        table[t] = ends_at(marks, t);
-        t += 1;
-    }
-    table
+    table::filled(marks.count, 0, |t| ends_at(marks, t))
 }
 
 // The heights from which each transaction is beaten by each, where a table tells those that come.
@@ -130,13 +116,9 @@ pub fn beats(marks: Marks, come: [u32; 32]) -> [u32; 1024]
     requires { Sound marks }
     ensures { Cells (λ t k v. v ≡ beat_at marks (get_or come t 0) t k) (32 * marks.count) result }
 {
-    let n = 32 * marks.count;
-    let mut table = [0u32; 1024];
-    let mut i: usize = 0;
-    while i < n {
-        let t = i / 32;
-        table[i] = rival::beat_at(marks, come[t], t, i % 32);
-        i += 1;
-    }
-    table
+    table::filled(
+        32 * marks.count,
+        0,
+        |i| rival::beat_at(marks, come[i / 32], i / 32, i % 32),
+    )
 }

@@ -112,14 +112,11 @@ pub fn until(marks: Marks, others: Others, sheet: &[u8]) -> [u32; 1024]
     requires sound { Sound marks }
     ensures { Cells (Lasts sheet.now marks others) (32 * marks.count) result }
 {
-    let n = 32 * marks.count;
     let mut found = find(others, sheet, 0);
     let mut table = [0u32; 1024];
-    let mut i: usize = 0;
-    while i < n {
+    for i in 0..32 * marks.count {
         found = next(found, marks, others, sheet, i / 32, i % 32);
         table[i] = found.height;
-        i += 1;
     }
     table
 }

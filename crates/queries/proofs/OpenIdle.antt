@@ -15,7 +15,7 @@ use Rattle.position.specs.Forms.Guards.{guards}
 use Rattle.queries.specs.Forms.OpenSets.{open_set, below_sets, is_idle, context_of}
 use Rattle.queries.proofs.OpenListed.{give_stands}
 use Rattle.queries.proofs.OpenReach.{set_upto, set_none, set_sheet, set_given}
-use Rattle.queries.proofs.OpenTurns.{first_turn, none_next}
+use Rattle.queries.proofs.OpenTurns.{none_open}
 
 module _ (s u : List ℕ) (p : Position) (actor : ℕ) (fit : Fit s u) (v : View) (o : Guards) (seen : v ≡ view_below s (count s) p) (read : o ≡ guards s u p)
     (b : Bool) (asked : b ≡ is_idle s v o actor) (idle : b ≡ true)
@@ -71,8 +71,7 @@ module _ (s u : List ℕ) (p : Position) (actor : ℕ) (fit : Fit s u) (v : View
         let other = eqb-false k 2 e in
         sym
         (set_sheet s u p actor k d 0 fit.checked.sized.few other
-        (first_turn s u p k actor d fit l m other _ (count s) (context_of s u p actor) (destination_sets s actor) refl refl refl refl (count s)
-        (none_next _ (count s) (none_tested k d m other))))))
+        (none_open s u p k actor d fit l m other _ (count s) (context_of s u p actor) (destination_sets s actor) refl refl refl refl (none_tested k d m other)))))
         (λ m. sym (set_none s u p actor k d false (sym m) refl))
 
     pub idle_sets : replicate 28 0 ≡ below_sets s u p actor

@@ -7,7 +7,7 @@ use Rattle.position.proofs.Rules.{count, parent, accepted, step_conflict, step_p
 use Rattle.position.proofs.Rules.{no_transaction, success, may_send, no_conflict, has_parent, Context, may_stand, slot, block_of, since_in, Fit}
 use Rattle.position.specs.declared.Position.{Position}
 use Rattle.sheet.specs.Refusal.{step_pool}
-use Rattle.slots.specs.Forms.Next.{Next}
+use Rattle.slots.proofs.Walks.{Gap}
 use Rattle.steps.specs.Forms.Parent.{slot_above, block_above}
 use Rattle.steps.specs.Conduct.{alice_shares_rule}
 use Rattle.steps.specs.Forms.Conduct.{share_allowed_in, send_allowed_in, send_held_in}
@@ -167,18 +167,17 @@ module _ (s u : List ℕ) (p : Position) (k a d : ℕ) (fit : Fit s u) (few : d 
           ∙ rw (and_parts (leb 5 k || goes_to s t d) (bit (turns_in u g k a) t) (sym candidate_bit ∙ h)).0 in
           y ∙ sym z
 
-    -- the loop: up to the first, and from one to the next
-    pub first_turn : (t : ℕ) → Next c 0 n t → 0 ≡ set_below t (λ j. is_open_step s u p k a j d)
-    first_turn t h =
-        set_start (λ j. is_open_step s u p k a j d)
-        ∙ sym (set_upto t 0 (λ j. is_open_step s u p k a j d) h.low (λ j i l. turn_closed j (omega (arith, l, h.high)) (h.gap j i l)))
+    -- the loop: nothing more up to the next member, then whether it is open, and the end
+    up_to_next : (t i f : ℕ) → Gap c t n i → f ≡ set_below t (λ j. is_open_step s u p k a j d) → f ≡ set_below i (λ j. is_open_step s u p k a j d)
+    up_to_next t i f h e = e ∙ sym (set_upto i t (λ j. is_open_step s u p k a j d) h.low (λ j l o. turn_closed j (omega (arith, o, h.high)) (h.none j l o)))
 
-    pub next_turn : (t i f r : ℕ) (b : Bool) → Next c (t + 1) n i → f ≡ set_below t (λ j. is_open_step s u p k a j d) → r ≡ joined f b t
-        → b ≡ is_open_step s u p k a t d → r ≡ set_below i (λ j. is_open_step s u p k a j d)
-    next_turn t i f r b h e q y =
-        set_more t (λ j. is_open_step s u p k a j d) f r b e q y
-        ∙ sym (set_upto i (t + 1) (λ j. is_open_step s u p k a j d) h.low (λ j l o. turn_closed j (omega (arith, o, h.high)) (h.gap j l o)))
+    pub next_turn : (t i f r : ℕ) (b : Bool) → Gap c t n i → f ≡ set_below t (λ j. is_open_step s u p k a j d) → r ≡ joined f b i
+        → b ≡ is_open_step s u p k a i d → r ≡ set_below (i + 1) (λ j. is_open_step s u p k a j d)
+    next_turn t i f r b h e q y = set_more i (λ j. is_open_step s u p k a j d) f r b (up_to_next t i f h e) q y
 
--- the empty set has no next member
-pub none_next : (c n : ℕ) → c ≡ 0 → Next c 0 n n
-none_next c n e = record { low = omega arith; high = omega arith; gap = λ k l m. rw e (no_bit k); here = λ m. absurd (omega (arith, m)) }
+    pub last_turn : (t f : ℕ) → Gap c t n n → f ≡ set_below t (λ j. is_open_step s u p k a j d) → f ≡ set_below (count s) (λ j. is_open_step s u p k a j d)
+    last_turn t f h e = up_to_next t n f h e ∙ rw all refl
+
+    pub none_open : c ≡ 0 → 0 ≡ set_below (count s) (λ j. is_open_step s u p k a j d)
+    none_open e =
+        last_turn 0 0 (record { low = omega arith; high = omega arith; none = λ j l m. rw e (no_bit j) }) (set_start (λ j. is_open_step s u p k a j d))

@@ -12,7 +12,7 @@ ghost use Rattle.queries.specs.Forms.OpenSets.{is_open_step, open_set, below_set
 use crate::OpenSets;
 use position::Position;
 use readings::{Context, DestinationSets, open};
-use sheet::set;
+use sheet::{set, table};
 use slots::next;
 use steps::{Guards, View, parent};
 
@@ -91,15 +91,13 @@ fn sheet_set(
     let n = sheet::field::count(sheet);
     let c = open::candidates(setup, context, dests, kind, actor, to);
     let mut found: u32 = 0;
-    let mut t = next::next(c, 0, n);
-    while t < n {
+    for t in next::members(c, n) {
         let x = position.slots[t];
         let up = parent::slot_above(sheet, t);
         let above = position.slots[up];
         let since = parent::block_above(sheet, t, above.height);
         let on = open::accepted_as(sheet, setup, context, x, since, kind, actor, t, to);
         found = set::join(found, on, t);
-        t = next::next(c, t + 1, n);
     }
     found
 }
@@ -157,11 +155,9 @@ fn below_sets(
     requires dests_value { dests ≡ destination_sets sheet.now actor }
     ensures { result ≡ below_sets sheet.now setup.now position actor }
 {
-    let mut below: [u32; 28] = [0; 28];
-    let mut i: usize = 0;
-    while i < 28 {
+    table::filled(28, 0, |i| {
         let kind = (i / 4 + 1) as u8;
-        let found = open_set(
+        open_set(
             position,
             sheet,
             setup,
@@ -170,11 +166,8 @@ fn below_sets(
             actor,
             kind,
             (i % 4) as u8,
-        );
-        below[i] = found;
-        i += 1;
-    }
-    below
+        )
+    })
 }
 
 // Whether none of an actor's steps with a transaction byte other than 255 is open: a party's in phase 0, the miner's while the

@@ -31,8 +31,7 @@ pub fn write_report(
     let per_day = sheet::setup::per_day(setup);
     let conflicted = conflict::conflicts_of(sheet, view.confirmed, true);
     let mut at: usize = 0;
-    let mut t: usize = 0;
-    while t < n {
+    for t in 0..n {
         let x = position.slots[t];
         let up = parent::slot_above(sheet, t);
         let above = position.slots[up];
@@ -48,6 +47,5 @@ pub fn write_report(
             opened[t],
         );
         at += reported::ROW_WIDTH;
-        t += 1;
     }
 }

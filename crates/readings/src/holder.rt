@@ -1,6 +1,5 @@
 // Who holds a coin, over the set of the confirmed.
 ghost use Rattle.std.specs.Prelude.{◌<◌, ◌≡◌, ◌&&◌, eqb};
-ghost use Rattle.laws.specs.Booleans.{pick};
 ghost use Rattle.laws.specs.Mask.{bit};
 ghost use Rattle.sheet.specs.Field.{count, parent, Sized};
 ghost use Rattle.ledger.specs.Coin.{coin_of};
@@ -52,15 +51,7 @@ pub fn confirmed_child(sheet: &[u8], confirmed: u32, t: usize) -> bool
     requires { Sized sheet.now }
     ensures { result ≡ confirmed_child sheet.now (bit confirmed) t }
 {
-    let n = sheet::field::count(sheet);
-    let mut k: usize = 0;
-    while k < n {
-        if child_there(sheet, confirmed, k, t) {
-            return true;
-        }
-        k += 1;
-    }
-    false
+    (0..sheet::field::count(sheet)).any(|k| child_there(sheet, confirmed, k, t))
 }
 
 // Whether t is of the coin and confirmed, without a confirmed child.
@@ -78,19 +69,6 @@ fn ends_coin(sheet: &[u8], confirmed: u32, coin: usize, t: usize) -> bool
     !confirmed_child(sheet, confirmed, t)
 }
 
-// t where it ends the coin, else what was found before.
-fn end_at(sheet: &[u8], confirmed: u32, coin: usize, found: usize, t: usize) -> usize
-    requires sized { Sized sheet.now }
-    requires t_bound { t < count sheet.now }
-    ensures { result ≡ pick (ends_coin sheet.now (bit confirmed) coin t) t found }
-{
-    if ends_coin(sheet, confirmed, coin, t) {
-        t
-    } else {
-        found
-    }
-}
-
 // The transaction whose payee holds the coin, 255 where nobody does.
 pub fn coin_end(sheet: &[u8], confirmed: u32, coin: usize) -> usize
     requires { Sized sheet.now }
@@ -98,10 +76,10 @@ pub fn coin_end(sheet: &[u8], confirmed: u32, coin: usize) -> usize
 {
     let n = sheet::field::count(sheet);
     let mut found: usize = 255;
-    let mut t: usize = 0;
-    while t < n {
-        found = end_at(sheet, confirmed, coin, found, t);
-        t += 1;
+    for t in 0..n {
+        if ends_coin(sheet, confirmed, coin, t) {
+            found = t;
+        }
     }
     found
 }

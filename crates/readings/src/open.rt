@@ -82,14 +82,7 @@ fn goes_set(sheet: &[u8], destination: u8) -> u32
     ensures { result ≡ goes_set sheet.now destination }
 {
     let n = sheet::field::count(sheet);
-    let mut found: u32 = 0;
-    let mut t: usize = 0;
-    while t < n {
-        let on = goes_to(sheet, t, destination);
-        found = set::join(found, on, t);
-        t += 1;
-    }
-    found
+    set::below(n, |t| goes_to(sheet, t, destination))
 }
 
 // These, by destination; none for the miner, whose steps all go to the contract.
@@ -339,14 +332,7 @@ pub fn give_set(sheet: &[u8], context: Context, actor: u8, destination: u8) -> u
     ensures { result ≡ set_below (signatures sheet.now) (λ i. gives_in context actor i destination) }
 {
     let n = sheet::field::wide(sheet::field::signatures(sheet));
-    let mut found: u32 = 0;
-    let mut i: usize = 0;
-    while i < n {
-        let on = gives(context, actor, i as u8, destination);
-        found = set::join(found, on, i);
-        i += 1;
-    }
-    found
+    set::below(n, |i| gives(context, actor, i as u8, destination))
 }
 
 // Whether a party's first shares are open: kind 1 with transaction byte 255.

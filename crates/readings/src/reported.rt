@@ -28,14 +28,7 @@ fn confirmed_set(sheet: &[u8], report: &[u8]) -> u32
     requires sheet_in_bounds { row_width * count sheet.now ≤ length report.now }
     ensures { result ≡ set_below (count sheet.now) (reported_confirmed report.now) }
 {
-    let n = sheet::field::count(sheet);
-    let mut found: u32 = 0;
-    let mut t: usize = 0;
-    while t < n {
-        found = set::join(found, confirmed(report, t), t);
-        t += 1;
-    }
-    found
+    set::below(sheet::field::count(sheet), |t| confirmed(report, t))
 }
 
 // The holder of a coin, 255 for nobody.

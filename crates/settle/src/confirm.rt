@@ -26,12 +26,10 @@ pub fn confirm(mut position: Position, sheet: &[u8], members: u32) -> Position
 {
     let block = position.mined + 1;
     let n = sheet::field::count(sheet);
-    let mut t = next::next(members, 0, n);
-    while t < n {
+    for t in next::members(members, n) {
         let x = position.slots[t];
         let y = confirm_slot(sheet, block, t, x);
         position.slots[t] = y;
-        t = next::next(members, t + 1, n);
     }
     position
 }

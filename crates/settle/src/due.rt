@@ -26,12 +26,8 @@ pub fn due(position: Position, sheet: &[u8], setup: &[u8], can: u32) -> u32
     requires { Fit sheet.now setup.now }
     ensures { result ≡ set_below (count sheet.now) (is_due sheet.now setup.now position can) }
 {
-    let n = sheet::field::count(sheet);
-    let mut found: u32 = 0;
-    let mut t: usize = 0;
-    while t < n {
-        found = set::join(found, is_due(position, sheet, setup, can, t), t);
-        t += 1;
-    }
-    found
+    set::below(
+        sheet::field::count(sheet),
+        |t| is_due(position, sheet, setup, can, t),
+    )
 }

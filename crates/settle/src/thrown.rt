@@ -30,40 +30,16 @@ fn is_thrown(sheet: &[u8], due: u32, g: usize) -> bool
     requires g_bound { g < count sheet.now }
     ensures { result ≡ any_below (count sheet.now) (throws_in sheet.now due g) }
 {
-    let n = sheet::field::count(sheet);
-    let mut y: usize = 0;
-    while y < n {
-        if throws(sheet, due, g, y) {
-            return true;
-        }
-        y += 1;
-    }
-    false
+    (0..sheet::field::count(sheet)).any(|y| throws(sheet, due, g, y))
 }
 
-// Whether g is of the set `entries` and none of the set `due` throws it out.
-fn stays(sheet: &[u8], entries: u32, due: u32, g: usize) -> bool
-    requires checked { Checked sheet.now }
-    requires g_bound { g < count sheet.now }
-    ensures { result ≡ stays_in sheet.now entries due g }
-{
-    if set::has(entries, g) {
-        return !is_thrown(sheet, due, g);
-    }
-    false
-}
-
-// Those that stay.
+// Those of the set `entries` that none of the set `due` throws out.
 pub fn staying(sheet: &[u8], entries: u32, due: u32) -> u32
     requires { Checked sheet.now }
     ensures { result ≡ set_below (count sheet.now) (stays_in sheet.now entries due) }
 {
-    let n = sheet::field::count(sheet);
-    let mut found: u32 = 0;
-    let mut g: usize = 0;
-    while g < n {
-        found = set::join(found, stays(sheet, entries, due, g), g);
-        g += 1;
-    }
-    found
+    set::below(
+        sheet::field::count(sheet),
+        |g| set::has(entries, g) && !is_thrown(sheet, due, g),
+    )
 }

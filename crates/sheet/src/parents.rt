@@ -30,12 +30,9 @@ pub fn parents_of(sheet: &[u8], members: u32) -> u32
     requires { Sized sheet.now }
     ensures { Parents sheet.now (bit members) (count sheet.now) result }
 {
-    let n = field::count(sheet);
     let mut parents: u32 = 0;
-    let mut k: usize = 0;
-    while k < n {
+    for k in 0..field::count(sheet) {
         parents = with_parent(sheet, members, parents, k);
-        k += 1;
     }
     parents
 }

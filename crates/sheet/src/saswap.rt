@@ -34,16 +34,5 @@ fn saswap_sheet(per_day: u16) -> [u8; 95]
 pub fn is_saswap(sheet: &[u8], per_day: u16) -> bool
     ensures { result ≡ is_saswap sheet.now per_day }
 {
-    if sheet.len() != 95 {
-        return false;
-    }
-    let bytes = saswap_sheet(per_day);
-    let mut i: usize = 0;
-    while i < 95 {
-        if sheet[i] != bytes[i] {
-            return false;
-        }
-        i += 1;
-    }
-    true
+    sheet == saswap_sheet(per_day).as_slice()
 }

@@ -11,5 +11,7 @@ pub mod ByParents
 pub mod Children
 pub mod Trailing
 pub mod Deadlines
-pub mod AnyMember
 pub mod OtherRivals
+pub mod AnyAbove
+pub mod Members
+pub mod Walks

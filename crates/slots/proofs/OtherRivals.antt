@@ -1,6 +1,8 @@
 -- Rivals but oneself: they come after the parent; and where no member of a set has one, nobody has another rival in the set.
 -- Assumes nothing.
-use Rattle.laws.proofs.Prelude.{ℕ, ◌+◌, ◌≤◌, ◌<◌, ◌≡◌, sym, ◌∙◌, Bool, true, false, not, ◌&&◌, and-false, List, eqb, eqb-false, eq-eqb, ne_eqb, not-true, arith, split}
+use Rattle.std.specs.List.{list_any, range_with_len}
+use Rattle.slots.proofs.AnyAbove.{any_above}
+use Rattle.laws.proofs.Prelude.{ℕ, ◌+◌, ◌-◌, ◌≤◌, ◌<◌, ◌≡◌, sym, ◌∙◌, Bool, true, false, not, ◌&&◌, and-false, List, eqb, eqb-true, eqb-false, ne_eqb, not-true, arith, split}
 use Rattle.laws.proofs.Prelude.{clash, fails_by, and_parts, any_below, any_found, any_none, any_all_false, set_below, none_set}
 use Rattle.sheet.specs.Field.{count, parent, opening}
 use Rattle.sheet.specs.Checked.{Checked}
@@ -14,49 +16,48 @@ use Rattle.slots.proofs.Parents.{parent_lower}
 unfoldable pub other_rival : List ℕ → ℕ → ℕ → Bool
 other_rival s t k = conflict s k t && (not (eqb k t) && true)
 
--- the ways out of a turn of a search for one, and its end
-module _ (s : List ℕ) (t : ℕ) where
-  pub other_itself : (k : ℕ) → k ≡ t → other_rival s t k ≡ false
+-- where `up` is the parent of t
+module _ (s : List ℕ) (t up : ℕ) (e : up ≡ parent s t) where
+  -- after it these are its other children
+  pub rival_above : (k : ℕ) → count s ≤ 32 → k < count s → up < k → (not (eqb k t) && eqb (parent s k) up) ≡ other_rival s t k
+  unfolding other_rival opening
+  rival_above k few l a =
+      split (eqb k t)
+      (λ y. rw (y, and-false (conflict s k t)))
+      (λ y.
+      split (eqb (parent s k) up)
+      (λ z.
+      let f = eqb-true (parent s k) up z in
+      let o : opening s k ≡ false = ne_eqb (parent s k) 255 (λ q. omega (arith, q, few, l, a, f)) in
+      rw (y, z, siblings_conflict s k t o (f ∙ e)))
+      (λ z.
+      let w : conflict s k t ≡ false = fails_by (conflict s k t) (λ c. eqb-false (parent s k) up z (conflict_parent s k t c ∙ sym e)) in
+      rw (y, z, w)))
+
+  -- none up to the parent, since a child comes after it; for an opening none at all
+  pub none_before : Checked s → t < count s → any_below (up + 1) (other_rival s t) ≡ false
   unfolding other_rival
-  other_itself k h = rw (eq-eqb k t h) (and-false (conflict s k t))
+  none_before ok l =
+      any_all_false (up + 1) (other_rival s t)
+      (λ k b.
+      fails_by (other_rival s t k)
+      (λ y.
+      let w = and_parts (conflict s k t) (not (eqb k t) && true) y in
+      let d = eqb-false k t (not-true (eqb k t) (and_parts (not (eqb k t)) true w.1).0) in
+      split (opening s t)
+      (λ o. d (conflict_opening s k t o w.0))
+      (λ o.
+      let same = conflict_parent s k t w.0 in
+      let h = parent_lower ok t l o in
+      let i = parent_lower ok k (omega (arith, b, e, h, l)) (same_opening s k t same ∙ o) in
+      omega (arith, i, same, b, e))))
 
-  pub none_after : (k : ℕ) → any_below k (other_rival s t) ≡ false → count s ≤ k → false ≡ other_conflict_in s (λ j. true) t
+  -- looked for after the parent
+  pub other_after : Checked s → t < count s → (n : ℕ) → n ≡ count s
+      → list_any (λ k. not (eqb k t) && eqb (parent s k) up) (range_with_len (up + 1) (n - (up + 1))) ≡ other_conflict_in s (λ j. true) t
   unfolding other_rival other_conflict_in conflict_in
-  none_after k h l =
-      sym (any_all_false (count s) (other_rival s t) (λ j i. any_none k (other_rival s t) h j (omega (arith, i, l))))
-
-  -- where `up` is the parent of t
-  module _ (up : ℕ) (e : up ≡ parent s t) where
-    pub other_stranger : (k v : ℕ) → v ≡ parent s k → (v ≡ up → ⊥) → other_rival s t k ≡ false
-    unfolding other_rival
-    other_stranger k v f h =
-        fails_by (other_rival s t k)
-        (λ y. h (f ∙ conflict_parent s k t (and_parts (conflict s k t) (not (eqb k t) && true) y).0 ∙ sym e))
-
-    pub other_found : (k v : ℕ) → count s ≤ 32 → k < count s → up < k → (k ≡ t → ⊥) → v ≡ parent s k → v ≡ up
-        → true ≡ other_conflict_in s (λ j. true) t
-    unfolding other_rival other_conflict_in conflict_in opening
-    other_found k v few l a d f g =
-        let o : opening s k ≡ false = ne_eqb (parent s k) 255 (λ q. omega (arith, q, few, l, a, f, g)) in
-        sym (any_found (count s) k (other_rival s t) l (rw (siblings_conflict s k t o (sym f ∙ g ∙ e), ne_eqb k t d)))
-
-    -- none up to the parent, since a child comes after it; for an opening none at all
-    pub none_before : Checked s → t < count s → any_below (up + 1) (other_rival s t) ≡ false
-    unfolding other_rival
-    none_before ok l =
-        any_all_false (up + 1) (other_rival s t)
-        (λ k b.
-        fails_by (other_rival s t k)
-        (λ y.
-        let w = and_parts (conflict s k t) (not (eqb k t) && true) y in
-        let d = eqb-false k t (not-true (eqb k t) (and_parts (not (eqb k t)) true w.1).0) in
-        split (opening s t)
-        (λ o. d (conflict_opening s k t o w.0))
-        (λ o.
-        let same = conflict_parent s k t w.0 in
-        let h = parent_lower ok t l o in
-        let i = parent_lower ok k (omega (arith, b, e, h, l)) (same_opening s k t same ∙ o) in
-        omega (arith, i, same, b, e))))
+  other_after ok l n f =
+      rw f (any_above (other_rival s t) (λ k. not (eqb k t) && eqb (parent s k) up) (up + 1) (count s) (none_before ok l) (λ k i j. rival_above k ok.sized.few j (omega (arith, i))))
 
 -- where no member has a rival but itself, nobody has another rival in the set
 module _ (s : List ℕ) (member : ℕ → Bool) (h : has_conflicts_in s member ≡ false) where

@@ -3,4 +3,4 @@ pub mod HasConflicts
 pub mod Height
 pub mod Expiring
 pub mod Line
-pub mod Next
+pub mod Members

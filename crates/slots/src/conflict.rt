@@ -18,14 +18,7 @@ fn child_in(sheet: &[u8], members: u32, up: usize) -> bool
     ensures { result ≡ is_parent_below sheet.now (bit members) (count sheet.now) up }
 {
     let n = sheet::field::count(sheet);
-    let mut k = next::next(members, up + 1, n);
-    while k < n {
-        if sheet::field::parent(sheet, k) == up {
-            return true;
-        }
-        k = next::next(members, k + 1, n);
-    }
-    false
+    next::members_from(members, up + 1, n).any(|k| sheet::field::parent(sheet, k) == up)
 }
 
 // Whether a rival of t is in the set. An opening rivals only itself.
@@ -89,12 +82,8 @@ pub fn conflicts_of(sheet: &[u8], members: u32, others: bool) -> u32
         return 0;
     }
     let parents = parents::parents_of(sheet, members);
-    let n = sheet::field::count(sheet);
-    let mut found: u32 = 0;
-    let mut t: usize = 0;
-    while t < n {
-        found = set::join(found, found_by(sheet, members, parents, others, t), t);
-        t += 1;
-    }
-    found
+    set::below(
+        sheet::field::count(sheet),
+        |t| found_by(sheet, members, parents, others, t),
+    )
 }

@@ -39,13 +39,10 @@ fn deadline_among(sheet: &[u8], per_day: u16, since: u16, t: usize) -> u32
     ensures { Height (deadline sheet.now per_day (λ k. since) t) result }
 {
     let own = lock_height::lock_height(sheet, per_day, since, t);
-    let n = sheet::field::count(sheet);
     let up = sheet::field::parent(sheet, t);
     let mut best: u32 = lock_height::NEVER;
-    let mut k: usize = 0;
-    while k < n {
+    for k in 0..sheet::field::count(sheet) {
         best = lower(best, rival_height(sheet, per_day, since, own, up, k));
-        k += 1;
     }
     best
 }

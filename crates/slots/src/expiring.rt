@@ -14,14 +14,10 @@ fn locked(sheet: &[u8]) -> u32
     requires { Sized sheet.now }
     ensures { result ≡ set_below (count sheet.now) (has_lock sheet.now) }
 {
-    let n = sheet::field::count(sheet);
-    let mut found: u32 = 0;
-    let mut k: usize = 0;
-    while k < n {
-        found = set::join(found, sheet::field::lock_type(sheet, k) != 0, k);
-        k += 1;
-    }
-    found
+    set::below(
+        sheet::field::count(sheet),
+        |k| sheet::field::lock_type(sheet, k) != 0,
+    )
 }
 
 // The transactions that can have a deadline: those of which some other rival has a lock.

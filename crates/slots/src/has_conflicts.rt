@@ -16,18 +16,7 @@ fn has_rival(sheet: &[u8], t: usize) -> bool
 {
     let n = sheet::field::count(sheet);
     let up = sheet::field::parent(sheet, t);
-    let mut k = up + 1;
-    while k < n {
-        if k == t {
-            k += 1;
-            continue;
-        }
-        if sheet::field::parent(sheet, k) == up {
-            return true;
-        }
-        k += 1;
-    }
-    false
+    (up + 1..n).any(|k| k != t && sheet::field::parent(sheet, k) == up)
 }
 
 // Whether some member of the set has a rival but itself.
@@ -35,13 +24,5 @@ pub fn has_conflicts(sheet: &[u8], members: u32) -> bool
     requires { Checked sheet.now }
     ensures { result ≡ has_conflicts_in sheet.now (bit members) }
 {
-    let n = sheet::field::count(sheet);
-    let mut k = next::next(members, 0, n);
-    while k < n {
-        if has_rival(sheet, k) {
-            return true;
-        }
-        k = next::next(members, k + 1, n);
-    }
-    false
+    next::members(members, sheet::field::count(sheet)).any(|k| has_rival(sheet, k))
 }

@@ -38,7 +38,7 @@ pub enum Step {
 
 // "for each of 32 transactions, its pool entry, block entry, confirmation and shared knowledge", and "the shares it has made".
 // Twelve bytes, without padding.
-#[derive(Clone, Copy)]
+#[derive(Clone, Copy, PartialEq, Eq)]
 pub struct Slot {
     // pool entry, block entry and confirmation: 0 none, else the destination + 1
     pub pool: u8,

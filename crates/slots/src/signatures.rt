@@ -24,6 +24,7 @@ fn at_hand(need: u8, have: u8) -> bool
 }
 
 // Whether each needed signature is at hand: both masks are shifted right, signature by signature, until nothing is needed any more.
+// Document 01 names this form: "the subset test is an and over shifted bits".
 fn all_at_hand(need: u8, have: u8) -> bool
     ensures { result ≡ subset 8 need have }
 {

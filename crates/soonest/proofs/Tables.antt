@@ -1,7 +1,8 @@
 -- Tables over the sheet, and what is read from them.
 -- Assumes nothing.
-use Rattle.laws.proofs.Prelude.{ℕ, ◌+◌, ◌≤◌, ◌<◌, ◌≡◌, refl, sym, ◌∙◌, List, eqb, ltb, length, set, length-set, eqb-true, eqb-false, ltb-true, arith, not-suc-le-zero}
+use Rattle.laws.proofs.Prelude.{ℕ, ◌+◌, ◌≤◌, ◌<◌, ◌≡◌, refl, sym, ◌∙◌, List, eqb, ltb, length, get_or, set, length-set, eqb-true, eqb-false, ltb-true, arith, not-suc-le-zero}
 use Rattle.laws.proofs.Prelude.{get_or-set_same, get_or-set_other, split}
+use Rattle.laws.specs.Calls.{TableOf}
 use Rattle.position.proofs.Rules.{parent}
 use Rattle.soonest.specs.Soonest.{may_rise, counts_at, soonest_over, soonest_block, soonest_parent, soonest_deadline}
 use Rattle.soonest.specs.Forms.Bounds.{Soon, SoonAbove}
@@ -26,6 +27,10 @@ module _ (told : ℕ → ℕ → Type 0) where
 
   pub filled_done : (k n : ℕ) (table : List ℕ) → n ≤ k → Filled told k table → Filled told n table
   filled_done k n table l h = record { size = h.size; each = λ j m. h.each j (omega (arith, m, l)) }
+
+-- a table that is filled at once
+pub filled_of : (told answers : ℕ → ℕ → Type 0) (n : ℕ) (table : List ℕ) → TableOf answers 32 n 0 table → ((k v : ℕ) → k < n → answers k v → told k v) → Filled told n table
+filled_of told answers n table h f = record { size = h.size; each = λ k l. f k (get_or table k 0) l (h.each k l) }
 
 module _ (s : List ℕ) (per_day : ℕ) (block : ℕ → ℕ) (mined : ℕ) where
   -- the parent's soonest block e, read from a table of those before t

@@ -41,12 +41,10 @@ pub fn soonest_blocks(position: Position, sheet: &[u8], per_day: u16) -> [u32; 3
 {
     let n = sheet::field::count(sheet);
     let mut soonest = [0u32; 32];
-    let mut t: usize = 0;
-    while t < n {
+    for t in 0..n {
         let x = position.slots[t];
         let e = table::above(soonest, sheet, t);
         soonest[t] = soonest_over(sheet, per_day, x.height, position.mined, t, e);
-        t += 1;
     }
     soonest
 }

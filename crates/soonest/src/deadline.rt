@@ -88,10 +88,8 @@ pub fn soonest_deadline(sheet: &[u8], per_day: u16, since: u16, e: u32, t: usize
     let own = lock::lock_at(sheet, per_day, e, t);
     let n = sheet::field::count(sheet);
     let mut best: u32 = lock_height::NEVER;
-    let mut k: usize = 0;
-    while k < n {
+    for k in 0..n {
         best = lower(best, rival_at(sheet, per_day, since, e, own, t, k));
-        k += 1;
     }
     best
 }

@@ -49,14 +49,7 @@ pub fn entering(sheet: &[u8], view: View, t: usize) -> u32
     ensures { result ≡ set_below (count sheet.now) (enters_in view (line_set sheet.now t)) }
 {
     let line = ancestry::line_of(sheet, t);
-    let n = sheet::field::count(sheet);
-    let mut found: u32 = 0;
-    let mut k: usize = 0;
-    while k < n {
-        found = set::join(found, enters_in(view, line, k), k);
-        k += 1;
-    }
-    found
+    set::below(sheet::field::count(sheet), |k| enters_in(view, line, k))
 }
 
 // Those with a rival among the entering. None is asked for while the block is empty, since there nobody leaves it.

@@ -28,6 +28,7 @@ fn read_full<F: Read>(file: &mut F, buf: &mut [u8]) -> usize
     ensures { result ≤ length buf.new }
 {
     let mut done = 0;
+    // no count by one: a turn goes on by as many bytes as the read gave
     while done < buf.len() {
         match file.read(&mut buf[done..]) {
             Ok(n) if n > 0 => done += n,

@@ -1,12 +1,7 @@
 -- The counts of the transactions before t are noted.
 use Rattle.dated.specs.Dated.{first_open}
-use Rattle.laws.proofs.Prelude.{rewrite_first, ◌-◌, ◌≤◌, ◌≡◌}
+use Rattle.laws.proofs.Prelude.{rewrite_first, ◌≡◌}
 use Rattle.dated.proofs.noted.Given as goal
 
 abbrev pub invariant-loop-t : goal.invariant-loop-t
-invariant-loop-t l =
-    (l.t ≤ l.n) × (l.counts ≡ rewrite_first l.t (first_open l.sheet l.setup l.position) l.initial.counts)
-
-abbrev pub decreases-loop-t : goal.decreases-loop-t
-decreases-loop-t l =
-    l.n - l.t
+invariant-loop-t l = l.counts ≡ rewrite_first l.t (first_open l.sheet l.setup l.position) l.initial.counts

@@ -13,4 +13,4 @@ count-requires c = counted _ _ _ _ c.ran-ran.ensures c.if-ran-ne0.false
 pub returns : goal.returns
 returns c =
     let whole = first_accepted _ _ _ _ c.ran-ran.ensures _ c.if-ran-ne0.false c.count.ensures.is in
-    record { blocks_value = whole.0; lines_value = whole.1.0; lines_bound = whole.1.1 }
+    record { blocks_value = rw c.from.ensures whole.0; lines_value = whole.1.0; lines_bound = whole.1.1 }

@@ -1,13 +1,12 @@
 -- The keys of the parties below k.
-use Rattle.laws.proofs.Prelude.{rules}
 use Rattle.attainable.proofs.Masks.{union_start, union_more, union_done}
 use Rattle.attainable.proofs.read.others_keys.Goals as goal
 
 pub loop-k-init : goal.loop-k-init
-loop-k-init c = (search rules, union_start _)
+loop-k-init c = union_start _
 
 pub loop-k-preserved : goal.loop-k-preserved
-loop-k-preserved c = (search rules, union_more _ _ _ _ c.loop-k.invariant.1 (rw (← c.party_at.ensures) c.other_keys-found.ensures))
+loop-k-preserved c = union_more _ _ _ _ c.loop-k.invariant (rw (← c.party_at.ensures) c.other_keys-found.ensures)
 
 pub returns : goal.returns
-returns c = rw (← c.parties-n.ensures.is) (union_done _ _ _ _ c.loop-k.invariant.0 c.loop-k-test.false c.loop-k.invariant.1)
+returns c = rw (← c.parties-n.ensures.is) (union_done _ _ _ _ c.loop-k.auto.k-end c.loop-k-test.false c.loop-k.invariant)

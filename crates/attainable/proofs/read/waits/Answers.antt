@@ -1,14 +1,9 @@
--- Those below t.
-use Rattle.laws.proofs.Prelude.{rules, set_start, set_more, set_done}
+-- By the slot of each.
+use Rattle.laws.proofs.Prelude.{rules}
+use Rattle.laws.specs.Calls.{set_of}
 use Rattle.position.proofs.Rules.{slot}
 use Rattle.attainable.proofs.read.waits.Goals as goal
 
-pub loop-t-init : goal.loop-t-init
-loop-t-init c = (search rules, set_start _)
-
-pub loop-t-preserved : goal.loop-t-preserved
-unfolding slot
-loop-t-preserved c = (search rules, set_more _ _ _ _ _ c.loop-t.invariant.1 c.join-found.ensures c.waits_in.ensures)
-
 pub returns : goal.returns
-returns c = rw (← c.count-n.ensures.is) (set_done _ _ _ _ c.loop-t.invariant.0 c.loop-t-test.false c.loop-t.invariant.1)
+unfolding slot
+returns c = rw (← c.count.ensures.is) (set_of _ _ _ _ (search rules) c.below.ensures (λ k b l e. search rules))

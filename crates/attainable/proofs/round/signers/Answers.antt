@@ -1,15 +1,9 @@
--- Those below t.
-use Rattle.laws.proofs.Prelude.{rules, set_start, set_more, set_done}
+-- By what is lacking of each.
+use Rattle.laws.proofs.Prelude.{rules}
+use Rattle.laws.specs.Calls.{set_of}
 use Rattle.attainable.specs.Forms.Round.{signs_in, signers}
 use Rattle.attainable.proofs.round.signers.Goals as goal
 
-pub loop-t-init : goal.loop-t-init
-loop-t-init c = (search rules, set_start _)
-
-pub loop-t-preserved : goal.loop-t-preserved
-unfolding signs_in
-loop-t-preserved c = (search rules, set_more _ _ _ _ _ c.loop-t.invariant.1 c.join-found.ensures c.meets_one-on.ensures)
-
 pub returns : goal.returns
-unfolding signers
-returns c = rw (← c.count-n.ensures.is) (set_done _ _ _ _ c.loop-t.invariant.0 c.loop-t-test.false c.loop-t.invariant.1)
+unfolding signs_in signers
+returns c = rw (← c.count.ensures.is) (set_of _ _ _ _ (search rules) c.below.ensures (λ k b l e. search rules))

@@ -1,5 +1,5 @@
 -- What is left to pass from each entry on is the whole.
-use Rattle.laws.proofs.Prelude.{◌-◌, ◌≤◌, ◌≡◌}
+use Rattle.laws.proofs.Prelude.{◌≡◌}
 use Rattle.call_blocks.specs.BlockList.{list_entries, entries_rise}
 use Rattle.call_blocks.specs.Forms.Listed.{entry_of}
 use Rattle.call_blocks.proofs.Walk.{left}
@@ -8,8 +8,4 @@ use Rattle.call_blocks.proofs.block_list.entries_rise.Given as goal
 
 abbrev pub invariant-loop-k : goal.invariant-loop-k
 invariant-loop-k l =
-    (l.k ≤ l.n) × (left behind latest l.list l.k (entry_of l.last) ≡ entries_rise (list_entries l.list))
-
-abbrev pub decreases-loop-k : goal.decreases-loop-k
-decreases-loop-k l =
-    l.n - l.k
+    left behind latest l.list l.k (entry_of l.last) ≡ entries_rise (list_entries l.list)

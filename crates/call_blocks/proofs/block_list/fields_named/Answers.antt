@@ -1,23 +1,13 @@
--- Whole entries; what is left to pass from each entry on is the whole.
-use Rattle.laws.proofs.Prelude.{◌-◌, refl, rules, arith}
-use Rattle.call_blocks.proofs.Walk.{left_on, left_stopped, left_ended}
-use Rattle.call_blocks.proofs.Named.{named, unchanged, named_whole, named_broken}
+-- Whole entries, each with its fields named.
+use Rattle.std.proofs.Common.{rules, tests}
+use Rattle.std.proofs.lemmas.Iterator.{YieldsList-from_range}
+use Rattle.laws.proofs.Prelude.{refl, ◌∙◌, arith}
+use Rattle.laws.proofs.Ranges.{all_of_range}
+use Rattle.call_blocks.proofs.Named.{named_whole, named_broken}
 use Rattle.call_blocks.proofs.block_list.fields_named.Goals as goal
 
 pub returns-then-list-ne0 : goal.returns-then-list-ne0
 returns-then-list-ne0 c = named_broken _ _ c.if-list-ne0.true
 
-pub loop-k-init : goal.loop-k-init
-loop-k-init c = (search rules, named_whole _ _ c.if-list-ne0.false)
-
-pub listed_at-entry-requires : goal.listed_at-entry-requires
-listed_at-entry-requires c = omega (arith, c.loop-k-test.true)
-
-pub returns-then-not-entry_named : goal.returns-then-not-entry_named
-returns-then-not-entry_named c = left_stopped (named _) unchanged _ _ _ _ _ _ c.loop-k.invariant.1 (omega (arith, c.loop-k-test.true)) c.listed_at-entry.ensures c.entry_named.ensures c.if-not-entry_named.true-raw
-
-pub loop-k-preserved : goal.loop-k-preserved
-loop-k-preserved c = (omega (arith, c.loop-k-test.true), left_on (named _) unchanged _ _ _ _ _ _ _ c.loop-k.invariant.1 (omega (arith, c.loop-k-test.true)) c.listed_at-entry.ensures c.entry_named.ensures c.if-not-entry_named.false-raw refl)
-
 pub returns : goal.returns
-returns c = left_ended (named _) unchanged _ _ _ _ c.loop-k.invariant.1 (omega (arith, c.loop-k-test.false))
+returns c = all_of_range _ _ _ _ _ c.all.ensures.ran (YieldsList-from_range 0 _ _ refl (omega arith)) (λ x b q k. search (rules, tests)) ∙ named_whole _ _ c.if-list-ne0.false

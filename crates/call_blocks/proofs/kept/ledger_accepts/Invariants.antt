@@ -1,5 +1,5 @@
 -- What is left to pass from each entry on, over what the array keeps, is the whole.
-use Rattle.laws.proofs.Prelude.{◌-◌, ◌≤◌, ◌≡◌, length}
+use Rattle.laws.proofs.Prelude.{◌≡◌, length}
 use Rattle.ledger.specs.Ledger.{ledger}
 use Rattle.call_blocks.specs.BlockList.{list_entries}
 use Rattle.call_blocks.specs.Forms.Listed.{kept_in}
@@ -10,8 +10,4 @@ use Rattle.call_blocks.proofs.kept.ledger_accepts.Given as goal
 
 abbrev pub invariant-loop-k : goal.invariant-loop-k
 invariant-loop-k l =
-    (l.k ≤ l.n) × (length l.kept ≡ 32) × NamedFrom l.sheet l.list l.k × (left (right l.sheet l.per_day) (next l.sheet) l.list l.k (kept_in l.kept) ≡ (ledger l.sheet l.per_day (list_entries l.list)).accepts)
-
-abbrev pub decreases-loop-k : goal.decreases-loop-k
-decreases-loop-k l =
-    l.n - l.k
+    (length l.kept ≡ 32) × NamedFrom l.sheet l.list l.k × (left (right l.sheet l.per_day) (next l.sheet) l.list l.k (kept_in l.kept) ≡ (ledger l.sheet l.per_day (list_entries l.list)).accepts)

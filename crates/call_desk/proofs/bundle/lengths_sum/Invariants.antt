@@ -1,12 +1,8 @@
 -- The sum of the lengths before i.
-use Rattle.laws.proofs.Prelude.{◌-◌, ◌*◌, ◌≤◌, ◌≡◌, sum_below}
+use Rattle.laws.proofs.Prelude.{◌*◌, ◌≤◌, ◌≡◌, sum_below}
 use Rattle.call_desk.specs.Bundle.{length_of}
 use Rattle.call_desk.proofs.bundle.lengths_sum.Given as goal
 
 abbrev pub invariant-loop-i : goal.invariant-loop-i
 invariant-loop-i l =
-    (l.i ≤ l.n) × (l.sum ≤ 4294967296 * l.i) × (l.sum ≡ sum_below l.i (length_of l.bundle))
-
-abbrev pub decreases-loop-i : goal.decreases-loop-i
-decreases-loop-i l =
-    l.n - l.i
+    (l.sum ≤ 4294967296 * l.i) × (l.sum ≡ sum_below l.i (length_of l.bundle))

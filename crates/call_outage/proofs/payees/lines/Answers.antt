@@ -5,10 +5,10 @@ use Rattle.call_outage.proofs.RowViews.{line_next}
 use Rattle.call_outage.proofs.payees.lines.Goals as goal
 
 pub loop-t-init : goal.loop-t-init
-loop-t-init c = (search rules, filled_start _ _ refl)
+loop-t-init c = filled_start _ _ refl
 
 pub loop-t-preserved : goal.loop-t-preserved
-loop-t-preserved c = (search rules, filled_more _ _ _ _ c.loop-t.invariant.1 (search rules) (line_next _ _ _ _ _ c.loop-t.invariant.1 c.above.ensures c.join.ensures))
+loop-t-preserved c = filled_more _ _ _ _ c.loop-t.invariant (search rules) (line_next _ _ _ _ _ c.loop-t.invariant c.above.ensures c.join.ensures)
 
 pub returns : goal.returns
-returns c = filled_done _ _ _ _ (omega (arith, c.loop-t-test.false, c.count-n.ensures.is)) c.loop-t.invariant.1
+returns c = filled_done _ _ _ _ (omega (arith, c.loop-t-test.false, c.count-t-end.ensures.is)) c.loop-t.invariant

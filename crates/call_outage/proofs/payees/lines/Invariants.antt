@@ -1,13 +1,9 @@
 -- The lines of the transactions before t.
-use Rattle.laws.proofs.Prelude.{◌-◌, ◌≤◌, ◌≡◌}
+use Rattle.laws.proofs.Prelude.{◌≡◌}
 use Rattle.slots.specs.Forms.Line.{line_set}
 use Rattle.soonest.specs.Forms.Table.{Filled}
 use Rattle.call_outage.proofs.payees.lines.Given as goal
 
 abbrev pub invariant-loop-t : goal.invariant-loop-t
 invariant-loop-t l =
-    (l.t ≤ l.n) × Filled (λ k x. x ≡ line_set l.sheet k) l.t l.lines
-
-abbrev pub decreases-loop-t : goal.decreases-loop-t
-decreases-loop-t l =
-    l.n - l.t
+    Filled (λ k x. x ≡ line_set l.sheet k) l.t l.lines

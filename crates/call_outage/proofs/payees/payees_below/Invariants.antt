@@ -1,12 +1,8 @@
 -- The payees of those below k.
-use Rattle.laws.proofs.Prelude.{pick, bit, union_below, ◌-◌, ◌≤◌, ◌≡◌, get_or}
+use Rattle.laws.proofs.Prelude.{pick, bit, union_below, ◌≡◌, get_or}
 use Rattle.position.proofs.Rules.{payees}
 use Rattle.call_outage.proofs.payees.payees_below.Given as goal
 
 abbrev pub invariant-loop-k : goal.invariant-loop-k
 invariant-loop-k l =
-    (l.k ≤ l.n) × (l.found ≡ union_below l.k (λ j. pick (bit (get_or l.lines j 0) l.t) (payees l.sheet j) 0))
-
-abbrev pub decreases-loop-k : goal.decreases-loop-k
-decreases-loop-k l =
-    l.n - l.k
+    l.found ≡ union_below l.k (λ j. pick (bit (get_or l.lines j 0) l.t) (payees l.sheet j) 0)

@@ -2,40 +2,24 @@
 use Rattle.call_outage.proofs.RowLengths.{row_length, rows_room}
 use Rattle.call_outage.proofs.RowViews.{above_small, row_right}
 use Rattle.call_outage.specs.Verdict.{outage_bytes}
-use Rattle.laws.proofs.Prelude.{length_of_map, turns_start, turn_room, turn_end, turn_more, turns_done, ◌<◌, ◌≡◌, sym, length, arith}
+use Rattle.laws.proofs.Prelude.{length_of_map, turns_start, turn_more, turns_done, ◌+◌, ◌*◌, ◌<◌, ◌≡◌, sym, length, arith}
 use Rattle.position.proofs.Rules.{slot, since_in, count}
 use Rattle.call_outage.proofs.rows.write_rows.Goals as goal
 
 pub loop-t-init : goal.loop-t-init
-loop-t-init c = turns_start _ _ _ (rows_room c.args.sheet.now c.args.setup.now c.args.position c.args.blocks c.count-n.result _ c.count-n.ensures.is c.requires.sheet_in_bounds)
+loop-t-init c = turns_start _ _ _ (rows_room c.args.sheet.now c.args.setup.now c.args.position c.args.blocks _ c.requires.sheet_in_bounds)
 
-pub slice_bounds-write_at-count : goal.slice_bounds-write_at-count
-unfolding outage_bytes
-slice_bounds-write_at-count c = omega (arith, c.loop-t.invariant.wrote)
-
-pub slice_bounds-write_at-start : goal.slice_bounds-write_at-start
-unfolding outage_bytes
-slice_bounds-write_at-start c = omega (arith, c.loop-t.invariant.wrote)
-
-pub write_at-requires : goal.write_at-requires
-write_at-requires c =
-    let t : c.loop-t.t < count c.args.sheet.now = omega (arith, c.loop-t-test.true, c.count-n.ensures.is) in
-    let l = row_length c.args.sheet.now c.args.setup.now c.args.position c.args.blocks c.loop-t.t in
-    record {
-      fit = c.requires.fit;
-      t_bound = t;
-      t_bound_2 = above_small _ _ _ c.requires.fit.checked _ t _ _ c.per_day-per_day.ensures c.soonest_blocks-soonest.ensures;
-      in_bounds = omega (arith, l, turn_room _ _ _ _ _ _ c.loop-t.invariant c.loop-t-test.true);
-    }
-
-pub overflow_add-at : goal.overflow_add-at
-overflow_add-at c = omega (arith, turn_end _ _ _ _ _ _ 10 c.loop-t.invariant c.loop-t-test.true (sym (row_length c.args.sheet.now c.args.setup.now c.args.position c.args.blocks c.loop-t.t)))
+pub write_at-requires-clause-t_bound_2 : goal.write_at-requires-clause-t_bound_2
+write_at-requires-clause-t_bound_2 c =
+    let t : c.loop-t.t < count c.args.sheet.now = omega (arith, c.loop-t-test.true, c.count-t-end.ensures.is) in
+    above_small _ _ _ c.requires.fit.checked _ t _ _ c.per_day-per_day.ensures c.soonest_blocks-soonest.ensures
 
 pub loop-t-preserved : goal.loop-t-preserved
 unfolding since_in slot
 loop-t-preserved c =
-    let t : c.loop-t.t < count c.args.sheet.now = omega (arith, c.loop-t-test.true, c.count-n.ensures.is) in
+    let t : c.loop-t.t < count c.args.sheet.now = omega (arith, c.loop-t-test.true, c.count-t-end.ensures.is) in
     let n : length c.args.position.slots ≡ 32 = search (length_of_map, c.well_formed) in
+    let next : 10 * c.loop-t.t + 10 ≡ 10 * (c.loop-t.t + 1) = omega arith in
     let written =
     row_right c.args.sheet.now c.args.setup.now c.args.position c.requires.fit.checked c.loop-t.t t _ _
     c.per_day-per_day.ensures
@@ -46,12 +30,8 @@ loop-t-preserved c =
     c.lines-lines.ensures
     (rw (← c.slot_above-up.ensures.0)
     c.block_above-since.ensures) in
-    turn_more _ _ _ _ _ _ _ 10 c.loop-t.invariant c.loop-t-test.true (sym (row_length c.args.sheet.now c.args.setup.now c.args.position c.args.blocks c.loop-t.t)) (rw written at c.write_at.ensures)
-
-pub shape_of-out : goal.shape_of-out
-unfolding outage_bytes
-shape_of-out c = c.loop-t.invariant.wrote.long
+    rw (← next) (turn_more _ _ _ _ _ _ _ 10 c.loop-t.invariant t (sym (row_length c.args.sheet.now c.args.setup.now c.args.position c.args.blocks c.loop-t.t)) (rw written at c.write_at.ensures))
 
 pub returns : goal.returns
 unfolding outage_bytes
-returns c = rw (← c.count-n.ensures.is) (turns_done _ _ _ _ _ _ c.loop-t.invariant c.loop-t-test.false).is
+returns c = (turns_done _ _ _ _ _ _ c.loop-t.invariant (omega (arith, c.loop-t-test.false, c.count-t-end.ensures.is))).is

@@ -1,12 +1,9 @@
 -- The rows of the transactions before t.
 use Rattle.call_outage.specs.Verdict.{outage_row}
-use Rattle.laws.proofs.Prelude.{Turns, ◌-◌}
+use Rattle.laws.proofs.Prelude.{Turns, ◌*◌}
+use Rattle.sheet.specs.Field.{count}
 use Rattle.call_outage.proofs.rows.write_rows.Given as goal
 
 abbrev pub invariant-loop-t : goal.invariant-loop-t
 invariant-loop-t l =
-    Turns (outage_row l.sheet l.setup l.position l.blocks) l.n l.initial.out l.out l.at l.t
-
-abbrev pub decreases-loop-t : goal.decreases-loop-t
-decreases-loop-t l =
-    l.n - l.t
+    Turns (outage_row l.sheet l.setup l.position l.blocks) (count l.sheet) l.initial.out l.out (10 * l.t) l.t

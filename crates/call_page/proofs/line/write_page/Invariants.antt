@@ -1,5 +1,5 @@
 -- The lines before i.
-use Rattle.laws.proofs.Prelude.{suc, ◌-◌, Turns}
+use Rattle.laws.proofs.Prelude.{suc, Turns}
 use Rattle.position.proofs.Rules.{reported_line}
 use Rattle.call_page.specs.Line.{line}
 use Rattle.call_page.specs.Page.{line_texts}
@@ -8,7 +8,3 @@ use Rattle.call_page.proofs.line.write_page.Given as goal
 abbrev pub invariant-loop-i : goal.invariant-loop-i
 invariant-loop-i l =
     Turns (λ j. line (line_texts (reported_line l.report) j)) (suc l.n) l.initial.out l.out l.at l.i
-
-abbrev pub decreases-loop-i : goal.decreases-loop-i
-decreases-loop-i l =
-    suc l.n - l.i

@@ -8,13 +8,13 @@ pub loop-i-init : goal.loop-i-init
 loop-i-init c = copied_none _ _
 
 pub bounds-out-i : goal.bounds-out-i
-bounds-out-i c = omega (arith, c.requires, c.loop-i.invariant.long, column_end c.args.width c.args.text.now _ c.lack-before.ensures)
+bounds-out-i c = omega (arith, c.requires, c.loop-i.invariant.long, column_end c.args.width c.args.text.now _ c.saturating_sub-before.ensures)
 
 pub loop-i-preserved : goal.loop-i-preserved
-loop-i-preserved c = column_turn _ _ _ c.lack-before.ensures _ _ _ _ c.loop-i.invariant c.loop-i-test.true c.aligned.ensures
+loop-i-preserved c = column_turn _ _ _ c.saturating_sub-before.ensures _ _ _ _ c.loop-i.invariant c.loop-i-test.true c.aligned.ensures
 
 pub shape_of-out : goal.shape_of-out
 shape_of-out c = c.loop-i.invariant.long
 
 pub returns : goal.returns
-returns c = record { value = column_end _ _ _ c.lack-before.ensures; out_after = column_done _ _ _ c.lack-before.ensures _ _ _ c.loop-i.invariant c.loop-i-test.false }
+returns c = record { value = column_end _ _ _ c.saturating_sub-before.ensures; out_after = column_done _ _ _ c.saturating_sub-before.ensures _ _ _ c.loop-i.invariant c.loop-i-test.false }

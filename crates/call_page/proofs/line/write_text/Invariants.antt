@@ -1,5 +1,4 @@
 -- The column, byte by byte.
-use Rattle.laws.proofs.Prelude.{◌-◌}
 use Rattle.call_page.specs.Line.{column}
 use Rattle.output.proofs.Writing.{Copied}
 use Rattle.call_page.proofs.line.write_text.Given as goal
@@ -7,7 +6,3 @@ use Rattle.call_page.proofs.line.write_text.Given as goal
 abbrev pub invariant-loop-i : goal.invariant-loop-i
 invariant-loop-i l =
     Copied (column l.width l.text) l.initial.out l.out l.i
-
-abbrev pub decreases-loop-i : goal.decreases-loop-i
-decreases-loop-i l =
-    l.end - l.i

@@ -27,15 +27,15 @@ returns-in-0-clause-out_after c = (written_as (is c.args.t c.args.row _ _ c.widt
 
 pub write_number-requires-in-1 : goal.write_number-requires-in-1
 unfolding texts
-write_number-requires-in-1 c = room_as (same_column refl (ap digits c.wide.ensures) ∙ is c.args.t c.args.row _ _ c.width-w.ensures 1 c.in-1.is) c.requires.k_in_bounds
+write_number-requires-in-1 c = room_as (same_column refl (ap digits c.from.ensures) ∙ is c.args.t c.args.row _ _ c.width-w.ensures 1 c.in-1.is) c.requires.k_in_bounds
 
 pub returns-in-1-clause-value : goal.returns-in-1-clause-value
 unfolding texts
-returns-in-1-clause-value c = (written_as (same_column refl (ap digits c.wide.ensures) ∙ is c.args.t c.args.row _ _ c.width-w.ensures 1 c.in-1.is) _ (c.write_number-in-1.ensures.value, c.write_number-in-1.ensures.out_after)).0
+returns-in-1-clause-value c = (written_as (same_column refl (ap digits c.from.ensures) ∙ is c.args.t c.args.row _ _ c.width-w.ensures 1 c.in-1.is) _ (c.write_number-in-1.ensures.value, c.write_number-in-1.ensures.out_after)).0
 
 pub returns-in-1-clause-out_after : goal.returns-in-1-clause-out_after
 unfolding texts
-returns-in-1-clause-out_after c = (written_as (same_column refl (ap digits c.wide.ensures) ∙ is c.args.t c.args.row _ _ c.width-w.ensures 1 c.in-1.is) _ (c.write_number-in-1.ensures.value, c.write_number-in-1.ensures.out_after)).1
+returns-in-1-clause-out_after c = (written_as (same_column refl (ap digits c.from.ensures) ∙ is c.args.t c.args.row _ _ c.width-w.ensures 1 c.in-1.is) _ (c.write_number-in-1.ensures.value, c.write_number-in-1.ensures.out_after)).1
 
 pub write_payee-requires : goal.write_payee-requires
 unfolding texts

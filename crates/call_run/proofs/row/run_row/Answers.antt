@@ -1,5 +1,5 @@
 -- What is left to do from each step on is the whole, and the view is the position's.
-use Rattle.laws.proofs.Prelude.{◌*◌, ◌≡◌, refl, sym, ◌∙◌, rules, arith}
+use Rattle.laws.proofs.Prelude.{◌*◌, ◌/◌, ◌≡◌, length, refl, sym, ◌∙◌, arith}
 use Rattle.position.proofs.Rules.{count, decode_bytes, step, slot, view_below, step_at}
 use Rattle.position.specs.declared.Stepped.{Stepped}
 use Rattle.steps.proofs.RightFields.{give_listed, pool_listed, miner_listed, include_listed, bump_listed}
@@ -33,8 +33,8 @@ seen : (c : Joined-remove-ne0) → ◌≡◌ {A = Stepped} (record { refusal = c
 unfolding slot step_at
 seen c came =
     elim c.if-remove-ne0.branch [
-      | then-remove-ne0 w ↦ w.view-is ∙ w.view_over-over.ensures ∙ seen_many _ _ _ _ c.requires.fit c.loop-k.invariant.2 _ _ came c.if-refused-ne0.false _ (w.refined.ensures ∙ rw c.changed_set-members.ensures refl)
-      | else-remove-ne0 w ↦ w.view-is ∙ w.seen_one-one.ensures ∙ seen_few _ _ _ _ c.requires.fit c.loop-k.invariant.2 _ _ came c.if-refused-ne0.false _ _ c.changed_set-members.ensures c.lowest-at.ensures.0 (sym c.remove.ensures ∙ w.if-remove-ne0.false)
+      | then-remove-ne0 w ↦ w.view-is ∙ w.view_over-over.ensures ∙ seen_many _ _ _ _ c.requires.fit c.loop-k.invariant.1 _ _ came c.if-refused-ne0.false _ (w.refined.ensures ∙ rw c.changed_set-members.ensures refl)
+      | else-remove-ne0 w ↦ w.view-is ∙ w.seen_one-one.ensures ∙ seen_few _ _ _ _ c.requires.fit c.loop-k.invariant.1 _ _ came c.if-refused-ne0.false _ _ c.changed_set-members.ensures c.lowest-at.ensures.0 (sym c.remove.ensures ∙ w.if-remove-ne0.false)
     ]
 
 -- the counts, where they are asked for
@@ -47,10 +47,10 @@ counted c =
     ]
 
 pub loop-k-init : goal.loop-k-init
-loop-k-init c = (search rules, left_all _ _ _ _ _ _, c.requires.seen_value, λ n. absurd (n refl))
+loop-k-init c = (left_all _ _ _ _ _ _, c.requires.seen_value, λ n. absurd (n refl))
 
 pub soonest_due-due-requires : goal.soonest_due-due-requires
-soonest_due-due-requires c = record { fit = c.requires.fit; view_value = c.loop-k.invariant.2; due_known = c.loop-k.invariant.3 }
+soonest_due-due-requires c = record { fit = c.requires.fit; view_value = c.loop-k.invariant.1; due_known = c.loop-k.invariant.2 }
 
 pub decode-requires : goal.decode-requires
 decode-requires c = c.requires.fit
@@ -60,34 +60,34 @@ pub returns-in-Refused : goal.returns-in-Refused
 unfolding decode_bytes step_at
 returns-in-Refused c =
     c.stopped.ensures
-    ∙ left_stopped _ _ _ _ _ _ _ _ c.loop-k.invariant.1 (omega (arith, c.loop-k-test.true)) _ (unread _ _ _ _ _ c.decode.ensures c.in-Refused.is) _ c.loop-k.invariant.2 (λ z. absurd (omega (arith, z)))
+    ∙ left_stopped _ _ _ _ _ _ _ _ c.loop-k.invariant.0 (omega (arith, c.loop-k-test.true)) _ (unread _ _ _ _ _ c.decode.ensures c.in-Refused.is) _ c.loop-k.invariant.1 (λ z. absurd (omega (arith, z)))
 
 -- what the methods ask for
 pub share-stepped-requires : goal.share-stepped-requires
-share-stepped-requires c = record { fit = c.requires.fit; view_value = c.loop-k.invariant.2; t_value = share_fields _ _ _ _ _ _ c.in-Share.is c.requires.fit (decodes _ _ _ _ _ _ _ (sym c.decode.ensures ∙ c.in-Read.is)).fields }
+share-stepped-requires c = record { fit = c.requires.fit; view_value = c.loop-k.invariant.1; t_value = share_fields _ _ _ _ _ _ c.in-Share.is c.requires.fit (decodes _ _ _ _ _ _ _ (sym c.decode.ensures ∙ c.in-Read.is)).fields }
 
 pub give-stepped-requires : goal.give-stepped-requires
-give-stepped-requires c = record { fit = c.requires.fit; view_value = c.loop-k.invariant.2; i_bound = give_listed _ _ _ _ _ _ c.in-Give.is c.requires.fit.checked.signatures_few (decodes _ _ _ _ _ _ _ (sym c.decode.ensures ∙ c.in-Read.is)).fields }
+give-stepped-requires c = record { fit = c.requires.fit; view_value = c.loop-k.invariant.1; i_bound = give_listed _ _ _ _ _ _ c.in-Give.is c.requires.fit.checked.signatures_few (decodes _ _ _ _ _ _ _ (sym c.decode.ensures ∙ c.in-Read.is)).fields }
 
 pub send_to_pool-stepped-requires : goal.send_to_pool-stepped-requires
-send_to_pool-stepped-requires c = record { fit = c.requires.fit; view_value = c.loop-k.invariant.2; t_bound = pool_listed _ _ _ _ _ _ c.in-SendToPool.is (decodes _ _ _ _ _ _ _ (sym c.decode.ensures ∙ c.in-Read.is)).fields }
+send_to_pool-stepped-requires c = record { fit = c.requires.fit; view_value = c.loop-k.invariant.1; t_bound = pool_listed _ _ _ _ _ _ c.in-SendToPool.is (decodes _ _ _ _ _ _ _ (sym c.decode.ensures ∙ c.in-Read.is)).fields }
 
 pub hand_to_miner-stepped-requires : goal.hand_to_miner-stepped-requires
-hand_to_miner-stepped-requires c = record { fit = c.requires.fit; view_value = c.loop-k.invariant.2; t_bound = miner_listed _ _ _ _ _ _ c.in-HandToMiner.is (decodes _ _ _ _ _ _ _ (sym c.decode.ensures ∙ c.in-Read.is)).fields }
+hand_to_miner-stepped-requires c = record { fit = c.requires.fit; view_value = c.loop-k.invariant.1; t_bound = miner_listed _ _ _ _ _ _ c.in-HandToMiner.is (decodes _ _ _ _ _ _ _ (sym c.decode.ensures ∙ c.in-Read.is)).fields }
 
 pub include-stepped-requires : goal.include-stepped-requires
-include-stepped-requires c = record { fit = c.requires.fit; view_value = c.loop-k.invariant.2; t_bound = include_listed _ _ _ _ _ _ c.in-Include.is (decodes _ _ _ _ _ _ _ (sym c.decode.ensures ∙ c.in-Read.is)).fields }
+include-stepped-requires c = record { fit = c.requires.fit; view_value = c.loop-k.invariant.1; t_bound = include_listed _ _ _ _ _ _ c.in-Include.is (decodes _ _ _ _ _ _ _ (sym c.decode.ensures ∙ c.in-Read.is)).fields }
 
 pub mine-stepped-requires : goal.mine-stepped-requires
-mine-stepped-requires c = record { fit = c.requires.fit; view_value = c.loop-k.invariant.2; due_value = mine_due _ _ _ _ _ _ _ _ _ _ _ _ c.in-Mine.is (decodes _ _ _ _ _ _ _ (sym c.decode.ensures ∙ c.in-Read.is)).bytes c.soonest_due-due.ensures }
+mine-stepped-requires c = record { fit = c.requires.fit; view_value = c.loop-k.invariant.1; due_value = mine_due _ _ _ _ _ _ _ _ _ _ _ _ c.in-Mine.is (decodes _ _ _ _ _ _ _ (sym c.decode.ensures ∙ c.in-Read.is)).bytes c.soonest_due-due.ensures }
 
 pub bump-stepped-requires : goal.bump-stepped-requires
-bump-stepped-requires c = record { fit = c.requires.fit; view_value = c.loop-k.invariant.2; t_bound = bump_listed _ _ _ _ _ _ c.in-Bump.is (decodes _ _ _ _ _ _ _ (sym c.decode.ensures ∙ c.in-Read.is)).fields }
+bump-stepped-requires c = record { fit = c.requires.fit; view_value = c.loop-k.invariant.1; t_bound = bump_listed _ _ _ _ _ _ c.in-Bump.is (decodes _ _ _ _ _ _ _ (sym c.decode.ensures ∙ c.in-Read.is)).fields }
 
 pub returns-then-refused-ne0 : goal.returns-then-refused-ne0
 returns-then-refused-ne0 c =
     c.stopped-then-refused-ne0.ensures
-    ∙ left_stopped _ _ _ _ _ _ _ _ c.loop-k.invariant.1 (omega (arith, c.loop-k-test.true)) _ (taken (goal.at.returns-then-refused-ne0 c).Joined-step) _ c.loop-k.invariant.2 c.if-refused-ne0.true
+    ∙ left_stopped _ _ _ _ _ _ _ _ c.loop-k.invariant.0 (omega (arith, c.loop-k-test.true)) _ (taken (goal.at.returns-then-refused-ne0 c).Joined-step) _ c.loop-k.invariant.1 c.if-refused-ne0.true
 
 pub view_over-over-requires : goal.view_over-over-requires
 view_over-over-requires c = c.requires.fit.checked.sized
@@ -101,12 +101,13 @@ noted-counted-requires c = record { fit = c.requires.fit; view_value = seen (goa
 pub loop-k-preserved : goal.loop-k-preserved
 unfolding step_at
 loop-k-preserved c = (
-  omega (arith, c.loop-k-test.true),
-  left_on _ _ _ _ _ _ _ _ c.loop-k.invariant.1 (omega (arith, c.loop-k-test.true)) _ (taken (goal.at.loop-k-preserved c).Joined-step) _ c.if-refused-ne0.false (counted (goal.at.loop-k-preserved c).Joined-asked),
+  left_on _ _ _ _ _ _ _ _ c.loop-k.invariant.0 (omega (arith, c.loop-k-test.true)) _ (taken (goal.at.loop-k-preserved c).Joined-step) _ c.if-refused-ne0.false (counted (goal.at.loop-k-preserved c).Joined-asked),
   seen (goal.at.loop-k-preserved c).Joined-remove-ne0 (taken (goal.at.loop-k-preserved c).Joined-step),
-  known_after _ _ _ _ c.requires.fit.checked.sized.few c.loop-k.invariant.2 _ _ (taken (goal.at.loop-k-preserved c).Joined-step)
+  known_after _ _ _ _ c.requires.fit.checked.sized.few c.loop-k.invariant.1 _ _ (taken (goal.at.loop-k-preserved c).Joined-step)
       c.if-refused-ne0.false _ _ c.soonest_due-due.ensures c.still_due-known.ensures,
 )
 
 pub returns : goal.returns
-returns c = c.stopped-2.ensures ∙ left_ended _ _ _ _ _ _ _ _ c.loop-k.invariant.1 _ c.loop-k.invariant.2 (omega (arith, c.loop-k-test.false))
+returns c =
+    let e : c.loop-k.k ≡ length c.args.journal.now / 4 = omega (arith, c.loop-k-test.false, c.loop-k.auto.k-end) in
+    c.stopped-2.ensures ∙ rw e at (left_ended _ _ _ _ _ _ _ _ c.loop-k.invariant.0 _ c.loop-k.invariant.1 (omega (arith, c.loop-k-test.false)))

@@ -56,12 +56,6 @@ overflow_add-at c =
     let w = turn_end _ _ _ _ c.loop-k.invariant.0 _ (omega (arith, c.loop-k-test.true)) g _ c.write_kept-wrote.ensures.value in
     omega (arith, c.requires.steps_len_bound, w)
 
-pub overflow_add-k-in-loop-k-3 : goal.overflow_add-k-in-loop-k-3
-overflow_add-k-in-loop-k-3 c = record { fits = omega (arith, few (goal.at.overflow_add-k-in-loop-k-3 c).After-again-twin) }
-
-pub loop-k-smaller : goal.loop-k-smaller
-loop-k-smaller c = omega (arith, c.loop-k-test.true)
-
 pub loop-k-preserved : goal.loop-k-preserved
 loop-k-preserved c =
     let g = tried _ _ _ _ _ _ c.loop-k.invariant.2 _ _ _ _ _ c.loop-k.invariant.1 (omega (arith, c.loop-k-test.true)) c.again-twin.ensures

@@ -1,5 +1,4 @@
 -- What is written and what is left to write come to the whole.
-use Rattle.laws.proofs.Prelude.{◌-◌}
 use Rattle.output.proofs.Writing.{Writing}
 use Rattle.call_shrink.proofs.Writing.{bytes_from, bytes_all}
 use Rattle.call_shrink.proofs.Twins.{Twins}
@@ -9,7 +8,3 @@ use Rattle.call_shrink.proofs.round.write_round.Given as goal
 abbrev pub invariant-loop-k : goal.invariant-loop-k
 invariant-loop-k l =
     Writing (bytes_from l.sheet l.setup l.number l.steps) (bytes_all l.sheet l.setup l.number l.steps) l.initial.out l.out l.here l.at l.k × Twins l.sheet l.setup l.number l.steps l.here l.went l.k × Losing l.sheet l.setup l.number l.steps l.lost l.k
-
-abbrev pub decreases-loop-k : goal.decreases-loop-k
-decreases-loop-k l =
-    l.n - l.k

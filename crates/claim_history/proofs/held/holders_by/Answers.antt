@@ -1,17 +1,8 @@
--- The holders of the coins before this one.
-use Rattle.laws.proofs.Prelude.{◌-◌, rules, arith, rewrite_start, rewrite_again, rewrite_done}
-use Rattle.position.proofs.Rules.{reported_holder}
-use Rattle.claim_history.specs.Promise.{holders}
+-- The table's entries are the holders.
+use Rattle.std.proofs.Common.{rules}
+use Rattle.laws.proofs.Prelude.{arith}
+use Rattle.claim_history.proofs.Holders.{holders_of}
 use Rattle.claim_history.proofs.held.holders_by.Goals as goal
 
-pub loop-coin-init : goal.loop-coin-init
-unfolding holders
-loop-coin-init c = (search rules, rewrite_start _ _)
-
-pub loop-coin-preserved : goal.loop-coin-preserved
-unfolding holders
-loop-coin-preserved c = (search rules, rewrite_again _ _ _ _ 255 _ c.loop-coin.invariant.1 c.reported_holder.ensures)
-
 pub returns : goal.returns
-unfolding holders
-returns c = rewrite_done _ _ _ _ _ (omega (arith, c.loop-coin.invariant.0, c.count-n.ensures.is)) (omega (arith, c.loop-coin-test.false, c.count-n.ensures.is)) c.loop-coin.invariant.1
+returns c = holders_of _ _ _ _ (omega arith) (rw c.count.ensures.is at c.filled.ensures) (λ k v l e. search rules)

@@ -1,5 +1,5 @@
 -- What is left to do from each group on comes to the whole.
-use Rattle.laws.proofs.Prelude.{◌-◌, arith}
+use Rattle.laws.proofs.Prelude.{arith}
 use Rattle.claim_history.proofs.Playing.{playing_start, playing_more, playing_done}
 use Rattle.claim_history.proofs.play.play_steps.Goals as goal
 

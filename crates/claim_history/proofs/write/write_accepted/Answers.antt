@@ -1,5 +1,5 @@
 -- What is written and what is left to write come to the whole.
-use Rattle.laws.proofs.Prelude.{◌-◌, arith}
+use Rattle.laws.proofs.Prelude.{arith}
 use Rattle.output.proofs.Writing.{writing_start, writing_more, writing_done}
 use Rattle.claim_history.proofs.Writing.{bytes_start, bytes_turn, bytes_none, turn_room, turn_end}
 use Rattle.claim_history.proofs.write.write_accepted.Goals as goal

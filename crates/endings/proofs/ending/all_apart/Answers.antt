@@ -1,15 +1,9 @@
--- Each transaction below x is apart from all.
-use Rattle.laws.proofs.Prelude.{sym, ◌∙◌, not-true, not-false, rules, arith, all_start, all_more, all_broken, all_done}
+-- Each transaction is apart from all.
+use Rattle.std.proofs.Common.{rules, tests}
+use Rattle.std.proofs.lemmas.Iterator.{YieldsList-from_range}
+use Rattle.laws.proofs.Prelude.{refl, arith}
+use Rattle.laws.proofs.Ranges.{all_of_range}
 use Rattle.endings.proofs.ending.all_apart.Goals as goal
 
-pub loop-x-init : goal.loop-x-init
-loop-x-init c = (search rules, all_start _)
-
-pub returns-then-not-apart_from : goal.returns-then-not-apart_from
-returns-then-not-apart_from c = sym (all_broken _ _ _ (omega (arith, c.loop-x-test.true, c.count-n.ensures.is)) (sym c.apart_from.ensures ∙ not-true _ c.if-not-apart_from.true-raw))
-
-pub loop-x-preserved : goal.loop-x-preserved
-loop-x-preserved c = (search rules, all_more _ _ c.loop-x.invariant.1 (sym c.apart_from.ensures ∙ not-false _ c.if-not-apart_from.false-raw))
-
 pub returns : goal.returns
-returns c = all_done _ _ _ _ (omega (arith, c.loop-x.invariant.0, c.count-n.ensures.is)) (omega (arith, c.loop-x-test.false, c.count-n.ensures.is)) c.loop-x.invariant.1
+returns c = rw (← c.count.ensures.is) (all_of_range c.count.result _ _ _ _ c.all.ensures.ran (YieldsList-from_range 0 _ _ refl (omega arith)) (λ x b q k. search (rules, tests)))

@@ -1,15 +1,9 @@
--- Each transaction below t is named.
-use Rattle.laws.proofs.Prelude.{sym, ◌∙◌, not-true, not-false, rules, all_start, all_more, all_broken, all_done}
+-- Each transaction is named.
+use Rattle.std.proofs.Common.{rules, tests}
+use Rattle.std.proofs.lemmas.Iterator.{YieldsList-from_range}
+use Rattle.laws.proofs.Prelude.{refl, arith}
+use Rattle.laws.proofs.Ranges.{all_of_range}
 use Rattle.endings.proofs.ending.all_named.Goals as goal
 
-pub loop-t-init : goal.loop-t-init
-loop-t-init c = (search rules, all_start _)
-
-pub returns-then-not-paying_named : goal.returns-then-not-paying_named
-returns-then-not-paying_named c = rw (← c.count-n.ensures.is) (sym (all_broken _ _ _ c.loop-t-test.true (sym c.paying_named.ensures ∙ not-true _ c.if-not-paying_named.true-raw)))
-
-pub loop-t-preserved : goal.loop-t-preserved
-loop-t-preserved c = (search rules, all_more _ _ c.loop-t.invariant.1 (sym c.paying_named.ensures ∙ not-false _ c.if-not-paying_named.false-raw))
-
 pub returns : goal.returns
-returns c = rw (← c.count-n.ensures.is) (all_done _ _ _ _ c.loop-t.invariant.0 c.loop-t-test.false c.loop-t.invariant.1)
+returns c = rw (← c.count.ensures.is) (all_of_range c.count.result _ _ _ _ c.all.ensures.ran (YieldsList-from_range 0 _ _ refl (omega arith)) (λ x b q k. search (rules, tests)))

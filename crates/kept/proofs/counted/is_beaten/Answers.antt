@@ -1,16 +1,9 @@
--- None of those below r.
-use Rattle.laws.specs.Below.{any_start, any_more, any_found, any_done}
-use Rattle.laws.proofs.Prelude.{sym, le-leb, lt-leb, rules}
+-- By what each of them is.
+use Rattle.std.proofs.Common.{rules, tests}
+use Rattle.std.proofs.lemmas.Iterator.{YieldsList-from_range}
+use Rattle.laws.proofs.Prelude.{refl, arith}
+use Rattle.laws.proofs.Ranges.{any_of_range}
 use Rattle.kept.proofs.counted.is_beaten.Goals as goal
 
-pub loop-r-init : goal.loop-r-init
-loop-r-init c = (search rules, any_start _)
-
-pub returns-then-beat-t : goal.returns-then-beat-t
-returns-then-beat-t c = sym (any_found _ _ _ c.loop-r-test.true (le-leb _ _ c.if-beat-t.true))
-
-pub loop-r-preserved : goal.loop-r-preserved
-loop-r-preserved c = (search rules, any_more _ _ c.loop-r.invariant.1 (lt-leb _ _ c.if-beat-t.false))
-
 pub returns : goal.returns
-returns c = any_done _ _ _ _ c.loop-r.invariant.0 c.loop-r-test.false c.loop-r.invariant.1
+returns c = any_of_range c.args.n _ _ _ _ c.any.ensures.ran (YieldsList-from_range 0 _ _ refl (omega arith)) (λ x b q k. search (rules, tests))

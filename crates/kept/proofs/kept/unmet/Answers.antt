@@ -1,15 +1,9 @@
--- Those below r.
+-- By what each of them is.
 use Rattle.kept.specs.Forms.Evaluation.{unmet_in}
-use Rattle.laws.specs.Sets.{set_start, set_more, set_done}
+use Rattle.laws.specs.Calls.{set_of}
 use Rattle.laws.proofs.Prelude.{rules}
 use Rattle.kept.proofs.kept.unmet.Goals as goal
 
-pub loop-r-init : goal.loop-r-init
-loop-r-init c = (search rules, set_start _)
-
-pub loop-r-preserved : goal.loop-r-preserved
-loop-r-preserved c = (search rules, set_more _ _ _ _ _ c.loop-r.invariant.1 c.join-found.ensures c.is_unmet-left.ensures)
-
 pub returns : goal.returns
 unfolding unmet_in
-returns c = set_done _ _ _ _ c.loop-r.invariant.0 c.loop-r-test.false c.loop-r.invariant.1
+returns c = set_of _ _ _ _ (search rules) c.below.ensures (λ k b l e. search rules)

@@ -1,6 +1,6 @@
 -- The steps of the destinations before d.
 use Rattle.output.specs.Forms.Emitted.{emitted, opens}
-use Rattle.laws.proofs.Prelude.{Turns, ℕ, ◌-◌, Bool, List}
+use Rattle.laws.proofs.Prelude.{Turns, ℕ, Bool, List}
 use Rattle.output.proofs.open.write_at.Given as goal
 
 -- what turn d writes
@@ -10,7 +10,3 @@ turn on kind actor t d = emitted (opens on d) kind actor t d
 abbrev pub invariant-loop-d : goal.invariant-loop-d
 invariant-loop-d l =
     Turns (turn l.on l.kind l.actor l.t) 4 l.initial.out l.out l.at l.d
-
-abbrev pub decreases-loop-d : goal.decreases-loop-d
-decreases-loop-d l =
-    4 - l.d

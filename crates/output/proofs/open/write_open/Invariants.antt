@@ -1,12 +1,8 @@
 -- The steps of the kinds before k + 1.
 use Rattle.output.specs.Forms.Emitted.{kind_bytes}
-use Rattle.laws.proofs.Prelude.{Turns, ◌-◌}
+use Rattle.laws.proofs.Prelude.{Turns}
 use Rattle.output.proofs.open.write_open.Given as goal
 
 abbrev pub invariant-loop-k : goal.invariant-loop-k
 invariant-loop-k l =
     Turns (kind_bytes l.below l.last l.actor) 7 l.initial.out l.out l.at l.k
-
-abbrev pub decreases-loop-k : goal.decreases-loop-k
-decreases-loop-k l =
-    7 - l.k

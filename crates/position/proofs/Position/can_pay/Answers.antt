@@ -1,25 +1,18 @@
--- Some transaction pays. None below t does.
+-- Some transaction pays.
+use Rattle.std.proofs.Common.{rules, tests}
+use Rattle.std.proofs.lemmas.Iterator.{YieldsList-from_range}
+use Rattle.laws.proofs.Prelude.{refl, arith, length_of_map, ◌∙◌, ◌≡◌, length}
+use Rattle.laws.proofs.Ranges.{any_of_range}
 use Rattle.position.specs.Position.{slot}
-use Rattle.position.proofs.Guards.{pays_turn, pays_found, pays_none}
-use Rattle.laws.proofs.Prelude.{any_start, any_more, length_of_map, ◌≡◌, sym, ◌∙◌, length, rules}
+use Rattle.position.proofs.Rules.{since_in}
+use Rattle.position.proofs.Guards.{all_paid, pays_at}
 use Rattle.position.proofs.Position.can_pay.Goals as goal
 
-pub loop-t-init : goal.loop-t-init
-loop-t-init c = (search rules, any_start _)
-
-pub returns-then-pays : goal.returns-then-pays
-unfolding slot
-returns-then-pays c =
-    let l : length c.args.self.slots ≡ 32 = search (length_of_map, c.well_formed) in
-    pays_found _ _ _ _ _ _ c.requires.fit l c.requires.view_value c.send_guards-o.ensures _ _ c.count-n.ensures.is c.loop-t-test.true
-    (sym (pays_turn _ _ _ _ _ _ _ _ _ _ c.slot_above-up.ensures.0 c.block_above-since.ensures
-    c.pays.ensures) ∙ c.if-pays.true)
-
-pub loop-t-preserved : goal.loop-t-preserved
-unfolding slot
-loop-t-preserved c = (search rules, any_more _ _ c.loop-t.invariant.1 (sym (pays_turn _ _ _ _ _ _ _ _ _ _ c.slot_above-up.ensures.0 c.block_above-since.ensures c.pays.ensures) ∙ c.if-pays.false))
-
 pub returns : goal.returns
+unfolding pays_at since_in slot
 returns c =
     let l : length c.args.self.slots ≡ 32 = search (length_of_map, c.well_formed) in
-    pays_none _ _ _ _ _ _ c.requires.fit l c.requires.view_value c.send_guards-o.ensures _ _ c.count-n.ensures.is c.loop-t.invariant.0 c.loop-t-test.false c.loop-t.invariant.1
+    any_of_range c.count.result (pays_at c.args.sheet.now c.args.setup.now c.args.self c.args.view c.send_guards-o.result c.args.party) _ _ _ c.any.ensures.ran
+    (YieldsList-from_range 0 _ _ refl (omega arith))
+    (λ x b q k. search (rules, tests))
+    ∙ rw c.count.ensures.is (all_paid _ _ _ _ _ _ c.requires.fit l c.requires.view_value c.send_guards-o.ensures)

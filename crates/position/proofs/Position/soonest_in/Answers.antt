@@ -1,24 +1,17 @@
--- The best of those below t, the next of the set.
-use Rattle.position.proofs.Due.{soonest_below, soonest_first, soonest_next}
-use Rattle.position.specs.Forms.Owed.{soonest_in}
-use Rattle.position.specs.Forms.View.{since_in}
-use Rattle.position.specs.Position.{slot}
-use Rattle.laws.proofs.Prelude.{least_done}
+-- The best of the members that were gone through.
+use Rattle.position.proofs.Due.{soonest_first, soonest_next, soonest_done}
+use Rattle.slots.proofs.Walks.{walk_start, walk_turn, walk_on, walk_end}
+use Rattle.laws.proofs.Prelude.{rules}
 use Rattle.position.proofs.Position.soonest_in.Goals as goal
 
 pub loop-t-init : goal.loop-t-init
-loop-t-init c = (c.next-t.ensures.high, c.next-t.ensures.here, soonest_first _ _ _ _ _ _ _ c.next-t.ensures)
+loop-t-init c = rw c.into_iter-t-iterator.ensures.into_iter_gives (walk_start _ _ _ (search rules) c.members-t-items.ensures (soonest_first _ _ _ _ _))
 
 pub loop-t-preserved : goal.loop-t-preserved
-unfolding since_in slot
-loop-t-preserved c = (
-  c.next-t-in-loop-t.ensures.high,
-  c.next-t-in-loop-t.ensures.here,
-  soonest_next _ _ _ _ _ _ _ _ _ _ _ _ _ c.next-t-in-loop-t.ensures (c.loop-t.invariant.1 c.loop-t-test.true) c.loop-t.invariant.2
-      (rw (← c.slot_above-up.ensures.0) c.block_above-since.ensures)
-      c.deadline-height.ensures.is c.ahead.ensures c.lower-best.ensures,
-)
+loop-t-preserved c =
+    let h = walk_turn c.loop-t.invariant _ _ c.in-Some.ensures.steps in
+    walk_on c.loop-t.invariant _ _ h
+    (soonest_next _ _ _ _ _ _ _ _ _ _ _ _ h.gap h.here c.loop-t.invariant.done c.deadline_with-height.ensures.is c.ahead.ensures c.lower-best.ensures)
 
 pub returns : goal.returns
-unfolding soonest_in soonest_below
-returns c = rw (← c.count-n.ensures.is) (least_done _ _ _ _ _ _ c.loop-t.invariant.0 c.loop-t-test.false c.loop-t.invariant.2)
+returns c = soonest_done _ _ _ _ _ _ _ _ (walk_end c.loop-t.invariant c.in-None.ensures.steps) c.count-n.ensures.is c.loop-t.invariant.done

@@ -1,12 +1,7 @@
 -- The view of the transactions below k.
 use Rattle.position.specs.Forms.View.{view_below}
-use Rattle.laws.proofs.Prelude.{◌-◌, ◌≤◌, ◌≡◌}
+use Rattle.laws.proofs.Prelude.{◌≡◌}
 use Rattle.position.proofs.Position.view.Given as goal
 
 abbrev pub invariant-loop-k : goal.invariant-loop-k
-invariant-loop-k l =
-    (l.k ≤ l.n) × (l.v ≡ view_below l.sheet l.k l.self)
-
-abbrev pub decreases-loop-k : goal.decreases-loop-k
-decreases-loop-k l =
-    l.n - l.k
+invariant-loop-k l = l.v ≡ view_below l.sheet l.k l.self

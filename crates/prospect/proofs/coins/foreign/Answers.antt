@@ -1,14 +1,8 @@
--- Those below t.
-use Rattle.laws.proofs.Prelude.{refl, rules, arith}
-use Rattle.soonest.proofs.Tables.{filled_start, filled_more, filled_done}
+-- By the coins of all.
+use Rattle.std.proofs.Common.{rules, tests}
+use Rattle.soonest.proofs.Tables.{filled_of}
 use Rattle.prospect.proofs.Entries.{foreign_is}
 use Rattle.prospect.proofs.coins.foreign.Goals as goal
 
-pub loop-t-init : goal.loop-t-init
-loop-t-init c = (search rules, filled_start _ _ refl)
-
-pub loop-t-preserved : goal.loop-t-preserved
-loop-t-preserved c = (search rules, filled_more _ _ _ _ c.loop-t.invariant.1 (search rules) (foreign_is _ _ c.coins-coins.ensures _ _ (search rules) c.others.ensures))
-
 pub returns : goal.returns
-returns c = filled_done _ _ _ _ (omega (arith, c.loop-t-test.false, c.count-n.ensures.is)) c.loop-t.invariant.1
+returns c = filled_of _ _ _ _ (rw c.count.ensures.is at c.filled.ensures) (λ k v l e. foreign_is _ _ c.coins-coins.ensures _ _ l (search (rules, tests)))

@@ -1,18 +1,7 @@
--- Those below t.
-use Rattle.laws.proofs.Prelude.{refl, rules, arith}
-use Rattle.soonest.proofs.Tables.{filled_start, filled_more, filled_done}
+-- An entry for each.
+use Rattle.std.proofs.Common.{rules, tests}
+use Rattle.soonest.proofs.Tables.{filled_of}
 use Rattle.prospect.proofs.come.elsewhere.Goals as goal
 
-pub loop-t-init : goal.loop-t-init
-loop-t-init c = (search rules, filled_start _ _ refl)
-
-pub attainable_elsewhere-requires : goal.attainable_elsewhere-requires
-attainable_elsewhere-requires c =
-    let h = c.requires.filled.each c.loop-t.t (omega (arith, c.loop-t-test.true, c.count-n.ensures.is)) in
-    search rules
-
-pub loop-t-preserved : goal.loop-t-preserved
-loop-t-preserved c = (search rules, filled_more _ _ _ _ c.loop-t.invariant.1 (search rules) c.attainable_elsewhere.ensures)
-
 pub returns : goal.returns
-returns c = filled_done _ _ _ _ (omega (arith, c.loop-t-test.false, c.count-n.ensures.is)) c.loop-t.invariant.1
+returns c = rw (← c.count.ensures.is) (filled_of _ _ _ _ c.filled.ensures (λ k v l e. search (rules, tests)))

@@ -1,16 +1,15 @@
 -- The secrets of those below t.
-use Rattle.laws.proofs.Prelude.{rules}
 use Rattle.attainable.specs.Forms.Round.{shown_at, shown_in}
 use Rattle.attainable.proofs.Masks.{union_start, union_more, union_done}
 use Rattle.prospect.proofs.knows.known_of.Goals as goal
 
 pub loop-t-init : goal.loop-t-init
-loop-t-init c = (search rules, union_start _)
+loop-t-init c = union_start _
 
 pub loop-t-preserved : goal.loop-t-preserved
 unfolding shown_at
-loop-t-preserved c = (search rules, union_more _ _ _ _ c.loop-t.invariant.1 c.shown_by-found.ensures)
+loop-t-preserved c = union_more _ _ _ _ c.loop-t.invariant c.shown_by-found.ensures
 
 pub returns : goal.returns
 unfolding shown_in
-returns c = rw (← c.count-n.ensures.is, ← (union_done _ _ _ _ c.loop-t.invariant.0 c.loop-t-test.false c.loop-t.invariant.1))
+returns c = rw (← c.count-t-end.ensures.is, ← (union_done _ _ _ _ c.loop-t.auto.t-end c.loop-t-test.false c.loop-t.invariant))

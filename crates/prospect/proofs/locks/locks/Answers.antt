@@ -7,14 +7,14 @@ use Rattle.prospect.proofs.LockHeights.{block_small, own_lock}
 use Rattle.prospect.proofs.locks.locks.Goals as goal
 
 pub loop-t-init : goal.loop-t-init
-loop-t-init c = (search rules, filled_start _ _ refl)
+loop-t-init c = filled_start _ _ refl
 
 pub lock_at-requires : goal.lock_at-requires
 unfolding since_in slot
 lock_at-requires c =
     let h =
     block_small c.args.sheet.now c.args.setup.now c.args.position c.requires.checked c.loop-t.t
-    (omega (arith, c.loop-t-test.true, c.count-n.ensures.is))
+    (omega (arith, c.loop-t-test.true, c.count-t-end.ensures.is))
     _ c.per_day-per_day.ensures _ c.soonest_blocks-soonest.ensures c.block_above-since.result c.block_or-e.result
     (rw (← c.slot_above-up.ensures.0) c.block_above-since.ensures) (search rules) (rw (← c.above.ensures) c.block_or-e.ensures) in
     search rules
@@ -24,11 +24,11 @@ unfolding since_in slot
 loop-t-preserved c =
     let h =
     own_lock c.args.sheet.now c.args.setup.now c.args.position c.requires.checked c.loop-t.t
-    (omega (arith, c.loop-t-test.true, c.count-n.ensures.is))
+    (omega (arith, c.loop-t-test.true, c.count-t-end.ensures.is))
     _ c.per_day-per_day.ensures _ c.soonest_blocks-soonest.ensures c.block_above-since.result c.block_or-e.result
     (rw (← c.slot_above-up.ensures.0) c.block_above-since.ensures) (search rules) (rw (← c.above.ensures) c.block_or-e.ensures)
     _ c.lock_at.ensures in
-    (search rules, filled_more _ _ _ _ c.loop-t.invariant.1 (search rules) h)
+    filled_more _ _ _ _ c.loop-t.invariant (search rules) h
 
 pub returns : goal.returns
-returns c = filled_done _ _ _ _ (omega (arith, c.loop-t-test.false, c.count-n.ensures.is)) c.loop-t.invariant.1
+returns c = filled_done _ _ _ _ (omega (arith, c.loop-t-test.false, c.count-t-end.ensures.is)) c.loop-t.invariant

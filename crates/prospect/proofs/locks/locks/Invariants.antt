@@ -1,13 +1,8 @@
 -- Those below t.
-use Rattle.laws.proofs.Prelude.{◌-◌, ◌≤◌}
 use Rattle.soonest.specs.Forms.Table.{Filled}
 use Rattle.prospect.specs.Forms.Marks.{OwnLock}
 use Rattle.prospect.proofs.locks.locks.Given as goal
 
 abbrev pub invariant-loop-t : goal.invariant-loop-t
 invariant-loop-t l =
-    (l.t ≤ l.n) × Filled (OwnLock l.sheet l.setup l.position) l.t l.table
-
-abbrev pub decreases-loop-t : goal.decreases-loop-t
-decreases-loop-t l =
-    l.n - l.t
+    Filled (OwnLock l.sheet l.setup l.position) l.t l.table

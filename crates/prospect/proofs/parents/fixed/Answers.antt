@@ -1,13 +1,7 @@
--- Those below t.
-use Rattle.laws.proofs.Prelude.{rules}
-use Rattle.laws.specs.Sets.{set_start, set_more, set_done}
+-- Those that pass.
+use Rattle.std.proofs.Common.{rules, tests}
+use Rattle.laws.specs.Calls.{set_of}
 use Rattle.prospect.proofs.parents.fixed.Goals as goal
 
-pub loop-t-init : goal.loop-t-init
-loop-t-init c = (search rules, set_start _)
-
-pub loop-t-preserved : goal.loop-t-preserved
-loop-t-preserved c = (search rules, set_more _ _ _ _ _ c.loop-t.invariant.1 c.join-found.ensures c.parent_there.ensures)
-
 pub returns : goal.returns
-returns c = rw (← c.count-n.ensures.is) (set_done _ _ _ _ c.loop-t.invariant.0 c.loop-t-test.false c.loop-t.invariant.1)
+returns c = rw (← c.count.ensures.is) (set_of _ _ _ _ (search rules) c.below.ensures (λ k b l e. search (rules, tests)))

@@ -1,13 +1,8 @@
 -- The heights in the places before i.
-use Rattle.laws.proofs.Prelude.{◌-◌, ◌≤◌}
 use Rattle.prospect.specs.Forms.Tables.{Cells}
 use Rattle.prospect.specs.Forms.Until.{Holds, Lasts}
 use Rattle.prospect.proofs.until.until.Given as goal
 
 abbrev pub invariant-loop-i : goal.invariant-loop-i
 invariant-loop-i l =
-    (l.i ≤ l.n) × (Holds l.sheet l.others l.found × Cells (Lasts l.sheet l.marks l.others) l.i l.table)
-
-abbrev pub decreases-loop-i : goal.decreases-loop-i
-decreases-loop-i l =
-    l.n - l.i
+    Holds l.sheet l.others l.found × Cells (Lasts l.sheet l.marks l.others) l.i l.table

@@ -1,20 +1,11 @@
--- Some child of t is in the set. None below k is.
+-- Some child of t is in the set.
+use Rattle.std.proofs.Common.{rules, tests}
+use Rattle.std.proofs.lemmas.Iterator.{YieldsList-from_range}
+use Rattle.laws.proofs.Prelude.{refl, arith}
+use Rattle.laws.proofs.Ranges.{any_of_range}
 use Rattle.readings.specs.Holder.{confirmed_child}
-use Rattle.laws.proofs.Prelude.{any_start, any_more, any_found, any_done, sym, ◌∙◌, rules}
 use Rattle.readings.proofs.holder.confirmed_child.Goals as goal
-
-pub loop-k-init : goal.loop-k-init
-unfolding confirmed_child
-loop-k-init c = (search rules, any_start _)
-
-pub returns-then-child_there : goal.returns-then-child_there
-unfolding confirmed_child
-returns-then-child_there c = rw (← c.count-n.ensures.is) (sym (any_found _ _ _ c.loop-k-test.true (sym c.child_there.ensures ∙ c.if-child_there.true)))
-
-pub loop-k-preserved : goal.loop-k-preserved
-unfolding confirmed_child
-loop-k-preserved c = (search rules, any_more _ _ c.loop-k.invariant.1 (sym c.child_there.ensures ∙ c.if-child_there.false))
 
 pub returns : goal.returns
 unfolding confirmed_child
-returns c = rw (← c.count-n.ensures.is) (any_done _ _ _ _ c.loop-k.invariant.0 c.loop-k-test.false c.loop-k.invariant.1)
+returns c = rw (← c.count.ensures.is) (any_of_range c.count.result _ _ _ _ c.any.ensures.ran (YieldsList-from_range 0 _ _ refl (omega arith)) (λ x b q k. search (rules, tests)))

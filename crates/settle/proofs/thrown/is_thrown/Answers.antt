@@ -1,15 +1,9 @@
--- None below y throws g out.
-use Rattle.laws.proofs.Prelude.{sym, ◌∙◌, rules, any_start, any_more, any_found, any_done}
+-- By what each of them is.
+use Rattle.std.proofs.Common.{rules, tests}
+use Rattle.std.proofs.lemmas.Iterator.{YieldsList-from_range}
+use Rattle.laws.proofs.Prelude.{refl, arith}
+use Rattle.laws.proofs.Ranges.{any_of_range}
 use Rattle.settle.proofs.thrown.is_thrown.Goals as goal
 
-pub loop-y-init : goal.loop-y-init
-loop-y-init c = (search rules, any_start _)
-
-pub returns-then-throws : goal.returns-then-throws
-returns-then-throws c = rw (← c.count-n.ensures.is) (sym (any_found _ _ _ c.loop-y-test.true (sym c.throws.ensures ∙ c.if-throws.true)))
-
-pub loop-y-preserved : goal.loop-y-preserved
-loop-y-preserved c = (search rules, any_more _ _ c.loop-y.invariant.1 (sym c.throws.ensures ∙ c.if-throws.false))
-
 pub returns : goal.returns
-returns c = rw (← c.count-n.ensures.is) (any_done _ _ _ _ c.loop-y.invariant.0 c.loop-y-test.false c.loop-y.invariant.1)
+returns c = rw (← c.count.ensures.is) (any_of_range c.count.result _ _ _ _ c.any.ensures.ran (YieldsList-from_range 0 _ _ refl (omega arith)) (λ x b q k. search (rules, tests)))

@@ -1,12 +1,9 @@
--- Those below g.
-use Rattle.laws.proofs.Prelude.{rules, set_start, set_more, set_done}
+-- By what each of them is.
+use Rattle.std.proofs.Common.{rules, tests}
+use Rattle.laws.specs.Calls.{set_of}
+use Rattle.settle.specs.Forms.Thrown.{stays_in}
 use Rattle.settle.proofs.thrown.staying.Goals as goal
 
-pub loop-g-init : goal.loop-g-init
-loop-g-init c = (search rules, set_start _)
-
-pub loop-g-preserved : goal.loop-g-preserved
-loop-g-preserved c = (search rules, set_more _ _ _ _ _ c.loop-g.invariant.1 c.join-found.ensures c.stays.ensures)
-
 pub returns : goal.returns
-returns c = rw (← c.count-n.ensures.is) (set_done _ _ _ _ c.loop-g.invariant.0 c.loop-g-test.false c.loop-g.invariant.1)
+unfolding stays_in
+returns c = rw (← c.count.ensures.is) (set_of _ _ _ _ (search rules) c.below.ensures (λ k b l e. search (rules, tests)))

@@ -1,12 +1,7 @@
 -- The parents of the members below k.
 use Rattle.sheet.specs.Forms.Parents.{Parents}
-use Rattle.laws.proofs.Prelude.{bit, ◌-◌, ◌≤◌}
+use Rattle.laws.proofs.Prelude.{bit}
 use Rattle.sheet.proofs.parents.parents_of.Given as goal
 
 abbrev pub invariant-loop-k : goal.invariant-loop-k
-invariant-loop-k l =
-    (l.k ≤ l.n) × Parents l.sheet (bit l.members) l.k l.parents
-
-abbrev pub decreases-loop-k : goal.decreases-loop-k
-decreases-loop-k l =
-    l.n - l.k
+invariant-loop-k l = Parents l.sheet (bit l.members) l.k l.parents

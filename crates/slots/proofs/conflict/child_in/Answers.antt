@@ -1,18 +1,15 @@
--- None below k, the next of the set, is a child.
-use Rattle.slots.proofs.Children.{child_first, child_next, child_found}
-use Rattle.sheet.specs.Forms.Parents.{is_parent_below}
-use Rattle.laws.proofs.Prelude.{any_done, rules}
+-- Looked for above the transaction itself, since children have higher numbers.
+use Rattle.std.proofs.Common.{rules, tests}
+use Rattle.laws.proofs.Prelude.{◌∙◌}
+use Rattle.slots.proofs.Children.{no_child_before, child_among}
+use Rattle.slots.proofs.Walks.{calls_members, any_members}
 use Rattle.slots.proofs.conflict.child_in.Goals as goal
 
-pub loop-k-init : goal.loop-k-init
-loop-k-init c = (c.next-k.ensures.high, c.next-k.ensures.here, child_first _ _ _ _ _ (search rules) (search rules) c.next-k.ensures)
-
-pub returns-then-parent-up : goal.returns-then-parent-up
-returns-then-parent-up c = rw (← c.count-n.ensures.is) (child_found _ _ _ _ _ _ c.loop-k-test.true (c.loop-k.invariant.1 c.loop-k-test.true) c.parent.ensures.is c.if-parent-up.true)
-
-pub loop-k-preserved : goal.loop-k-preserved
-loop-k-preserved c = (c.next-k-in-loop-k.ensures.high, c.next-k-in-loop-k.ensures.here, child_next _ _ _ _ _ _ _ c.next-k-in-loop-k.ensures c.loop-k.invariant.2 c.parent.ensures.is c.if-parent-up.false)
+pub any-requires-clause-callable : goal.any-requires-clause-callable
+any-requires-clause-callable c = calls_members _ _ _ (search rules) c.members_from.ensures (λ x q k. search rules) (λ x l b. search rules)
 
 pub returns : goal.returns
-unfolding is_parent_below
-returns c = rw (← c.count-n.ensures.is) (any_done _ _ _ _ c.loop-k.invariant.0 c.loop-k-test.false c.loop-k.invariant.2)
+returns c =
+    rw (← c.count-n.ensures.is)
+    (any_members _ _ _ _ _ _ _ (search rules) (search rules) c.members_from.ensures (no_child_before _ _ _ c.requires.checked c.requires.up_bound) c.any.ensures.ran (λ x b q k. search (rules, tests))
+    ∙ child_among _ _ _ _)

@@ -5,16 +5,16 @@ use Rattle.soonest.proofs.Tables.{filled_start, filled_more, filled_done, soones
 use Rattle.soonest.proofs.block.soonest_blocks.Goals as goal
 
 pub loop-t-init : goal.loop-t-init
-loop-t-init c = (search rules, filled_start _ _ refl)
+loop-t-init c = filled_start _ _ refl
 
 pub soonest_over-requires : goal.soonest_over-requires
 soonest_over-requires c =
-    let h = (soonest_above_lem _ _ _ _ _ _ c.loop-t.invariant.1 _ _ (omega arith) c.above-e.ensures).small in
+    let h = (soonest_above_lem _ _ _ _ _ _ c.loop-t.invariant _ _ (omega arith) c.above-e.ensures).small in
     search rules
 
 pub loop-t-preserved : goal.loop-t-preserved
 unfolding block_of slot
-loop-t-preserved c = (search rules, filled_more _ _ _ _ c.loop-t.invariant.1 (search rules) (soonest_next _ _ _ _ _ _ _ _ refl (soonest_above_lem _ _ _ _ _ _ c.loop-t.invariant.1 _ _ (omega arith) c.above-e.ensures) c.soonest_over.ensures))
+loop-t-preserved c = filled_more _ _ _ _ c.loop-t.invariant (search rules) (soonest_next _ _ _ _ _ _ _ _ refl (soonest_above_lem _ _ _ _ _ _ c.loop-t.invariant _ _ (omega arith) c.above-e.ensures) c.soonest_over.ensures)
 
 pub returns : goal.returns
-returns c = filled_done _ _ _ _ (omega (arith, c.loop-t-test.false, c.count-n.ensures.is)) c.loop-t.invariant.1
+returns c = filled_done _ _ _ _ (omega (arith, c.loop-t-test.false, c.count-n.ensures.is)) c.loop-t.invariant
