@@ -30,13 +30,18 @@ fn texts(file: &str) -> String {
         .collect()
 }
 
-/// `pub const SHEET_SHORT: u32 = 1;`
+/// `    SheetShort = 1,`, as SHEET_SHORT, and `pub const ACCEPTED: u32 = 0;`
 fn code() -> Names {
-    texts("src/refusal.rt")
+    let text = texts("src/refusal.rt");
+    let variants = text
+        .lines()
+        .filter_map(|line| line.strip_prefix("    ")?.strip_suffix(',')?.split_once(" = "))
+        .map(|(name, rest)| (upper(name).trim_start_matches('_').to_string(), number(rest)));
+    let constants = text
         .lines()
         .filter_map(|line| line.strip_prefix("pub const ")?.split_once(": u32 = "))
-        .map(|(name, rest)| (name.to_string(), number(rest)))
-        .collect()
+        .map(|(name, rest)| (name.to_string(), number(rest)));
+    variants.chain(constants).collect()
 }
 
 /// `X(SWAP_SHEET_COUNT, 2, "number of transactions outside 1 to 32") \`
@@ -48,11 +53,12 @@ fn header() -> Names {
         .collect()
 }
 
-/// `sheetShort = 1`, as SHEET_SHORT
+/// `sheet_short = 1`, as SHEET_SHORT
 fn definitions() -> Names {
     texts("specs/Refusal.antt")
         .lines()
         .filter_map(|line| line.split_once(" = "))
+        .filter(|(_, rest)| rest.starts_with(|c: char| c.is_ascii_digit()))
         .map(|(name, rest)| (upper(name), number(rest)))
         .collect()
 }

@@ -11,6 +11,7 @@ ghost use Rattle.soonest.specs.Forms.Table.{Filled};
 ghost use Rattle.attainable.specs.Forms.Others.{Lacks};
 
 use position::Position;
+use sheet::field::Sheet;
 use sheet::{set, table};
 use slots::party;
 
@@ -25,15 +26,14 @@ fn wide(mask: u8) -> u16
 }
 
 // Whether t may be shared for a destination.
-fn shares_to(sheet: &[u8], t: usize, destination: u8) -> bool
-    requires sized { Sized sheet.now }
-    requires t_bound { t < count sheet.now }
-    ensures { result ≡ shares_to sheet.now t destination }
+fn shares_to(sheet: &Sheet, t: usize, destination: u8) -> bool
+    requires t_bound { t < count sheet.now.bytes }
+    ensures { result ≡ shares_to sheet.now.bytes t destination }
 {
     if party::is_contract(sheet, t) {
         return destination == 2;
     }
-    if sheet::field::is_party(sheet, destination) {
+    if sheet.is_party(destination) {
         return party::is_payee(sheet, t, destination);
     }
     false
@@ -41,7 +41,7 @@ fn shares_to(sheet: &[u8], t: usize, destination: u8) -> bool
 
 // What is lacking of t for a destination, where `held` is what the others have of all, and `given` what is shared of t for it.
 fn lack_of(
-    sheet: &[u8],
+    sheet: &Sheet,
     barred: bool,
     party: u8,
     held: u8,
@@ -49,9 +49,9 @@ fn lack_of(
     destination: u8,
     t: usize,
 ) -> u16
-    requires checked { Checked sheet.now }
-    requires t_bound { t < count sheet.now }
-    ensures { Lacks sheet.now barred party (bit_or held given) destination t result }
+    requires checked { Checked sheet.now.bytes }
+    requires t_bound { t < count sheet.now.bytes }
+    ensures { Lacks sheet.now.bytes barred party (bit_or held given) destination t result }
 {
     if barred {
         return UNMET;
@@ -62,22 +62,22 @@ fn lack_of(
     if destination == party {
         return UNMET;
     }
-    wide(sheet::field::required(sheet, t) & !(held | given))
+    wide(sheet.required(t) & !(held | given))
 }
 
 // What the others lack of each transaction for a destination, where `unsent` are those that they never send.
 pub fn lacks(
     position: Position,
-    sheet: &[u8],
+    sheet: &Sheet,
     unsent: u32,
     party: u8,
     held: u8,
     destination: u8,
 ) -> [u16; 32]
-    requires { Checked sheet.now }
-    ensures { Filled (λ t v. Lacks sheet.now (bit unsent t) party (bit_or held (shared_for (slot position t) destination)) destination t v) (count sheet.now) result }
+    requires { Checked sheet.now.bytes }
+    ensures { Filled (λ t v. Lacks sheet.now.bytes (bit unsent t) party (bit_or held (shared_for (slot position t) destination)) destination t v) (count sheet.now.bytes) result }
 {
-    table::filled(sheet::field::count(sheet), 0, |t| {
+    table::filled(sheet.count(), 0, |t| {
         let given = position.slots[t].shared_for(destination);
         lack_of(
             sheet,

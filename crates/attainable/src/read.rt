@@ -15,6 +15,7 @@ ghost use Rattle.attainable.specs.Forms.Others.{alice_guards, names_apart, waits
 use crate::{Others, lack};
 use position::Position;
 use readings::report;
+use sheet::field::Sheet;
 use sheet::{set, table};
 use slots::{Slot, conflict, lock_height, party, signatures};
 use steps::names::{SECRET_BOB, SUCCESS};
@@ -27,21 +28,20 @@ const NOWHERE: u8 = 255;
 const CAREFUL: u8 = 2;
 
 // Those that are confirmed or dead, where `conflicted` has those whose other rival is confirmed.
-fn gone(sheet: &[u8], confirmed: u32, conflicted: u32) -> u32
-    requires { Sized sheet.now }
-    ensures { result ≡ set_below (count sheet.now) (λ t. bit confirmed t || dead_in sheet.now confirmed conflicted t) }
+fn gone(sheet: &Sheet, confirmed: u32, conflicted: u32) -> u32
+    ensures { result ≡ set_below (count sheet.now.bytes) (λ t. bit confirmed t || dead_in sheet.now.bytes confirmed conflicted t) }
 {
     set::below(
-        sheet::field::count(sheet),
+        sheet.count(),
         |t| set::has(confirmed, t) || report::dead_in(sheet, confirmed, conflicted, t),
     )
 }
 
 // Whether without stealth the deadline of t is passed.
-fn overdue(position: Position, sheet: &[u8], setup: &[u8], t: usize) -> bool
-    requires fit { Fit sheet.now setup.now }
-    requires t_bound { t < count sheet.now }
-    ensures { result ≡ overdue sheet.now setup.now position t }
+fn overdue(position: Position, sheet: &Sheet, setup: &[u8], t: usize) -> bool
+    requires fit { Fit sheet.now.bytes setup.now }
+    requires t_bound { t < count sheet.now.bytes }
+    ensures { result ≡ overdue sheet.now.bytes setup.now position t }
 {
     if sheet::setup::stealth(setup) != 0 {
         return false;
@@ -67,10 +67,10 @@ fn alice_guards(position: Position) -> Guards
 }
 
 // Whether a careful Alice no longer sends t.
-fn forgone(position: Position, sheet: &[u8], setup: &[u8], t: usize) -> bool
-    requires fit { Fit sheet.now setup.now }
-    requires t_bound { t < count sheet.now }
-    ensures { result ≡ forgone sheet.now setup.now position t }
+fn forgone(position: Position, sheet: &Sheet, setup: &[u8], t: usize) -> bool
+    requires fit { Fit sheet.now.bytes setup.now }
+    requires t_bound { t < count sheet.now.bytes }
+    ensures { result ≡ forgone sheet.now.bytes setup.now position t }
 {
     if sheet::setup::conduct(setup) != CAREFUL {
         return false;
@@ -79,10 +79,10 @@ fn forgone(position: Position, sheet: &[u8], setup: &[u8], t: usize) -> bool
 }
 
 // Whether the others never send t: it is overdue, or the party is Bob and a careful Alice no longer sends it.
-fn never_sent(position: Position, sheet: &[u8], setup: &[u8], party: u8, t: usize) -> bool
-    requires fit { Fit sheet.now setup.now }
-    requires t_bound { t < count sheet.now }
-    ensures { result ≡ never_sent sheet.now setup.now position party t }
+fn never_sent(position: Position, sheet: &Sheet, setup: &[u8], party: u8, t: usize) -> bool
+    requires fit { Fit sheet.now.bytes setup.now }
+    requires t_bound { t < count sheet.now.bytes }
+    ensures { result ≡ never_sent sheet.now.bytes setup.now position party t }
 {
     if overdue(position, sheet, setup, t) {
         return true;
@@ -94,12 +94,12 @@ fn never_sent(position: Position, sheet: &[u8], setup: &[u8], party: u8, t: usiz
 }
 
 // Those that the others never send.
-fn unsent(position: Position, sheet: &[u8], setup: &[u8], party: u8) -> u32
-    requires { Fit sheet.now setup.now }
-    ensures { result ≡ set_below (count sheet.now) (never_sent sheet.now setup.now position party) }
+fn unsent(position: Position, sheet: &Sheet, setup: &[u8], party: u8) -> u32
+    requires { Fit sheet.now.bytes setup.now }
+    ensures { result ≡ set_below (count sheet.now.bytes) (never_sent sheet.now.bytes setup.now position party) }
 {
     set::below(
-        sheet::field::count(sheet),
+        sheet.count(),
         |t| never_sent(position, sheet, setup, party, t),
     )
 }
@@ -128,21 +128,16 @@ fn waits_in(x: Slot, off: u8) -> bool
 }
 
 // Those that wait for such a destination.
-fn waits(position: Position, sheet: &[u8], off: u8) -> u32
-    requires { Sized sheet.now }
-    ensures { result ≡ set_below (count sheet.now) (λ t. waits_in (slot position t) off) }
+fn waits(position: Position, sheet: &Sheet, off: u8) -> u32
+    ensures { result ≡ set_below (count sheet.now.bytes) (λ t. waits_in (slot position t) off) }
 {
-    set::below(
-        sheet::field::count(sheet),
-        |t| waits_in(position.slots[t], off),
-    )
+    set::below(sheet.count(), |t| waits_in(position.slots[t], off))
 }
 
 // Whether the party may send t for a destination other than `off`.
-fn sends_in(sheet: &[u8], party: u8, off: u8, t: usize) -> bool
-    requires sized { Sized sheet.now }
-    requires t_bound { t < count sheet.now }
-    ensures { result ≡ sends_in sheet.now party off t }
+fn sends_in(sheet: &Sheet, party: u8, off: u8, t: usize) -> bool
+    requires t_bound { t < count sheet.now.bytes }
+    ensures { result ≡ sends_in sheet.now.bytes party off t }
 {
     if party::is_contract(sheet, t) {
         return 2 != off;
@@ -157,14 +152,10 @@ fn sends_in(sheet: &[u8], party: u8, off: u8, t: usize) -> bool
 }
 
 // Those that it may.
-fn sends(sheet: &[u8], party: u8, off: u8) -> u32
-    requires { Sized sheet.now }
-    ensures { result ≡ set_below (count sheet.now) (sends_in sheet.now party off) }
+fn sends(sheet: &Sheet, party: u8, off: u8) -> u32
+    ensures { result ≡ set_below (count sheet.now.bytes) (sends_in sheet.now.bytes party off) }
 {
-    set::below(
-        sheet::field::count(sheet),
-        |t| sends_in(sheet, party, off, t),
-    )
+    set::below(sheet.count(), |t| sends_in(sheet, party, off, t))
 }
 
 // The keys of a party, none for X.
@@ -178,11 +169,10 @@ fn other_keys(view: View, party: u8, other: u8) -> u8
 }
 
 // The keys of all the others.
-fn others_keys(view: View, sheet: &[u8], party: u8) -> u8
-    requires { Sized sheet.now }
-    ensures { result ≡ union_below (parties sheet.now) (λ k. pick (eqb (party_at k) party) 0 (keys_in view (party_at k))) }
+fn others_keys(view: View, sheet: &Sheet, party: u8) -> u8
+    ensures { result ≡ union_below (parties sheet.now.bytes) (λ k. pick (eqb (party_at k) party) 0 (keys_in view (party_at k))) }
 {
-    let n = sheet::field::parties(sheet);
+    let n = sheet.parties();
     let mut found: u8 = 0;
     for k in 0..n {
         found = found | other_keys(view, party, sheet::field::party_at(k));
@@ -191,26 +181,25 @@ fn others_keys(view: View, sheet: &[u8], party: u8) -> u8
 }
 
 // The secrets that each transaction shows.
-fn shows(sheet: &[u8]) -> [u8; 32]
-    requires { Sized sheet.now }
-    ensures { Filled (λ t v. v ≡ secrets_of sheet.now t) (count sheet.now) result }
+fn shows(sheet: &Sheet) -> [u8; 32]
+    ensures { Filled (λ t v. v ≡ secrets_of sheet.now.bytes t) (count sheet.now.bytes) result }
 {
-    let secrets = sheet::field::secrets(sheet);
+    let secrets = sheet.secrets();
     table::filled(
-        sheet::field::count(sheet),
+        sheet.count(),
         0,
         |t| secrets & signatures::exposed_mask(sheet, t),
     )
 }
 
 // What is read for a party.
-pub fn read(position: Position, sheet: &[u8], setup: &[u8], party: u8) -> Others
-    requires { Fit sheet.now setup.now }
-    ensures { Reads sheet.now setup.now position party result }
+pub fn read(position: Position, sheet: &Sheet, setup: &[u8], party: u8) -> Others
+    requires { Fit sheet.now.bytes setup.now }
+    ensures { Reads sheet.now.bytes setup.now position party result }
 {
     let view = position.view(sheet);
     let conflicted = conflict::conflicts_of(sheet, view.confirmed, true);
-    let secrets = sheet::field::secrets(sheet) & view.shared;
+    let secrets = sheet.secrets() & view.shared;
     let held = others_keys(view, sheet, party) | secrets;
     let unsent = unsent(position, sheet, setup, party);
     Others {

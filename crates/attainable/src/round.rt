@@ -9,6 +9,7 @@ ghost use Rattle.attainable.specs.Forms.Others.{meets};
 ghost use Rattle.attainable.specs.Forms.Round.{meets_one, signers, reach_set, shown_in, Attains, AttainsElsewhere};
 
 use crate::Others;
+use sheet::field::Sheet;
 use sheet::set;
 use steps::parent;
 
@@ -36,11 +37,10 @@ fn meets_one(secrets: u32, alice: u16, bob: u16, contract: u16, carol: u16) -> b
 }
 
 // Those that the others can sign for some destination with these secrets.
-fn signers(others: Others, sheet: &[u8], secrets: u32) -> u32
-    requires { Sized sheet.now }
-    ensures { result ≡ signers sheet.now others secrets }
+fn signers(others: Others, sheet: &Sheet, secrets: u32) -> u32
+    ensures { result ≡ signers sheet.now.bytes others secrets }
 {
-    set::below(sheet::field::count(sheet), |t| {
+    set::below(sheet.count(), |t| {
         meets_one(
             secrets,
             others.alice[t],
@@ -52,10 +52,9 @@ fn signers(others: Others, sheet: &[u8], secrets: u32) -> u32
 }
 
 // Whether t is in the set `can`, and its parent is none or there.
-fn reaches(sheet: &[u8], can: u32, there: u32, t: usize) -> bool
-    requires sized { Sized sheet.now }
-    requires t_bound { t < count sheet.now }
-    ensures { result ≡ (bit can t && has_parent sheet.now (bit there) t) }
+fn reaches(sheet: &Sheet, can: u32, there: u32, t: usize) -> bool
+    requires t_bound { t < count sheet.now.bytes }
+    ensures { result ≡ (bit can t && has_parent sheet.now.bytes (bit there) t) }
 {
     if set::has(can, t) {
         return parent::parent_there(sheet, there, t);
@@ -64,11 +63,11 @@ fn reaches(sheet: &[u8], can: u32, there: u32, t: usize) -> bool
 }
 
 // Those of the set `can` whose line is in it up to an opening or a child of a confirmed one. Parents come first.
-fn reach(sheet: &[u8], confirmed: u32, can: u32) -> u32
-    requires { Checked sheet.now }
-    ensures { result ≡ reach_set sheet.now confirmed can }
+fn reach(sheet: &Sheet, confirmed: u32, can: u32) -> u32
+    requires { Checked sheet.now.bytes }
+    ensures { result ≡ reach_set sheet.now.bytes confirmed can }
 {
-    let n = sheet::field::count(sheet);
+    let n = sheet.count();
     let mut found: u32 = 0;
     for t in 0..n {
         found = set::join(found, reaches(sheet, can, confirmed | found, t), t);
@@ -88,11 +87,10 @@ fn shown_by(members: u32, secrets: u8, t: usize) -> u8
 }
 
 // The secrets that the members of a set show.
-fn shown(shows: [u8; 32], sheet: &[u8], members: u32) -> u8
-    requires { Sized sheet.now }
-    ensures { result ≡ shown_in sheet.now shows members }
+fn shown(shows: [u8; 32], sheet: &Sheet, members: u32) -> u8
+    ensures { result ≡ shown_in sheet.now.bytes shows members }
 {
-    let n = sheet::field::count(sheet);
+    let n = sheet.count();
     let mut found: u8 = 0;
     for t in 0..n {
         found = found | shown_by(members, shows[t], t);
@@ -108,9 +106,9 @@ fn wide(secrets: u8) -> u32
 }
 
 // What can come without the party, which sends transactions of the set `also`: again while more secrets are shown.
-pub fn attainable(others: Others, sheet: &[u8], also: u32) -> u32
-    requires { Checked sheet.now }
-    ensures { Attains sheet.now others also result }
+pub fn attainable(others: Others, sheet: &Sheet, also: u32) -> u32
+    requires { Checked sheet.now.bytes }
+    ensures { Attains sheet.now.bytes others also result }
 {
     let asked = others.waits | (also & others.sends);
     let mut secrets: u8 = 0;
@@ -127,10 +125,10 @@ pub fn attainable(others: Others, sheet: &[u8], also: u32) -> u32
 }
 
 // Of these, `attained`, those that can come with a destination other than the party.
-pub fn attainable_elsewhere(others: Others, sheet: &[u8], also: u32, attained: u32) -> u32
-    requires checked { Checked sheet.now }
-    requires attains { Attains sheet.now others also attained }
-    ensures { AttainsElsewhere sheet.now others also result }
+pub fn attainable_elsewhere(others: Others, sheet: &Sheet, also: u32, attained: u32) -> u32
+    requires checked { Checked sheet.now.bytes }
+    requires attains { Attains sheet.now.bytes others also attained }
+    ensures { AttainsElsewhere sheet.now.bytes others also result }
 {
     let asked = others.waits_elsewhere | (also & others.sends_elsewhere);
     let shows = others.shows;

@@ -8,7 +8,7 @@ use lib.Seq.{take-append_seam, take_at}
 use Rattle.call_run.proofs.Calls.{sheet_passes, setup_passes, journal_whole}
 use Rattle.call_run.proofs.Runs.{run_checked}
 use Rattle.step_laws.proofs.Theorems.{open_exact}
-use Rattle.call_ask.specs.Refusal.{count_stale}
+use Rattle.sheet.specs.Refusal.{count_stale}
 use Rattle.call_ask.specs.Ask.{length_right, open_run, step_count, step_of, step_number, ask_answer}
 use Rattle.call_ask.specs.Commit.{length_within, commit_run, committed, commit_answer}
 use Rattle.call_ask.specs.Claim.{CommitAsAsked, Passed, NotTwice, Open, AskExact}

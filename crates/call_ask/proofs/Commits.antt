@@ -7,7 +7,7 @@ use Rattle.position.proofs.Rules.{accepted, buffer_short, step, run}
 use Rattle.position.specs.declared.Ran.{Ran}
 use lib.ListN.{drop_of_length-le}
 use borrow.Rule.Slice.PartMut.{put_mid}
-use Rattle.call_ask.specs.Refusal.{count_stale}
+use Rattle.sheet.specs.Refusal.{count_stale}
 use Rattle.call_ask.specs.Ask.{length_right, open_run, step_count, step_of, step_number, own}
 use Rattle.call_ask.specs.Commit.{length_within, commit_run, commit_tests, committed, commit_answer}
 use Rattle.call_ask.proofs.Own.{own_passes, own_fails, own_parts}

@@ -3,7 +3,7 @@
 use Rattle.laws.proofs.Prelude.{ℕ, ◌≡◌, refl, ap, true, false, List, [], ◌∷◌, ◌++◌, length, get_or, take, drop, arith}
 use Rattle.position.proofs.Rules.{accepted, setup_blocks, step_field, step_conflict, journal_length, buffer_short, run}
 use Rattle.position.proofs.Opened.{opened}
-use Rattle.call_ask.specs.Refusal.{count_stale}
+use Rattle.sheet.specs.Refusal.{count_stale}
 use Rattle.call_ask.specs.Ask.{length_right, open_tests, open_run, step_count, step_of, step_number, ask_tests, ask_answer}
 use Rattle.call_ask.specs.Commit.{length_within, commit_run, commit_tests, committed, commit_answer}
 use Rattle.call_ask.specs.Claim.{Passed, Open}

@@ -3,10 +3,9 @@
 use Rattle.std.specs.Prelude.{ℕ, ◌+◌, ◌<◌, ◌≡◌, ◌&&◌, eqb, ltb, length, take, drop}
 use mathlib.Core.List.{List, Memᴰ, ◌++◌}
 use Rattle.laws.specs.Booleans.{pick}
-use Rattle.sheet.specs.Refusal.{accepted, journal_length, buffer_short}
+use Rattle.sheet.specs.Refusal.{accepted, journal_length, buffer_short, count_stale}
 use Rattle.position.specs.Play.{run}
 use Rattle.position.specs.Open.{list_steps}
-use Rattle.call_ask.specs.Refusal.{count_stale}
 use Rattle.call_ask.specs.Ask.{step_count, step_of, ask_answer}
 use Rattle.call_ask.specs.Commit.{commit_answer}
 

@@ -2,10 +2,9 @@
 -- Assumes nothing.
 use Rattle.std.specs.Prelude.{ℕ, ◌+◌, Bool, true, false, ◌&&◌, List, [], ◌∷◌, ◌++◌, eqb, leb, length, take, drop}
 use Rattle.laws.specs.Failing.{first_failing}
-use Rattle.sheet.specs.Refusal.{accepted, buffer_short}
+use Rattle.sheet.specs.Refusal.{accepted, buffer_short, count_stale}
 use Rattle.position.specs.declared.Ran.{Ran}
 use Rattle.position.specs.Answers.{Written}
-use Rattle.call_ask.specs.Refusal.{count_stale}
 use Rattle.call_ask.specs.Ask.{length_right, open_run, step_count, step_number, own}
 
 -- "24 now covers a length beyond the buffer too"

@@ -1,4 +1,3 @@
-pub mod Refusal
 pub mod Ask
 pub mod Commit
 pub mod Claim

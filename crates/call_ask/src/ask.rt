@@ -1,6 +1,7 @@
 // Ask: the journal is run, and the step tried behind it.
 ghost use Rattle.std.specs.Prelude.{◌≡◌, false};
 ghost use Rattle.laws.specs.Failing.{first_failing};
+ghost use Rattle.sheet.specs.Refusal.{refused};
 ghost use Rattle.sheet.specs.Checked.{Fit};
 ghost use Rattle.call_ask.specs.Ask.{length_right, open_tests, open_run, step_number, ask_answer};
 
@@ -9,7 +10,8 @@ use call_run::journal::{ran, step_at};
 use position::journal::start;
 use position::{Position, Ran};
 use sheet::check::sheet_refusal;
-use sheet::refusal;
+use sheet::field::Sheet;
+use sheet::refusal::{Refusal, number_of};
 use sheet::setup::setup_refusal;
 
 // 24: whole steps, and room for one more.
@@ -22,19 +24,13 @@ pub fn length_right(n: usize) -> bool
     n < 65536
 }
 
-// The number of a call whose journal has a wrong length: 1 to 10 before 24.
-fn length_refusal(sheet: &[u8], setup: &[u8]) -> u32
-    ensures { result ≡ first_failing (open_tests sheet.now setup.now false) }
+// The refusal of a call whose journal has a wrong length: 1 to 10 before 24.
+fn length_refusal(sheet: &[u8], setup: &[u8]) -> Result<(), Refusal>
+    ensures { refused result ≡ first_failing (open_tests sheet.now setup.now false) }
 {
-    let of_sheet = sheet_refusal(sheet);
-    if of_sheet != 0 {
-        return of_sheet;
-    }
-    let of_setup = setup_refusal(sheet, setup);
-    if of_setup != 0 {
-        return of_setup;
-    }
-    refusal::JOURNAL_LENGTH
+    sheet_refusal(sheet)?;
+    setup_refusal(sheet, setup)?;
+    Err(Refusal::JournalLength)
 }
 
 // The run of a journal, where its length is right.
@@ -45,19 +41,19 @@ pub fn open_run(sheet: &[u8], setup: &[u8], right: bool, journal: &[u8]) -> Ran
         return ran(sheet, setup, journal);
     }
     Ran {
-        refusal: length_refusal(sheet, setup),
+        refusal: number_of(length_refusal(sheet, setup)),
         accepted: 0,
         position: start(sheet),
     }
 }
 
 // The step's own refusal on a position.
-pub fn step_number(position: Position, sheet: &[u8], setup: &[u8], step: &[u8]) -> u32
-    requires { Fit sheet.now setup.now }
-    ensures { result ≡ step_number sheet.now setup.now position step.now }
+pub fn step_number(position: Position, sheet: &Sheet, setup: &[u8], step: &[u8]) -> u32
+    requires { Fit sheet.now.bytes setup.now }
+    ensures { result ≡ step_number sheet.now.bytes setup.now position step.now }
 {
     if step.len() != 4 {
-        return refusal::STEP_FIELD;
+        return Refusal::StepField as u32;
     }
     let stepped = step_at(position, sheet, setup, step, 0);
     stepped.refusal
@@ -78,7 +74,7 @@ pub fn ask(sheet: &[u8], setup: &[u8], journal: &[u8], step: &[u8]) -> Asked
     }
     let position = ran.position;
     Asked {
-        refusal: step_number(position, sheet, setup, step),
+        refusal: step_number(position, &Sheet::of(sheet), setup, step),
         count,
     }
 }

@@ -5,9 +5,9 @@ ghost use Rattle.laws.specs.Over.{over};
 ghost use Rattle.call_ask.specs.Commit.{commit_run, commit_tests, commit_answer};
 
 use crate::ask::{length_right, open_run, step_number};
-use crate::refusal::COUNT_STALE;
 use position::Ran;
-use sheet::refusal::{ACCEPTED, BUFFER_SHORT};
+use sheet::field::Sheet;
+use sheet::refusal::{ACCEPTED, Refusal};
 
 // The run of the journal, the first n bytes of the buffer.
 fn commit_run(sheet: &[u8], setup: &[u8], buffer: &[u8], n: usize) -> Ran
@@ -19,7 +19,7 @@ fn commit_run(sheet: &[u8], setup: &[u8], buffer: &[u8], n: usize) -> Ran
     open_run(sheet, setup, length_right(n), &buffer[..n])
 }
 
-// The refusal of a commit, 0 where the step is to be written.
+// The refusal of a commit, 0 where the step is to be written: a number, since a run and a step answer theirs as one.
 fn commit_refusal(
     sheet: &[u8],
     setup: &[u8],
@@ -35,15 +35,15 @@ fn commit_refusal(
         return ran.refusal;
     }
     if count != ran.accepted {
-        return COUNT_STALE;
+        return Refusal::CountStale as u32;
     }
     let position = ran.position;
-    let of_step = step_number(position, sheet, setup, step);
+    let of_step = step_number(position, &Sheet::of(sheet), setup, step);
     if of_step != 0 {
         return of_step;
     }
     if buffer.len() - n < 4 {
-        return BUFFER_SHORT;
+        return Refusal::BufferShort as u32;
     }
     ACCEPTED
 }

@@ -11,7 +11,7 @@ use Rattle.ledger.specs.Entry.{Entry, in_order}
 use Rattle.ledger.specs.Ledger.{ledger}
 use Rattle.steps.specs.Decode.{shares_to}
 use Rattle.position.specs.Tests.{block_limit}
-use Rattle.call_blocks.specs.Refusal.{blocks_field, blocks_order, blocks_ledger}
+use Rattle.sheet.specs.Refusal.{blocks_field, blocks_order, blocks_ledger}
 
 -- "A list has 4 bytes for each entry: transaction, destination, block (2 bytes)."
 unfoldable pub list_entries : List ℕ → List Entry

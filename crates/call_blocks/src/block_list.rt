@@ -1,6 +1,7 @@
 // The tests of a block list: 29 over the whole list, then 30, then 31.
 ghost use Rattle.std.specs.Prelude.{◌+◌, ◌≤◌, ◌<◌, ◌≡◌, ◌&&◌, length};
 ghost use Rattle.laws.specs.Failing.{first_failing};
+ghost use Rattle.sheet.specs.Refusal.{refused};
 ghost use Rattle.sheet.specs.Field.{count, Sized};
 ghost use Rattle.sheet.specs.Checked.{Fit};
 ghost use Rattle.ledger.specs.Entry.{before};
@@ -8,8 +9,10 @@ ghost use Rattle.steps.specs.Decode.{shares_to};
 ghost use Rattle.call_blocks.specs.BlockList.{list_entries, entry_named, fields_named, block_within, entries_rise, list_tests};
 ghost use Rattle.call_blocks.specs.Forms.Listed.{listed_at, entry_of};
 
-use crate::{Listed, kept, refusal};
+use crate::{Listed, kept};
+use sheet::field::Sheet;
 use sheet::little::u16_at;
+use sheet::refusal::{Refusal, require};
 use slots::party;
 
 // The last block that a list may have.
@@ -28,36 +31,33 @@ pub fn listed_at(list: &[u8], i: usize) -> Listed
 }
 
 // Whether t goes to a destination: a contract transaction to 2, a paying one to a payee.
-fn goes_to(sheet: &[u8], t: usize, destination: u8) -> bool
-    requires sized { Sized sheet.now }
-    requires t_bound { t < count sheet.now }
-    ensures { result ≡ shares_to sheet.now t destination }
+fn goes_to(sheet: &Sheet, t: usize, destination: u8) -> bool
+    requires t_bound { t < count sheet.now.bytes }
+    ensures { result ≡ shares_to sheet.now.bytes t destination }
 {
     if party::is_contract(sheet, t) {
         return destination == 2;
     }
-    if sheet::field::is_party(sheet, destination) {
+    if sheet.is_party(destination) {
         return party::is_payee(sheet, t, destination);
     }
     false
 }
 
 // Whether an entry's transaction is of the sheet, and goes to its destination.
-fn entry_named(sheet: &[u8], entry: Listed) -> bool
-    requires { Sized sheet.now }
-    ensures { result ≡ entry_named sheet.now (entry_of entry) }
+fn entry_named(sheet: &Sheet, entry: Listed) -> bool
+    ensures { result ≡ entry_named sheet.now.bytes (entry_of entry) }
 {
     let t = sheet::field::wide(entry.transaction);
-    if t < sheet::field::count(sheet) {
+    if t < sheet.count() {
         return goes_to(sheet, t, entry.destination);
     }
     false
 }
 
 // 29: whole entries, each with a transaction of the sheet and a destination of it.
-fn fields_named(sheet: &[u8], list: &[u8]) -> bool
-    requires { Sized sheet.now }
-    ensures { result ≡ fields_named sheet.now list.now }
+fn fields_named(sheet: &Sheet, list: &[u8]) -> bool
+    ensures { result ≡ fields_named sheet.now.bytes list.now }
 {
     if list.len() % 4 != 0 {
         return false;
@@ -114,19 +114,15 @@ fn entries_rise(list: &[u8]) -> bool
     true
 }
 
-// The first of 29, 30 and 31 that fails, 0 where none does.
-pub fn list_refusal(sheet: &[u8], setup: &[u8], list: &[u8]) -> u32
-    requires { Fit sheet.now setup.now }
-    ensures { result ≡ first_failing (list_tests sheet.now setup.now list.now) }
+// The first of 29, 30 and 31 that fails.
+pub fn list_refusal(sheet: &Sheet, setup: &[u8], list: &[u8]) -> Result<(), Refusal>
+    requires { Fit sheet.now.bytes setup.now }
+    ensures { refused result ≡ first_failing (list_tests sheet.now.bytes setup.now list.now) }
 {
-    if !fields_named(sheet, list) {
-        return refusal::BLOCKS_FIELD;
-    }
-    if !entries_rise(list) {
-        return refusal::BLOCKS_ORDER;
-    }
-    if !kept::ledger_accepts(sheet, sheet::setup::per_day(setup), list) {
-        return refusal::BLOCKS_LEDGER;
-    }
-    sheet::refusal::ACCEPTED
+    require(fields_named(sheet, list), Refusal::BlocksField)?;
+    require(entries_rise(list), Refusal::BlocksOrder)?;
+    require(
+        kept::ledger_accepts(sheet, sheet::setup::per_day(setup), list),
+        Refusal::BlocksLedger,
+    )
 }

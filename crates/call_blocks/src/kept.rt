@@ -9,43 +9,44 @@ ghost use Rattle.call_blocks.specs.Forms.Listed.{entry_of, last_of};
 
 use crate::Listed;
 use crate::block_list::listed_at;
+use sheet::field::Sheet;
 use slots::lock_height::{lock_height, wide};
 
 // Whether an entry opens its coin, for which none is kept.
-fn opens(sheet: &[u8], per_day: u16, entry: Listed) -> bool
-    requires checked { Checked sheet.now }
-    requires transaction_bound { entry.transaction < count sheet.now }
-    ensures { result ≡ fits sheet.now per_day none (entry_of entry) }
+fn opens(sheet: &Sheet, per_day: u16, entry: Listed) -> bool
+    requires checked { Checked sheet.now.bytes }
+    requires transaction_bound { entry.transaction < count sheet.now.bytes }
+    ensures { result ≡ fits sheet.now.bytes per_day none (entry_of entry) }
 {
     let t = sheet::field::wide(entry.transaction);
-    if sheet::field::opening(sheet, t) {
+    if sheet.opening(t) {
         return lock_height(sheet, per_day, 0, t) < wide(entry.block);
     }
     false
 }
 
 // Whether an entry spends the last one kept for its coin.
-fn spends(sheet: &[u8], per_day: u16, last: Listed, entry: Listed) -> bool
-    requires checked { Checked sheet.now }
-    requires transaction_bound { entry.transaction < count sheet.now }
+fn spends(sheet: &Sheet, per_day: u16, last: Listed, entry: Listed) -> bool
+    requires checked { Checked sheet.now.bytes }
+    requires transaction_bound { entry.transaction < count sheet.now.bytes }
     requires block_nonzero { 0 < last.block }
-    ensures { result ≡ fits sheet.now per_day (some (entry_of last)) (entry_of entry) }
+    ensures { result ≡ fits sheet.now.bytes per_day (some (entry_of last)) (entry_of entry) }
 {
     let t = sheet::field::wide(entry.transaction);
-    if sheet::field::opening(sheet, t) {
+    if sheet.opening(t) {
         return false;
     }
-    if sheet::field::wide(last.transaction) == sheet::field::parent(sheet, t) {
+    if sheet::field::wide(last.transaction) == sheet.parent(t) {
         return lock_height(sheet, per_day, last.block, t) < wide(entry.block);
     }
     false
 }
 
 // Whether an entry fits what is kept for its coin.
-fn fits(sheet: &[u8], per_day: u16, last: Listed, entry: Listed) -> bool
-    requires checked { Checked sheet.now }
-    requires transaction_bound { entry.transaction < count sheet.now }
-    ensures { result ≡ fits sheet.now per_day (last_of last) (entry_of entry) }
+fn fits(sheet: &Sheet, per_day: u16, last: Listed, entry: Listed) -> bool
+    requires checked { Checked sheet.now.bytes }
+    requires transaction_bound { entry.transaction < count sheet.now.bytes }
+    ensures { result ≡ fits sheet.now.bytes per_day (last_of last) (entry_of entry) }
 {
     if last.block == 0 {
         return opens(sheet, per_day, entry);
@@ -54,10 +55,10 @@ fn fits(sheet: &[u8], per_day: u16, last: Listed, entry: Listed) -> bool
 }
 
 // 31: whether the ledger takes the list, whose fields are right. An entry in block 0 is none.
-pub fn ledger_accepts(sheet: &[u8], per_day: u16, list: &[u8]) -> bool
-    requires checked { Checked sheet.now }
-    requires list_value { fields_named sheet.now list.now ≡ true }
-    ensures { result ≡ (ledger sheet.now per_day (list_entries list.now)).accepts }
+pub fn ledger_accepts(sheet: &Sheet, per_day: u16, list: &[u8]) -> bool
+    requires checked { Checked sheet.now.bytes }
+    requires list_value { fields_named sheet.now.bytes list.now ≡ true }
+    ensures { result ≡ (ledger sheet.now.bytes per_day (list_entries list.now)).accepts }
 {
     let none = Listed {
         transaction: 0,

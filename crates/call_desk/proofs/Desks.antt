@@ -5,7 +5,7 @@ use Rattle.laws.proofs.Prelude.{arith, split, first_failing, passed, passed_appe
 use Rattle.laws.proofs.Prelude.{over}
 use Rattle.position.proofs.Rules.{accepted, buffer_short, array_tests, sheet_tests, sheet_refusal, Written, fitted}
 use Rattle.position.proofs.Passing.{written, not_written, fitted_bounds}
-use Rattle.call_desk.specs.Refusal.{bundle_layout}
+use Rattle.sheet.specs.Refusal.{bundle_layout}
 use Rattle.call_desk.specs.Bundle.{swaps, bundle_right}
 use Rattle.call_desk.specs.Desk.{swap_run, entry_bytes, swap_bytes, desk_bytes, desk_tests, desk_answer}
 

@@ -3,9 +3,8 @@
 use Rattle.laws.proofs.Prelude.{ℕ, zero, suc, ◌+◌, ◌*◌, ◌≤◌, ◌<◌, ◌≡◌, refl, ap, true, false, List, [], ◌∷◌, ◌++◌, ◌⊎◌, inl, inr, length, get_or, replicate, set}
 use Rattle.laws.proofs.Prelude.{length-set, arith, get_or-set_other, either, sum_below}
 use Rattle.position.proofs.Rules.{accepted, buffer_short}
-use Rattle.sheet.specs.Refusal.{sheet_length}
+use Rattle.sheet.specs.Refusal.{sheet_length, bundle_layout}
 use Rattle.position.proofs.Opened.{opened}
-use Rattle.call_desk.specs.Refusal.{bundle_layout}
 use Rattle.call_desk.specs.Bundle.{swaps, setup_of, length_of, journals, start_of, journal_of, adds_up, bundle_right}
 use Rattle.call_desk.specs.Desk.{swap_run, entry_bytes, swap_bytes, desk_bytes, desk_tests, desk_answer}
 use Rattle.call_desk.specs.Claim.{number_of, count_of, SwapApart, Reordered}

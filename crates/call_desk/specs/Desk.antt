@@ -4,12 +4,11 @@ use Rattle.std.specs.Prelude.{ℕ, Bool, true, false, List, [], ◌∷◌, ◌++
 use Rattle.laws.specs.Failing.{first_failing}
 use Rattle.laws.specs.Gather.{gather}
 use Rattle.laws.specs.Little.{bytes_of}
-use Rattle.sheet.specs.Refusal.{accepted}
+use Rattle.sheet.specs.Refusal.{accepted, bundle_layout}
 use Rattle.sheet.specs.Check.{sheet_tests}
 use Rattle.position.specs.declared.Ran.{Ran}
 use Rattle.position.specs.Play.{run}
 use Rattle.position.specs.Answers.{Written, fitted}
-use Rattle.call_desk.specs.Refusal.{bundle_layout}
 use Rattle.call_desk.specs.Bundle.{swaps, setup_of, journal_of, bundle_right}
 
 -- the run of swap i: of the sheet, its setup and its journal, whatever the others get. "A refusal in one swap doesn't touch the others."

@@ -1,4 +1,3 @@
-pub mod Refusal
 pub mod Bundle
 pub mod Desk
 pub mod Claim

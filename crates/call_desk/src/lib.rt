@@ -4,26 +4,20 @@
 
 ghost use Rattle.std.specs.Prelude.{◌≡◌};
 ghost use Rattle.laws.specs.Failing.{first_failing};
+ghost use Rattle.sheet.specs.Refusal.{refused};
 ghost use Rattle.call_desk.specs.Desk.{desk_tests, desk_answer};
 
-use sheet::refusal::{ACCEPTED, BUFFER_SHORT};
+use sheet::refusal::{ACCEPTED, Refusal, require};
 
 mod answers;
 mod bundle;
-pub mod refusal;
 
 // The checks of the whole call: the sheet's 1 to 8, once for all swaps, then 28.
-fn call_refusal(sheet: &[u8], bundle: &[u8]) -> u32
-    ensures { result ≡ first_failing (desk_tests sheet.now bundle.now) }
+fn call_refusal(sheet: &[u8], bundle: &[u8]) -> Result<(), Refusal>
+    ensures { refused result ≡ first_failing (desk_tests sheet.now bundle.now) }
 {
-    let of_sheet = sheet::check::sheet_refusal(sheet);
-    if of_sheet != 0 {
-        return of_sheet;
-    }
-    if !bundle::bundle_right(bundle) {
-        return refusal::BUNDLE_LAYOUT;
-    }
-    ACCEPTED
+    sheet::check::sheet_refusal(sheet)?;
+    require(bundle::bundle_right(bundle), Refusal::BundleLayout)
 }
 
 // Runs every swap of a bundle: the refusal of the call; where there is none, the swaps' answers stand at the front of the buffer.
@@ -31,13 +25,12 @@ pub fn desk(sheet: &[u8], bundle: &[u8], out: &mut [u8]) -> u32
     ensures value { result ≡ (desk_answer sheet.now bundle.now out.old).refusal }
     ensures out_after { out.new ≡ (desk_answer sheet.now bundle.now out.old).buffer }
 {
-    let of_call = call_refusal(sheet, bundle);
-    if of_call != 0 {
-        return of_call;
+    if let Err(refusal) = call_refusal(sheet, bundle) {
+        return refusal.number();
     }
     let n = bundle::swaps(bundle);
     if out.len() < 8 * n {
-        return BUFFER_SHORT;
+        return Refusal::BufferShort as u32;
     }
     answers::write_answers(sheet, bundle, out);
     ACCEPTED

@@ -3,10 +3,13 @@
 #![tactic(auto)]
 
 ghost use Rattle.std.specs.Prelude.{◌≡◌};
+ghost use Rattle.sheet.specs.Refusal.{refused};
 ghost use Rattle.call_earliest.specs.Answer.{earliest_refusal, earliest_answer};
 
 use endings::ending::ending_refusal;
 use sheet::check::sheet_refusal;
+use sheet::field::Sheet;
+use sheet::refusal::Refusal;
 use sheet::setup::setup_refusal;
 
 pub mod members;
@@ -15,23 +18,18 @@ pub mod plan;
 // The answer: the refusal, and the entries written.
 #[derive(Clone, Copy)]
 pub struct Planned {
+    // a number, as in earliest_answer of specs/Answer.antt
     pub refusal: u32,
     pub count: u32,
 }
 
-// The first of 1 to 10, 33 and 34 that fails, 0 where none does.
-fn earliest_refusal(sheet: &[u8], setup: &[u8], mask: u32, dests: &[u8]) -> u32
-    ensures { result ≡ earliest_refusal sheet.now setup.now mask dests.now }
+// The first of 1 to 10, 33 and 34 that fails.
+fn earliest_refusal(sheet: &[u8], setup: &[u8], mask: u32, dests: &[u8]) -> Result<(), Refusal>
+    ensures { refused result ≡ earliest_refusal sheet.now setup.now mask dests.now }
 {
-    let of_sheet = sheet_refusal(sheet);
-    if of_sheet != 0 {
-        return of_sheet;
-    }
-    let of_setup = setup_refusal(sheet, setup);
-    if of_setup != 0 {
-        return of_setup;
-    }
-    ending_refusal(sheet, setup, mask, dests)
+    sheet_refusal(sheet)?;
+    setup_refusal(sheet, setup)?;
+    ending_refusal(&Sheet::of(sheet), setup, mask, dests)
 }
 
 // Writes the block list that confirms the transactions of a mask and their ancestors, each at its earliest block: the refusal, and
@@ -41,9 +39,17 @@ pub fn earliest(sheet: &[u8], setup: &[u8], mask: u32, dests: &[u8], out: &mut [
     ensures count_value { result.count ≡ (earliest_answer sheet.now setup.now mask dests.now out.old).count }
     ensures out_after { out.new ≡ (earliest_answer sheet.now setup.now mask dests.now out.old).buffer }
 {
-    let refusal = earliest_refusal(sheet, setup, mask, dests);
-    if refusal != 0 {
-        return Planned { refusal, count: 0 };
+    if let Err(refusal) = earliest_refusal(sheet, setup, mask, dests) {
+        return Planned {
+            refusal: refusal.number(),
+            count: 0,
+        };
     }
-    plan::write_plan(sheet, sheet::setup::per_day(setup), mask, dests, out)
+    plan::write_plan(
+        &Sheet::of(sheet),
+        sheet::setup::per_day(setup),
+        mask,
+        dests,
+        out,
+    )
 }

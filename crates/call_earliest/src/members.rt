@@ -5,21 +5,20 @@ ghost use Rattle.call_earliest.specs.Forms.Table.{members, block_in, table};
 
 use endings::block::earliest_block;
 use endings::planned::is_planned;
+use sheet::field::Sheet;
 use sheet::{set, table};
 
 // All these, as a set.
-pub fn members(sheet: &[u8], mask: u32) -> u32
-    requires { Sized sheet.now }
-    ensures { result ≡ members sheet.now mask }
+pub fn members(sheet: &Sheet, mask: u32) -> u32
+    ensures { result ≡ members sheet.now.bytes mask }
 {
-    set::below(sheet::field::count(sheet), |t| is_planned(sheet, mask, t))
+    set::below(sheet.count(), |t| is_planned(sheet, mask, t))
 }
 
 // The earliest block of t where it is in the set, else one beyond the last.
-fn block_in(sheet: &[u8], per_day: u16, found: u32, t: usize) -> u32
-    requires sized { Sized sheet.now }
-    requires t_bound { t < count sheet.now }
-    ensures { result ≡ block_in sheet.now per_day found t }
+fn block_in(sheet: &Sheet, per_day: u16, found: u32, t: usize) -> u32
+    requires t_bound { t < count sheet.now.bytes }
+    ensures { result ≡ block_in sheet.now.bytes per_day found t }
 {
     if set::has(found, t) {
         return earliest_block(sheet, per_day, t);
@@ -28,13 +27,8 @@ fn block_in(sheet: &[u8], per_day: u16, found: u32, t: usize) -> u32
 }
 
 // A table of these.
-pub fn table(sheet: &[u8], per_day: u16, found: u32) -> [u32; 32]
-    requires { Sized sheet.now }
-    ensures { result ≡ table sheet.now per_day found }
+pub fn table(sheet: &Sheet, per_day: u16, found: u32) -> [u32; 32]
+    ensures { result ≡ table sheet.now.bytes per_day found }
 {
-    table::filled(
-        sheet::field::count(sheet),
-        0,
-        |t| block_in(sheet, per_day, found, t),
-    )
+    table::filled(sheet.count(), 0, |t| block_in(sheet, per_day, found, t))
 }

@@ -6,12 +6,14 @@ ghost use Rattle.std.specs.Prelude.{◌≡◌};
 ghost use Rattle.position.specs.Answers.{list_answer};
 
 use call_run::journal;
+use sheet::field::Sheet;
 
 mod listing;
 
 // The answer of a list: the refusal, and the steps written.
 #[derive(Clone, Copy)]
 pub struct Listed {
+    // a number, as in position's list_answer of specs/Answers.antt
     pub refusal: u32,
     pub count: u32,
 }
@@ -29,5 +31,5 @@ pub fn list(sheet: &[u8], setup: &[u8], journal: &[u8], out: &mut [u8]) -> Liste
             count: 0,
         };
     }
-    listing::write_list(ran.position, sheet, setup, out)
+    listing::write_list(ran.position, &Sheet::of(sheet), setup, out)
 }

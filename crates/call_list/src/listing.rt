@@ -11,7 +11,8 @@ use crate::Listed;
 use output::open;
 use position::Position;
 use queries::OpenSets;
-use sheet::refusal;
+use sheet::field::Sheet;
+use sheet::refusal::{ACCEPTED, Refusal};
 
 // An actor's steps, at the front of the buffer; the answer is their length in bytes.
 fn write_actor(sets: OpenSets, actor: u8, out: &mut [u8]) -> usize
@@ -77,23 +78,23 @@ fn write_fitting(
     let count = sets_count(alice, bob, carol, miner);
     if out.len() < 4 * count {
         return Listed {
-            refusal: refusal::BUFFER_SHORT,
+            refusal: Refusal::BufferShort as u32,
             count: 0,
         };
     }
     write_all(alice, bob, carol, miner, out);
     Listed {
-        refusal: refusal::ACCEPTED,
+        refusal: ACCEPTED,
         count: count as u32,
     }
 }
 
 // The open steps of the position.
-pub fn write_list(position: Position, sheet: &[u8], setup: &[u8], out: &mut [u8]) -> Listed
-    requires { Fit sheet.now setup.now }
-    ensures refusal_value { result.refusal ≡ (fitted (list_bytes sheet.now setup.now position) (length (open_steps sheet.now setup.now position)) out.old).refusal }
-    ensures count_value { result.count ≡ (fitted (list_bytes sheet.now setup.now position) (length (open_steps sheet.now setup.now position)) out.old).count }
-    ensures out_after { out.new ≡ (fitted (list_bytes sheet.now setup.now position) (length (open_steps sheet.now setup.now position)) out.old).buffer }
+pub fn write_list(position: Position, sheet: &Sheet, setup: &[u8], out: &mut [u8]) -> Listed
+    requires { Fit sheet.now.bytes setup.now }
+    ensures refusal_value { result.refusal ≡ (fitted (list_bytes sheet.now.bytes setup.now position) (length (open_steps sheet.now.bytes setup.now position)) out.old).refusal }
+    ensures count_value { result.count ≡ (fitted (list_bytes sheet.now.bytes setup.now position) (length (open_steps sheet.now.bytes setup.now position)) out.old).count }
+    ensures out_after { out.new ≡ (fitted (list_bytes sheet.now.bytes setup.now position) (length (open_steps sheet.now.bytes setup.now position)) out.old).buffer }
 {
     let view = position.view(sheet);
     let o = position.guards(sheet, setup, view);

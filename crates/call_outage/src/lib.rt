@@ -11,7 +11,8 @@ ghost use Rattle.std.specs.Prelude.{◌≡◌};
 ghost use Rattle.call_outage.specs.Answer.{outage_answer};
 
 use call_run::journal;
-use sheet::refusal;
+use sheet::field::Sheet;
+use sheet::refusal::{ACCEPTED, Refusal};
 
 // The verdicts of an outage of so many blocks: the refusal; where there is none, the rows stand at the front of the buffer.
 pub fn outage(sheet: &[u8], setup: &[u8], journal: &[u8], blocks: u32, out: &mut [u8]) -> u32
@@ -24,9 +25,9 @@ pub fn outage(sheet: &[u8], setup: &[u8], journal: &[u8], blocks: u32, out: &mut
     }
     let n = sheet::field::count(sheet);
     if out.len() < 10 * n {
-        return refusal::BUFFER_SHORT;
+        return Refusal::BufferShort as u32;
     }
     let position = ran.position;
-    rows::write_rows(position, sheet, setup, blocks, out);
-    refusal::ACCEPTED
+    rows::write_rows(position, &Sheet::of(sheet), setup, blocks, out);
+    ACCEPTED
 }

@@ -12,6 +12,7 @@ ghost use Rattle.call_outage.specs.Forms.Row.{row_in};
 use crate::{payees, row, verdict};
 use position::Position;
 use readings::report;
+use sheet::field::Sheet;
 use slots::{conflict, lock_height};
 use soonest::{block, deadline, table};
 use steps::{View, parent};
@@ -28,7 +29,7 @@ fn block_from(dead: bool, soonest: u32) -> u32
 
 // The row of t, at the front of the buffer.
 fn write_at(
-    sheet: &[u8],
+    sheet: &Sheet,
     setup: &[u8],
     view: View,
     conflicted: u32,
@@ -39,11 +40,11 @@ fn write_at(
     t: usize,
     out: &mut [u8],
 )
-    requires fit { Fit sheet.now setup.now }
-    requires t_bound { t < count sheet.now }
-    requires t_bound_2 { table_above sheet.now soonest t < 3000000000 }
+    requires fit { Fit sheet.now.bytes setup.now }
+    requires t_bound { t < count sheet.now.bytes }
+    requires t_bound_2 { table_above sheet.now.bytes soonest t < 3000000000 }
     requires in_bounds { 10 ≤ length out.old }
-    ensures { out.new ≡ over (row_in sheet.now setup.now view conflicted soonest lines since blocks t) out.old }
+    ensures { out.new ≡ over (row_in sheet.now.bytes setup.now view conflicted soonest lines since blocks t) out.old }
 {
     let per_day = sheet::setup::per_day(setup);
     let dead = report::dead_in(sheet, view.confirmed, conflicted, t);
@@ -56,17 +57,17 @@ fn write_at(
 }
 
 // The rows, at the front of the buffer. What they are made of is read once: the view, whose other rival is confirmed, soonest blocks, lines.
-pub fn write_rows(position: Position, sheet: &[u8], setup: &[u8], blocks: u32, out: &mut [u8])
-    requires fit { Fit sheet.now setup.now }
-    requires sheet_in_bounds { 10 * count sheet.now ≤ length out.old }
-    ensures { out.new ≡ over (outage_bytes sheet.now setup.now position blocks) out.old }
+pub fn write_rows(position: Position, sheet: &Sheet, setup: &[u8], blocks: u32, out: &mut [u8])
+    requires fit { Fit sheet.now.bytes setup.now }
+    requires sheet_in_bounds { 10 * count sheet.now.bytes ≤ length out.old }
+    ensures { out.new ≡ over (outage_bytes sheet.now.bytes setup.now position blocks) out.old }
 {
     let per_day = sheet::setup::per_day(setup);
     let view = position.view(sheet);
     let conflicted = conflict::conflicts_of(sheet, view.confirmed, true);
     let soonest = block::soonest_blocks(position, sheet, per_day);
     let lines = payees::lines(sheet);
-    for t in 0..sheet::field::count(sheet) {
+    for t in 0..sheet.count() {
         let up = parent::slot_above(sheet, t);
         let above = position.slots[up];
         let since = parent::block_above(sheet, t, above.height);

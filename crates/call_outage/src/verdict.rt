@@ -6,6 +6,7 @@ ghost use Rattle.sheet.specs.Checked.{Fit};
 ghost use Rattle.call_outage.specs.Verdict.{is_covered, is_passed, exposed};
 ghost use Rattle.call_outage.specs.Forms.Row.{safe_in, verdict_in};
 
+use sheet::field::Sheet;
 use sheet::set;
 use steps::{View, parent};
 
@@ -57,10 +58,9 @@ fn exposed(mined: u16, blocks: u32, stealth: u8, deadline: u32) -> u8
 }
 
 // Whether t is safe in the pool.
-fn safe(sheet: &[u8], view: View, t: usize) -> bool
-    requires sized { Sized sheet.now }
-    requires t_bound { t < count sheet.now }
-    ensures { result ≡ safe_in sheet.now view t }
+fn safe(sheet: &Sheet, view: View, t: usize) -> bool
+    requires t_bound { t < count sheet.now.bytes }
+    ensures { result ≡ safe_in sheet.now.bytes view t }
 {
     if set::has(view.pool, t) {
         return parent::parent_there(sheet, view.confirmed, t);
@@ -70,7 +70,7 @@ fn safe(sheet: &[u8], view: View, t: usize) -> bool
 
 // The verdict on t, where `deadline` is its soonest one.
 pub fn verdict(
-    sheet: &[u8],
+    sheet: &Sheet,
     setup: &[u8],
     view: View,
     dead: bool,
@@ -78,9 +78,9 @@ pub fn verdict(
     t: usize,
     deadline: u32,
 ) -> u8
-    requires fit { Fit sheet.now setup.now }
-    requires t_bound { t < count sheet.now }
-    ensures { result ≡ verdict_in sheet.now setup.now view dead blocks t deadline }
+    requires fit { Fit sheet.now.bytes setup.now }
+    requires t_bound { t < count sheet.now.bytes }
+    ensures { result ≡ verdict_in sheet.now.bytes setup.now view dead blocks t deadline }
 {
     if set::has(view.confirmed, t) {
         return 1;

@@ -6,7 +6,7 @@ ghost use Rattle.std.specs.Prelude.{◌≡◌};
 ghost use Rattle.call_page.specs.Page.{page_answer};
 
 use readings::reported::{REPORT_SIZE, ROW_WIDTH};
-use sheet::refusal;
+use sheet::refusal::{ACCEPTED, Refusal};
 
 mod line;
 
@@ -22,9 +22,9 @@ pub fn page(sheet: &[u8], setup: &[u8], journal: &[u8], out: &mut [u8]) -> u32
     }
     let n = sheet::field::count(sheet);
     if out.len() < 73 * (n + 1) {
-        return refusal::BUFFER_SHORT;
+        return Refusal::BufferShort as u32;
     }
     let end = ROW_WIDTH * n;
     line::write_page(&rows[..end], n, out);
-    refusal::ACCEPTED
+    ACCEPTED
 }

@@ -7,21 +7,21 @@ ghost use Rattle.dated.specs.Report.{report_answer};
 
 use call_run::row::run_row;
 use readings::reported::ROW_WIDTH;
-use sheet::refusal;
+use sheet::field::Sheet;
+use sheet::refusal::{ACCEPTED, Refusal};
 
 // Reports: the refusal; where there is none, the rows stand at the front of the buffer.
 pub fn report(sheet: &[u8], setup: &[u8], journal: &[u8], out: &mut [u8]) -> u32
     ensures value { result ≡ (report_answer sheet.now setup.now journal.now out.old).refusal }
     ensures out_after { out.new ≡ (report_answer sheet.now setup.now journal.now out.old).buffer }
 {
-    let of_sheet = sheet::check::sheet_refusal(sheet);
-    if of_sheet != 0 {
-        return of_sheet;
+    if let Err(refusal) = sheet::check::sheet_refusal(sheet) {
+        return refusal.number();
     }
-    let number = call_run::journal::call_refusal(sheet, setup, journal);
-    if number != 0 {
-        return number;
+    if let Err(refusal) = call_run::journal::call_refusal(sheet, setup, journal) {
+        return refusal.number();
     }
+    let sheet = &Sheet::of(sheet);
     let from = dated::start(sheet, setup);
     let dated = from.dated;
     let start = dated.position;
@@ -30,12 +30,12 @@ pub fn report(sheet: &[u8], setup: &[u8], journal: &[u8], out: &mut [u8]) -> u32
     if run.refusal != 0 {
         return run.refusal;
     }
-    let n = sheet::field::count(sheet);
+    let n = sheet.count();
     if out.len() < ROW_WIDTH * n {
-        return refusal::BUFFER_SHORT;
+        return Refusal::BufferShort as u32;
     }
     let position = run.position;
     let opened = run.opened;
     queries::report::write_report(position, run.view, opened, sheet, setup, out);
-    refusal::ACCEPTED
+    ACCEPTED
 }

@@ -1,7 +1,7 @@
 -- How large a run's answers can be.
 -- Assumes nothing.
 use Rattle.laws.proofs.Prelude.{ℕ, ◌+◌, ◌*◌, ◌≤◌, ◌<◌, ◌≡◌, refl, List, [], ◌∷◌, eqb, lit<, lit≤, length, eqb-true, eqb-false, arith, split, first_failing, answer_below}
-use Rattle.position.proofs.Rules.{accepted, array_tests, sheet_tests, setup_tests, Step, Share, Give, SendToPool, HandToMiner, Include, Mine, Bump, Decoded, Read, Refused}
+use Rattle.position.proofs.Rules.{accepted, array_tests, sheet_tests, setup_tests, Step, Share, Give, SendToPool, HandToMiner, Include, Mine, Bump, Option, Some, None}
 use Rattle.position.proofs.Rules.{start, share_tests, give_tests, send_tests, pool_tests, miner_tests, include_tests, mine_tests, bump_tests, step_refusal}
 use Rattle.position.specs.declared.Position.{Position}
 use Rattle.position.specs.declared.Ran.{Ran}
@@ -44,10 +44,10 @@ module _ (s u : List ℕ) where
       (λ e. rw (e, take_step) (lit< tt))
       (λ e. rw (e, take_step) (tests_below p x))
 
-  decoded_below : (p : Position) (y : Decoded) → (take_decoded s u p y).refusal < 25
+  decoded_below : (p : Position) (y : Option Step) → (take_decoded s u p y).refusal < 25
   unfolding take_decoded
-  decoded_below p (Read x) = take_below p x
-  decoded_below p Refused = lit< tt
+  decoded_below p (Some x) = take_below p x
+  decoded_below p None = lit< tt
 
   pub step_below : (p : Position) (b : FourBytes) → (step s u p b).refusal < 25
   unfolding step

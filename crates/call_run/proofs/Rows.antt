@@ -1,7 +1,7 @@
 -- A row of steps with its counts and its view: what is left of it, what it is without them, and with the counts.
 -- Assumes nothing.
 use Rattle.laws.proofs.Prelude.{ℕ, ◌+◌, ◌*◌, ◌≤◌, ◌<◌, ◌≡◌, refl, sym, ◌∙◌, Bool, true, false, List, [], ◌∷◌, eqb, length, eqb-true, eq-eqb, ne_eqb, pick, split, removed}
-use Rattle.position.proofs.Rules.{accepted, step_field, count, Fit, Step, Decoded, Read, Refused, View, slot, FourBytes, journal_steps, decode_bytes}
+use Rattle.position.proofs.Rules.{accepted, step_field, count, Fit, Step, Option, Some, None, View, slot, FourBytes, journal_steps, decode_bytes}
 use Rattle.position.specs.declared.Position.{Position}
 use Rattle.position.specs.declared.Stepped.{Stepped}
 use Rattle.position.specs.declared.Ran.{Ran}
@@ -115,15 +115,15 @@ module _ (asked : Bool) (s u j : List ℕ) where
     left_ended v g h = let e = rw (groups_none j k h) at a in rw g (sym (row_ends asked s u k p counts) ∙ e)
 
 -- a step of four bytes, where d is what was decoded
-module _ (s u : List ℕ) (p : Position) (b : FourBytes) (d : Decoded) (f : d ≡ decode_bytes s u b) where
+module _ (s u : List ℕ) (p : Position) (b : FourBytes) (d : Option Step) (f : d ≡ decode_bytes s u b) where
   -- it is matched, and r is what came back from the method of its kind
-  pub matched : (x y : Step) (r : Stepped) (q : Position) (n : ℕ) → d ≡ Read x → x ≡ y → r ≡ take_step s u p y → q ≡ r.position → n ≡ r.refusal
+  pub matched : (x y : Step) (r : Stepped) (q : Position) (n : ℕ) → d ≡ Some x → x ≡ y → r ≡ take_step s u p y → q ≡ r.position → n ≡ r.refusal
       → ◌≡◌ {A = Stepped} (record { refusal = n; position = q }) (step s u p b)
   unfolding step take_decoded
   matched x y r q n g e h i k = rw (i, k, h, ← f, g, e) refl
 
   -- it is none
-  pub unread : d ≡ Refused → ◌≡◌ {A = Stepped} (record { refusal = step_field; position = p }) (step s u p b)
+  pub unread : d ≡ None → ◌≡◌ {A = Stepped} (record { refusal = step_field; position = p }) (step s u p b)
   unfolding step take_decoded
   unread g = rw (← f, g) refl
 

@@ -10,14 +10,16 @@ ghost use Rattle.call_run.specs.Forms.Row.{run_row};
 
 use dated::noted;
 use position::{Position, seen};
-use sheet::refusal;
+use sheet::field::Sheet;
+use sheet::refusal::{ACCEPTED, Refusal};
 use slots::{Slot, Step};
-use steps::{Decoded, View, decode, owed};
+use steps::{View, decode, owed};
 
 // What a row of steps comes to: its refusal, and the steps accepted before that; after these the position, the counts, where they were
 // asked for, and the view.
 #[derive(Clone, Copy)]
 pub struct RowRan {
+    // a number, as in run_row of specs/Forms/Row.antt
     pub refusal: u32,
     pub accepted: u32,
     pub position: Position,
@@ -57,15 +59,15 @@ pub fn run_row(
     from: Position,
     counts: [u32; 32],
     asked: bool,
-    sheet: &[u8],
+    sheet: &Sheet,
     setup: &[u8],
     seen: View,
     journal: &[u8],
 ) -> RowRan
-    requires fit { Fit sheet.now setup.now }
-    requires seen_value { seen ≡ view_below sheet.now (count sheet.now) from }
+    requires fit { Fit sheet.now.bytes setup.now }
+    requires seen_value { seen ≡ view_below sheet.now.bytes (count sheet.now.bytes) from }
     requires journal_len_bound { length journal.now ≤ 65536 }
-    ensures { result ≡ run_row asked sheet.now setup.now (journal_steps journal.now) 0 from counts }
+    ensures { result ≡ run_row asked sheet.now.bytes setup.now (journal_steps journal.now) 0 from counts }
 {
     let n = journal.len() / 4;
     let mut position = from;
@@ -78,11 +80,9 @@ pub fn run_row(
         let byte = journal[i + 2];
         let due = position.soonest_due(sheet, setup, view, kind, known);
         known = owed::still_due(kind, view.block, due);
-        let step = match decode::decode(sheet, setup, kind, journal[i + 1], byte, journal[i + 3]) {
-            Decoded::Read(x) => x,
-            Decoded::Refused => {
-                return stopped(refusal::STEP_FIELD, k, position, opened, view);
-            }
+        let Some(step) = decode::decode(sheet, setup, kind, journal[i + 1], byte, journal[i + 3])
+        else {
+            return stopped(Refusal::StepField as u32, k, position, opened, view);
         };
         let mut refused: u32 = 0;
         match step {
@@ -141,5 +141,5 @@ pub fn run_row(
             opened = counted;
         }
     }
-    stopped(refusal::ACCEPTED, n, position, opened, view)
+    stopped(ACCEPTED, n, position, opened, view)
 }

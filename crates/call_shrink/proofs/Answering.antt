@@ -11,7 +11,7 @@ use Rattle.position.proofs.Passing.{Gives, written, not_written, fitted_bounds}
 use Rattle.step_laws.proofs.Journals.{journal_length_lem}
 use Rattle.call_run.proofs.Runs.{run_allowed}
 use Rattle.call_run.proofs.Bounds.{steps_bytes}
-use Rattle.call_shrink.specs.Refusal.{journal_long, none_refused}
+use Rattle.sheet.specs.Refusal.{journal_long, none_refused}
 use Rattle.call_shrink.specs.Shrink.{still_refused, shrunk, refused_row, few_steps, long_tests, shrink_tests, shrink_answer}
 use Rattle.call_shrink.specs.Forms.Round.{Starts}
 use Rattle.call_shrink.proofs.Rounding.{next_length, shrunk_keeps}

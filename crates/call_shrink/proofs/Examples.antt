@@ -3,7 +3,7 @@
 use Rattle.laws.proofs.Prelude.{ℕ, ◌≡◌, refl, true, false, List, [], ◌∷◌, ◌++◌, lit<, length, take, replicate, arith, first_failing}
 use Rattle.position.proofs.Rules.{accepted, setup_blocks, step_field, step_conflict, journal_length, buffer_short, start, FourBytes, journal_bytes}
 use Rattle.position.proofs.Opened.{opened}
-use Rattle.call_shrink.specs.Refusal.{journal_long, none_refused}
+use Rattle.sheet.specs.Refusal.{journal_long, none_refused}
 use Rattle.call_shrink.specs.Shrink.{still_refused, can_go, round_from, round, rounds, shrunk, refused_row, few_steps, long_tests, shrink_tests, shrink_answer}
 use Rattle.call_shrink.specs.Claim.{RunsUpTo, without, Few, WroteFew}
 use Rattle.call_shrink.proofs.Claims.{few_written}

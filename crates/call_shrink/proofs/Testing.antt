@@ -4,7 +4,7 @@ use Rattle.laws.proofs.Prelude.{ℕ, ◌*◌, ◌≤◌, ◌<◌, ◌≡◌, ref
 use Rattle.laws.proofs.Prelude.{failed_append}
 use Rattle.position.proofs.Rules.{array_tests, sheet_tests, sheet_refusal, setup_tests, call_tests}
 use Rattle.call_run.proofs.Calls.{by_sheet}
-use Rattle.call_shrink.specs.Refusal.{journal_long}
+use Rattle.sheet.specs.Refusal.{journal_long}
 use Rattle.call_shrink.specs.Shrink.{long_tests}
 
 module _ (s u j : List ℕ) where
@@ -25,10 +25,5 @@ module _ (s u j : List ℕ) where
     unfolding long_tests
     after_call = passed_append (call_tests s u j) ((journal_long, leb (length j) (4 * 1024)) ∷ []) call_numbered (sym e ∙ z)
 
-    pub long_over : 4096 < length j → 36 ≡ first_failing (long_tests s u j)
-    unfolding first_failing
-    long_over h = rw after_call (rw (lt-leb (length j) 4096 h) refl)
-
-    pub long_none : length j ≤ 4096 → 0 ≡ first_failing (long_tests s u j)
-    unfolding first_failing
-    long_none h = rw after_call (rw (le-leb (length j) 4096 h) refl)
+    pub long_rest : (n : ℕ) → n ≡ first_failing ((journal_long, leb (length j) (4 * 1024)) ∷ []) → n ≡ first_failing (long_tests s u j)
+    long_rest n h = h ∙ sym after_call

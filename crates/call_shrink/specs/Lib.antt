@@ -1,4 +1,3 @@
-pub mod Refusal
 pub mod Shrink
 pub mod Claim
 pub mod Forms

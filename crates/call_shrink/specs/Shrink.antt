@@ -3,12 +3,11 @@
 -- Assumes nothing.
 use Rattle.std.specs.Prelude.{ℕ, zero, suc, ◌+◌, ◌*◌, Bool, true, false, not, ◌&&◌, List, [], ◌∷◌, ◌++◌, eqb, ltb, leb, length, take}
 use Rattle.laws.specs.Failing.{first_failing}
-use Rattle.sheet.specs.Refusal.{accepted}
+use Rattle.sheet.specs.Refusal.{accepted, journal_long, none_refused}
 use Rattle.position.specs.declared.Position.{Position}
 use Rattle.position.specs.Position.{start}
 use Rattle.position.specs.Play.{FourBytes, journal_steps, journal_bytes, run_from, call_tests, run}
 use Rattle.position.specs.Answers.{Written, fitted}
-use Rattle.call_shrink.specs.Refusal.{journal_long, none_refused}
 
 -- "still runs up to it and gets the same number there": from a position on, every step of the row but the last is accepted, and the last
 -- gets this number

@@ -4,14 +4,15 @@
 
 ghost use Rattle.std.specs.Prelude.{◌≡◌};
 ghost use Rattle.laws.specs.Failing.{first_failing};
+ghost use Rattle.sheet.specs.Refusal.{refused};
 ghost use Rattle.call_shrink.specs.Shrink.{long_tests, shrink_answer};
 
 use call_run::journal::{call_refusal, run_from};
 use position::journal::start;
 use sheet::check::sheet_refusal;
-use sheet::refusal::ACCEPTED;
+use sheet::field::Sheet;
+use sheet::refusal::{Refusal, require};
 
-pub mod refusal;
 mod round;
 mod rounds;
 mod same;
@@ -19,26 +20,18 @@ mod same;
 // The answer: the refusal, and the steps written.
 #[derive(Clone, Copy)]
 pub struct Shrunk {
+    // a number, as in shrink_answer of specs/Shrink.antt
     pub refusal: u32,
     pub count: u32,
 }
 
 // The checks before any step: 1 to 10, 24 and 36.
-fn long_refusal(sheet: &[u8], setup: &[u8], journal: &[u8]) -> u32
-    ensures { result ≡ first_failing (long_tests sheet.now setup.now journal.now) }
+fn long_refusal(sheet: &[u8], setup: &[u8], journal: &[u8]) -> Result<(), Refusal>
+    ensures { refused result ≡ first_failing (long_tests sheet.now setup.now journal.now) }
 {
-    let of_sheet = sheet_refusal(sheet);
-    if of_sheet != 0 {
-        return of_sheet;
-    }
-    let of_call = call_refusal(sheet, setup, journal);
-    if of_call != 0 {
-        return of_call;
-    }
-    if 4096 < journal.len() {
-        return refusal::JOURNAL_LONG;
-    }
-    ACCEPTED
+    sheet_refusal(sheet)?;
+    call_refusal(sheet, setup, journal)?;
+    require(journal.len() <= 4096, Refusal::JournalLong)
 }
 
 // Shrinks a refused journal: the refusal, and the steps written to the front of the buffer.
@@ -47,20 +40,20 @@ pub fn shrink(sheet: &[u8], setup: &[u8], journal: &[u8], out: &mut [u8]) -> Shr
     ensures count_value { result.count ≡ (shrink_answer sheet.now setup.now journal.now out.old).count }
     ensures out_after { out.new ≡ (shrink_answer sheet.now setup.now journal.now out.old).buffer }
 {
-    let of_call = long_refusal(sheet, setup, journal);
-    if of_call != 0 {
+    if let Err(refusal) = long_refusal(sheet, setup, journal) {
         return Shrunk {
-            refusal: of_call,
+            refusal: refusal.number(),
             count: 0,
         };
     }
-    let ran = run_from(start(sheet), sheet, setup, journal);
+    let known = &Sheet::of(sheet);
+    let ran = run_from(start(sheet), known, setup, journal);
     if ran.refusal == 0 {
         return Shrunk {
-            refusal: refusal::NONE_REFUSED,
+            refusal: Refusal::NoneRefused as u32,
             count: 0,
         };
     }
     let end = 4 * (ran.accepted as usize) + 4;
-    rounds::write_shrunk(sheet, setup, ran.refusal, &journal[..end], out)
+    rounds::write_shrunk(known, setup, ran.refusal, &journal[..end], out)
 }

@@ -13,6 +13,7 @@ use call_run::journal::{run_from, step_at};
 use output::open::write_step;
 use position::Position;
 use position::journal::start;
+use sheet::field::Sheet;
 
 // A row that does not come to the number: its position before the step at byte 4 * from, from which on it has all steps.
 #[derive(Clone, Copy)]
@@ -51,13 +52,13 @@ fn stays(
     lost: Lost,
     here: Position,
     kind: u8,
-    sheet: &[u8],
+    sheet: &Sheet,
     setup: &[u8],
     passed: &[u8],
 ) -> bool
-    requires fit { Fit sheet.now setup.now }
+    requires fit { Fit sheet.now.bytes setup.now }
     requires passed_len_bound { length passed.now ≤ 65536 }
-    ensures { result ≡ true → (twin ≡ true) ⊎ Meets sheet.now setup.now lost here (journal_steps passed.now) }
+    ensures { result ≡ true → (twin ≡ true) ⊎ Meets sheet.now.bytes setup.now lost here (journal_steps passed.now) }
 {
     if twin {
         return true;
@@ -99,14 +100,14 @@ fn lost_after(lost: Lost, going: bool, kind: u8, here: Position, from: usize) ->
 fn goes(
     stay: bool,
     position: Position,
-    sheet: &[u8],
+    sheet: &Sheet,
     setup: &[u8],
     number: u32,
     after: &[u8],
 ) -> bool
-    requires fit { Fit sheet.now setup.now }
+    requires fit { Fit sheet.now.bytes setup.now }
     requires after_len_bound { length after.now ≤ 65536 }
-    ensures { result ≡ tried_at sheet.now setup.now number stay position (journal_steps after.now) }
+    ensures { result ≡ tried_at sheet.now.bytes setup.now number stay position (journal_steps after.now) }
 {
     if stay {
         return false;
@@ -126,14 +127,14 @@ fn goes(
 fn past(
     going: bool,
     position: Position,
-    sheet: &[u8],
+    sheet: &Sheet,
     setup: &[u8],
     steps: &[u8],
     i: usize,
 ) -> Position
-    requires fit { Fit sheet.now setup.now }
+    requires fit { Fit sheet.now.bytes setup.now }
     requires i_in_bounds { i + 4 ≤ length steps.now }
-    ensures { result ≡ position_past sheet.now setup.now going position (step_at steps.now i) }
+    ensures { result ≡ position_past sheet.now.bytes setup.now going position (step_at steps.now i) }
 {
     if going {
         return position;
@@ -160,16 +161,16 @@ fn write_kept(going: bool, steps: &[u8], i: usize, out: &mut [u8]) -> usize
 }
 
 // What a round keeps of the steps, at the front of the buffer; the answer is their number.
-pub fn write_round(sheet: &[u8], setup: &[u8], number: u32, steps: &[u8], out: &mut [u8]) -> usize
-    requires fit { Fit sheet.now setup.now }
+pub fn write_round(sheet: &Sheet, setup: &[u8], number: u32, steps: &[u8], out: &mut [u8]) -> usize
+    requires fit { Fit sheet.now.bytes setup.now }
     requires steps_len_bound { length steps.now ≤ 4096 }
     requires steps_in_bounds { length steps.now ≤ length out.old }
-    requires steps_value { still_refused sheet.now setup.now number (start sheet.now) (journal_steps steps.now) ≡ true }
-    ensures value { result ≡ length (round sheet.now setup.now number (journal_steps steps.now)) }
-    ensures out_after { out.new ≡ over (journal_bytes (round sheet.now setup.now number (journal_steps steps.now))) out.old }
+    requires steps_value { still_refused sheet.now.bytes setup.now number (start sheet.now.bytes) (journal_steps steps.now) ≡ true }
+    ensures value { result ≡ length (round sheet.now.bytes setup.now number (journal_steps steps.now)) }
+    ensures out_after { out.new ≡ over (journal_bytes (round sheet.now.bytes setup.now number (journal_steps steps.now))) out.old }
 {
     let n = steps.len() / 4;
-    let mut here = start(sheet);
+    let mut here = start(sheet.bytes());
     let mut lost = Lost {
         held: false,
         from: 0,

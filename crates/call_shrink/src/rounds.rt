@@ -9,7 +9,8 @@ ghost use Rattle.call_shrink.specs.Forms.Round.{Starts, shrunk_fitted};
 
 use crate::Shrunk;
 use crate::round::write_round;
-use sheet::refusal::{ACCEPTED, BUFFER_SHORT};
+use sheet::field::Sheet;
+use sheet::refusal::{ACCEPTED, Refusal};
 
 // These bytes, at the front of a buffer.
 fn copy(from: &[u8], out: &mut [u8])
@@ -22,19 +23,19 @@ fn copy(from: &[u8], out: &mut [u8])
 // The rounds on the first n steps of the part, each written to the spare bytes and, where it dropped a step, copied back: the number of
 // steps that are left.
 fn rounds(
-    sheet: &[u8],
+    sheet: &Sheet,
     setup: &[u8],
     number: u32,
     n: usize,
     part: &mut [u8],
     spare: &mut [u8],
 ) -> usize
-    requires fit { Fit sheet.now setup.now }
+    requires fit { Fit sheet.now.bytes setup.now }
     requires n_bound { n ≤ 1024 }
     requires n_in_bounds { 4 * n ≤ length part.old }
     requires part_in_bounds { length part.old ≤ length spare.old }
-    requires part_value { still_refused sheet.now setup.now number (start sheet.now) (journal_steps (take (4 * n) part.old)) ≡ true }
-    ensures { Starts (shrunk sheet.now setup.now number (journal_steps (take (4 * n) part.old))) part.new result }
+    requires part_value { still_refused sheet.now.bytes setup.now number (start sheet.now.bytes) (journal_steps (take (4 * n) part.old)) ≡ true }
+    ensures { Starts (shrunk sheet.now.bytes setup.now number (journal_steps (take (4 * n) part.old))) part.new result }
 {
     let mut left = n;
     loop {
@@ -50,14 +51,14 @@ fn rounds(
 }
 
 // The part that is left of a row whose last step gets the number, where the buffer has room for it.
-pub fn write_shrunk(sheet: &[u8], setup: &[u8], number: u32, row: &[u8], out: &mut [u8]) -> Shrunk
-    requires fit { Fit sheet.now setup.now }
+pub fn write_shrunk(sheet: &Sheet, setup: &[u8], number: u32, row: &[u8], out: &mut [u8]) -> Shrunk
+    requires fit { Fit sheet.now.bytes setup.now }
     requires row_len_bound { length row.now ≤ 4096 }
     requires row_len { length row.now % 4 ≡ 0 }
-    requires row_value { still_refused sheet.now setup.now number (start sheet.now) (journal_steps row.now) ≡ true }
-    ensures refusal_value { result.refusal ≡ (shrunk_fitted sheet.now setup.now number row.now out.old).refusal }
-    ensures count_value { result.count ≡ (shrunk_fitted sheet.now setup.now number row.now out.old).count }
-    ensures out_after { out.new ≡ (shrunk_fitted sheet.now setup.now number row.now out.old).buffer }
+    requires row_value { still_refused sheet.now.bytes setup.now number (start sheet.now.bytes) (journal_steps row.now) ≡ true }
+    ensures refusal_value { result.refusal ≡ (shrunk_fitted sheet.now.bytes setup.now number row.now out.old).refusal }
+    ensures count_value { result.count ≡ (shrunk_fitted sheet.now.bytes setup.now number row.now out.old).count }
+    ensures out_after { out.new ≡ (shrunk_fitted sheet.now.bytes setup.now number row.now out.old).buffer }
 {
     let mut part = [0u8; 4096];
     let mut spare = [0u8; 4096];
@@ -66,7 +67,7 @@ pub fn write_shrunk(sheet: &[u8], setup: &[u8], number: u32, row: &[u8], out: &m
     let end = 4 * n;
     if out.len() < end {
         return Shrunk {
-            refusal: BUFFER_SHORT,
+            refusal: Refusal::BufferShort as u32,
             count: 0,
         };
     }

@@ -1,11 +1,11 @@
 -- Where nothing is counted on, nothing is to be sent.
 -- Assumes nothing.
+use Rattle.std.specs.Prelude.{None}
 use Rattle.laws.proofs.Prelude.{ℕ, ◌≡◌, false, and-false, List, eqb, ltb, le-ltb, split, arith}
 use Rattle.sheet.specs.Field.{count, is_party}
 use Rattle.sheet.specs.Checked.{Checked}
 use Rattle.slots.specs.declared.Destination.{Destination}
 use Rattle.slots.specs.declared.Destination.TheVariants.{Alice, Bob, Contract, Carol}
-use Rattle.steps.specs.declared.Decoded.TheVariants.{Refused}
 use Rattle.steps.specs.Decode.{fields_right, of_kind, spelled, range_checked, decode}
 use Rattle.position.specs.declared.Position.{Position}
 use Rattle.position.specs.Play.{decode_bytes, take_decoded, step}
@@ -19,8 +19,8 @@ module _ (s u : List ℕ) (ok : Checked s) (x : ℕ) where
   beyond = le-ltb none (count s) (omega (arith, ok.sized.few))
 
   -- a send of it has a wrong field, whomever it names
-  module _ (kind : ℕ) (send : (to : Destination) → range_checked s u (of_kind kind x none to) ≡ Refused) where
-    wrong_field : (d : ℕ) → decode s u kind x none d ≡ Refused
+  module _ (kind : ℕ) (send : (to : Destination) → range_checked s u (of_kind kind x none to) ≡ None) where
+    wrong_field : (d : ℕ) → decode s u kind x none d ≡ None
     unfolding decode spelled range_checked
     wrong_field d =
         split (eqb d 0)

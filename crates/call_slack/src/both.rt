@@ -13,6 +13,7 @@ use kept::counted::{NOBODY, counted};
 use kept::greatest::{LONGEST, kept_for};
 use position::Position;
 use prospect::seen::prospect;
+use sheet::field::Sheet;
 use slots::lock_height::NEVER;
 
 // The slack, and the transaction, 255 for none.
@@ -74,11 +75,11 @@ fn both(standing: Prospect, settled: Prospect, a: u32, b: u32) -> Found
 
 // From the position as it stands and, where that does not keep for the longest and something of the block being filled settles, from the
 // settled one.
-pub fn found_at(position: Position, sheet: &[u8], setup: &[u8], party: u8) -> Found
-    requires fit { Fit sheet.now setup.now }
+pub fn found_at(position: Position, sheet: &Sheet, setup: &[u8], party: u8) -> Found
+    requires fit { Fit sheet.now.bytes setup.now }
     requires mined_bound { position.mined < 65535 }
-    ensures blocks_value { result.blocks ≡ slack sheet.now setup.now position party }
-    ensures t_value { result.t ≡ counted_at sheet.now setup.now position party (slack sheet.now setup.now position party) }
+    ensures blocks_value { result.blocks ≡ slack sheet.now.bytes setup.now position party }
+    ensures t_value { result.t ≡ counted_at sheet.now.bytes setup.now position party (slack sheet.now.bytes setup.now position party) }
 {
     let standing = prospect(position, sheet, setup, party);
     let a = kept_for(standing);

@@ -7,20 +7,21 @@ ghost use Rattle.slack.specs.Beaten.{destination_of};
 
 use call_run::journal;
 use position::Position;
+use sheet::field::Sheet;
 
 // Whether the step of this kind, by which the party sends t, is open.
 fn is_open(
     position: Position,
-    sheet: &[u8],
+    sheet: &Sheet,
     setup: &[u8],
     party: u8,
     t: u8,
     to: u8,
     kind: u8,
 ) -> bool
-    requires fit { Fit sheet.now setup.now }
-    requires to_value { to ≡ destination_of sheet.now party t }
-    ensures { result ≡ is_open sheet.now setup.now position party t kind }
+    requires fit { Fit sheet.now.bytes setup.now }
+    requires to_value { to ≡ destination_of sheet.now.bytes party t }
+    ensures { result ≡ is_open sheet.now.bytes setup.now position party t kind }
 {
     let bytes = [kind, party, t, to];
     let stepped = journal::step_at(position, sheet, setup, &bytes, 0);
@@ -30,16 +31,16 @@ fn is_open(
 // 1 where it is to be sent before the next block, else 0.
 pub fn due(
     position: Position,
-    sheet: &[u8],
+    sheet: &Sheet,
     setup: &[u8],
     party: u8,
     blocks: u32,
     t: u8,
     to: u8,
 ) -> u8
-    requires fit { Fit sheet.now setup.now }
-    requires to_value { to ≡ destination_of sheet.now party t }
-    ensures { result ≡ pick (is_due sheet.now setup.now position party blocks t) 1 0 }
+    requires fit { Fit sheet.now.bytes setup.now }
+    requires to_value { to ≡ destination_of sheet.now.bytes party t }
+    ensures { result ≡ pick (is_due sheet.now.bytes setup.now position party blocks t) 1 0 }
 {
     if blocks != 0 {
         return 0;

@@ -11,7 +11,8 @@ ghost use Rattle.std.specs.Prelude.{◌≡◌};
 ghost use Rattle.call_slack.specs.Answer.{slack_answer};
 
 use call_run::journal;
-use sheet::refusal;
+use sheet::field::Sheet;
+use sheet::refusal::{ACCEPTED, Refusal};
 
 // Each party's slack: the refusal; where there is none, the rows stand at the front of the buffer.
 pub fn slack(sheet: &[u8], setup: &[u8], journal: &[u8], out: &mut [u8]) -> u32
@@ -24,9 +25,9 @@ pub fn slack(sheet: &[u8], setup: &[u8], journal: &[u8], out: &mut [u8]) -> u32
     }
     let n = sheet::field::parties(sheet);
     if out.len() < 8 * n {
-        return refusal::BUFFER_SHORT;
+        return Refusal::BufferShort as u32;
     }
     let position = ran.position;
-    rows::write_rows(position, sheet, setup, out);
-    refusal::ACCEPTED
+    rows::write_rows(position, &Sheet::of(sheet), setup, out);
+    ACCEPTED
 }

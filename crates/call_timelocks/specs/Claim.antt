@@ -3,11 +3,10 @@
 -- Assumes nothing.
 use Rattle.std.specs.Prelude.{ℕ, ◌+◌, ◌-◌, ◌*◌, ◌≤◌, ◌<◌, ◌≡◌, true, false, ◌⊎◌, List, leb}
 use Rattle.laws.specs.Little.{number_at}
-use Rattle.sheet.specs.Refusal.{accepted}
+use Rattle.sheet.specs.Refusal.{accepted, timelock_relative, timelock_absolute}
 use Rattle.sheet.specs.Field.{count, parent, opening}
 use Rattle.sheet.specs.Setup.{per_day}
 use Rattle.sheet.specs.LockHeight.{lock_height, never}
-use Rattle.call_timelocks.specs.Refusal.{timelock_relative, timelock_absolute}
 use Rattle.call_timelocks.specs.Bitcoin.{Transaction, Block, admitted}
 use Rattle.call_timelocks.specs.Fields.{n_lock_time, n_sequence}
 use Rattle.call_timelocks.specs.Timelocks.{field_refusal, timelocks_answer}

@@ -1,7 +1,5 @@
-pub mod Refusal
 pub mod Bitcoin
 pub mod Fields
 pub mod Limits
 pub mod Timelocks
 pub mod Claim
-pub mod Forms

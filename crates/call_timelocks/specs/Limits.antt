@@ -3,7 +3,7 @@
 use Rattle.std.specs.Prelude.{ℕ, Bool, not, ◌||◌, List, [], ◌∷◌, eqb, ltb, leb}
 use Rattle.laws.specs.Below.{all_below}
 use Rattle.sheet.specs.Field.{count, lock_type}
-use Rattle.call_timelocks.specs.Refusal.{timelock_relative, timelock_absolute}
+use Rattle.sheet.specs.Refusal.{timelock_relative, timelock_absolute}
 use Rattle.call_timelocks.specs.Fields.{n_lock_time, n_sequence}
 
 -- 26 "when a since-parent value is above 65,535"

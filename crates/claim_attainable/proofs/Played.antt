@@ -4,7 +4,7 @@ use Rattle.laws.proofs.Prelude.{ℕ, ◌≡◌, Bool, true, false, not, ◌||◌
 use Rattle.laws.proofs.Prelude.{fails_by, every}
 use Rattle.position.proofs.Rules.{sheet_refusal, setup_refusal, Checked, Step, Share, Give, SendToPool, HandToMiner, Include, Mine, Bump, is_party, FourBytes}
 use Rattle.position.specs.declared.Position.{Position}
-use Rattle.position.proofs.Rules.{decode_bytes, step, play, Read, step_bytes}
+use Rattle.position.proofs.Rules.{decode_bytes, step, play, Some, step_bytes}
 use Rattle.sheet.proofs.Theorems.{sheet_checked}
 use Rattle.position.proofs.StepCases.{StepCase, taken, turned_down, step_case}
 use Rattle.position.proofs.Decoding.{decodes}
@@ -21,7 +21,7 @@ use Rattle.claim_attainable.proofs.Moves.{moved_by}
 use Rattle.claim_attainable.proofs.Bounded.{Bounded, next}
 
 -- the four bytes of a step that is read are its own
-bytes_of : (s u : List ℕ) (b : FourBytes) (y : Step) → decode_bytes s u b ≡ Read y → b ≡ four_of y
+bytes_of : (s u : List ℕ) (b : FourBytes) (y : Step) → decode_bytes s u b ≡ Some y → b ≡ four_of y
 unfolding decode_bytes four_of
 bytes_of s u b y e = rw (decodes s u b.kind b.party b.transaction b.destination y e).bytes
 

@@ -1,7 +1,7 @@
 -- What the accepted kind 6 steps confirm: right destinations, and blocks within 1 to 10,000.
 -- Assumes nothing.
 use Rattle.laws.proofs.Prelude.{ℕ, zero, suc, ◌+◌, ◌≤◌, ◌<◌, ◌≡◌, ap, ◌∙◌, true, List, [], ◌∷◌, arith, pick, split, gather, All, empty, also, all_append}
-use Rattle.position.proofs.Rules.{count, sheet_refusal, setup_refusal, Step, Entry, shares_to, Read, in_block, block_to, effect, block_limit, FourBytes, block_entries}
+use Rattle.position.proofs.Rules.{count, sheet_refusal, setup_refusal, Step, Entry, shares_to, Some, in_block, block_to, effect, block_limit, FourBytes, block_entries}
 use Rattle.position.specs.declared.Position.{Position}
 use Rattle.position.proofs.Rules.{confirms, confirmed_entries}
 use Rattle.sheet.proofs.Theorems.{sheet_checked}
@@ -37,7 +37,7 @@ module _ (s u : List ℕ) (h : sheet_refusal s ≡ 0) (k : setup_refusal s u ≡
       (λ b. rw b (also {x = entry_at p t} (record { low = l; to = g.block_to_lem t l b; some = omega arith; few = omega arith }) empty))
       (λ b. rw b empty))
 
-  step_fine : (p : Position) → Sound s u p → (x : Step) → Sound s u (effect s p x) → StepConfirms s p x → All (Fine s) (confirms s p (Read x))
+  step_fine : (p : Position) → Sound s u p → (x : Step) → Sound s u (effect s p x) → StepConfirms s p x → All (Fine s) (confirms s p (Some x))
   step_fine p g x q (nothing e c) = rw e empty
   step_fine p g x q (the_block e a) =
       let m = ap (λ (r : Position). r.mined) a ∙ mine_mined s p (wide s u (sheet_checked s h) p g) g.beyond in

@@ -15,7 +15,7 @@ use Rattle.position.proofs.Passing as fit
 use Rattle.call_blocks.specs.BlockList.{list_entries, list_bytes}
 use Rattle.claim_blocks.proofs.Bytes.{read_back}
 use Rattle.claim_blocks.proofs.Places.{place_member, member_place, all_member}
-use Rattle.endings.specs.Refusal.{ending_impossible}
+use Rattle.sheet.specs.Refusal.{ending_impossible}
 use Rattle.endings.specs.Earliest.{earliest_from, earliest}
 use Rattle.endings.specs.Plan.{plan_entry, plan}
 use Rattle.endings.specs.Ending.{destination_of, ending_right, is_possible, ending_tests}

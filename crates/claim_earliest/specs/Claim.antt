@@ -6,7 +6,7 @@ use Rattle.std.proofs.Math.Option.{some}
 use Rattle.std.proofs.Math.ListN.{get_elem?}
 use Rattle.laws.specs.Booleans.{pick}
 use Rattle.laws.specs.Mask.{bit}
-use Rattle.sheet.specs.Refusal.{accepted, buffer_short}
+use Rattle.sheet.specs.Refusal.{accepted, buffer_short, ending_impossible}
 use Rattle.sheet.specs.Field.{count}
 use Rattle.sheet.specs.Check.{sheet_refusal}
 use Rattle.sheet.specs.Setup.{per_day, setup_refusal}
@@ -14,7 +14,6 @@ use Rattle.ledger.specs.Entry.{Entry}
 use Rattle.ledger.specs.Coin.{coin_of}
 use Rattle.position.specs.Tests.{block_limit}
 use Rattle.call_blocks.specs.BlockList.{list_entries, list_bytes, blocks_refusal}
-use Rattle.endings.specs.Refusal.{ending_impossible}
 use Rattle.endings.specs.Earliest.{earliest}
 use Rattle.endings.specs.Plan.{planned}
 use Rattle.endings.specs.Ending.{destination_of, ending_right}

@@ -1,7 +1,7 @@
 -- The open steps of kinds 1, 2 and 3 of a position are those of that whose block is emptied: by party and kind, and in the list's bytes.
 -- Assumes nothing.
 use Rattle.laws.proofs.Prelude.{ℕ, zero, suc, ◌+◌, ◌≡◌, refl, sym, ap, ◌∙◌, fun_ext, Bool, true, false, List, [], ◌∷◌, ◌++◌, eqb, flat_map, pick, split, gather}
-use Rattle.position.proofs.Rules.{accepted, Step, Share, Give, SendToPool, HandToMiner, Include, Mine, Bump, destinations, Decoded, Read, Refused, no_transaction, decode}
+use Rattle.position.proofs.Rules.{accepted, Step, Share, Give, SendToPool, HandToMiner, Include, Mine, Bump, destinations, Option, Some, None, no_transaction, decode}
 use Rattle.position.proofs.Rules.{step_bytes, slot_count, step_refusal, actor_at, actors, kinds, if_accepted, open_at, open_of, actor_steps, open_steps, list_bytes}
 use Rattle.position.specs.declared.Position.{Position}
 use Rattle.laws.specs.Gather.{flat_append}
@@ -46,10 +46,10 @@ late_none x false e = refl
 
 module _ (s u : List ℕ) (w : Unwatched u) (p : Position) where
   -- ---- of a party and a kind
-  alone_same : (y : Decoded) → ((x : Step) → y ≡ Read x → early_step x ≡ true) → if_accepted s u p y ≡ if_accepted s u (emptied p) y
+  alone_same : (y : Option Step) → ((x : Step) → y ≡ Some x → early_step x ≡ true) → if_accepted s u p y ≡ if_accepted s u (emptied p) y
   unfolding if_accepted
-  alone_same (Read x) e = rw (refusal_emptied s u p w x (e x refl))
-  alone_same Refused e = refl
+  alone_same (Some x) e = rw (refusal_emptied s u p w x (e x refl))
+  alone_same None e = refl
 
   at_same : (party k : ℕ) → early_kind k ≡ true → open_at s u p party k ≡ open_at s u (emptied p) party k
   unfolding open_at
@@ -61,13 +61,13 @@ module _ (s u : List ℕ) (w : Unwatched u) (p : Position) where
   open_emptied party k h = rw (at_same party k h)
 
   -- ---- of the whole list
-  alone_bytes : (y : Decoded) → flat_map if_early (if_accepted s u p y) ≡ flat_map if_early (if_accepted s u (emptied p) y)
+  alone_bytes : (y : Option Step) → flat_map if_early (if_accepted s u p y) ≡ flat_map if_early (if_accepted s u (emptied p) y)
   unfolding if_accepted
-  alone_bytes (Read x) =
+  alone_bytes (Some x) =
       split (early_step x)
       (λ e. rw (refusal_emptied s u p w x e))
       (λ e. late_none x (eqb (step_refusal s u p x) accepted) e ∙ sym (late_none x (eqb (step_refusal s u (emptied p) x) accepted) e))
-  alone_bytes Refused = refl
+  alone_bytes None = refl
 
   at_bytes : (party k t : ℕ) → flat_map if_early (open_at s u p party k t) ≡ flat_map if_early (open_at s u (emptied p) party k t)
   unfolding open_at

@@ -1,7 +1,7 @@
 -- A step of kind 1, 2 or 3, and a row of them, on a position and on that whose block is emptied.
 -- Assumes nothing.
 use Rattle.laws.proofs.Prelude.{ℕ, ◌≡◌, refl, sym, ap, ◌∙◌, true, List, [], ◌∷◌, eqb, eqb-true, eqb-false, split, and_parts, every}
-use Rattle.position.proofs.Rules.{accepted, Step, Decoded, Read, Refused, decode, step_refusal, effect, FourBytes, decode_bytes, take_step, take_decoded}
+use Rattle.position.proofs.Rules.{accepted, Step, Option, Some, None, decode, step_refusal, effect, FourBytes, decode_bytes, take_step, take_decoded}
 use Rattle.position.specs.declared.Position.{Position}
 use Rattle.position.specs.declared.Stepped.{Stepped}
 use Rattle.position.proofs.Rules.{step, accepted_of}
@@ -13,7 +13,7 @@ use Rattle.claim_handins.proofs.Refusals.{early_step, refusal_emptied}
 use Rattle.claim_handins.proofs.Effects.{effect_emptied}
 
 -- what is read from bytes of kind 1, 2 or 3 is a step of that kind
-pub read_early : (s u : List ℕ) (k a t d : ℕ) → early_kind k ≡ true → (x : Step) → decode s u k a t d ≡ Read x → early_step x ≡ true
+pub read_early : (s u : List ℕ) (k a t d : ℕ) → early_kind k ≡ true → (x : Step) → decode s u k a t d ≡ Some x → early_step x ≡ true
 unfolding early_step
 read_early s u k a t d h x e = rw (decodes s u k a t d x e).bytes h
 
@@ -35,11 +35,11 @@ module _ (s u : List ℕ) (w : Unwatched u) where
       rw (← (refuses s u p x (step_refusal s u p x) refl n))
       (sym (refuses s u (emptied p) x (step_refusal s u p x) (sym same) n)))
 
-  decoded_emptied : (y : Decoded) → ((x : Step) → y ≡ Read x → early_step x ≡ true) → (p : Position)
+  decoded_emptied : (y : Option Step) → ((x : Step) → y ≡ Some x → early_step x ≡ true) → (p : Position)
       → take_decoded s u (emptied p) y ≡ answer_emptied (take_decoded s u p y)
   unfolding take_decoded
-  decoded_emptied (Read x) e p = take_emptied x (e x refl) p
-  decoded_emptied Refused e p = refl
+  decoded_emptied (Some x) e p = take_emptied x (e x refl) p
+  decoded_emptied None e p = refl
 
   pub step_emptied : (b : FourBytes) → early b ≡ true → (p : Position) → step s u (emptied p) b ≡ answer_emptied (step s u p b)
   unfolding step decode_bytes early

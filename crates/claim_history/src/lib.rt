@@ -8,7 +8,8 @@ ghost use Rattle.claim_history.specs.Promise.{nobodies, Demand3};
 
 use position::{Position, journal};
 use readings::reported::ROW_WIDTH;
-use sheet::refusal;
+use sheet::field::Sheet;
+use sheet::refusal::{ACCEPTED, Refusal};
 
 mod held;
 mod play;
@@ -17,6 +18,7 @@ mod write;
 // The number, the report's number, the position after the last step, and each coin's holder as read from it and from the report.
 #[derive(Clone, Copy)]
 pub struct Outcome {
+    // a number, as in Demand3 of specs/Promise.antt
     pub number: u32,
     pub report: u32,
     pub position: Position,
@@ -48,29 +50,28 @@ pub fn history(
 ) -> Outcome
     ensures { Demand3 sheet.now setup.now steps.now accepted.old report.old result accepted.new report.new }
 {
-    let of_sheet = sheet::check::sheet_refusal(sheet);
-    if of_sheet != 0 {
-        return unplayed(sheet, of_sheet);
+    if let Err(refusal) = sheet::check::sheet_refusal(sheet) {
+        return unplayed(sheet, refusal.number());
     }
-    let of_setup = sheet::setup::setup_refusal(sheet, setup);
-    if of_setup != 0 {
-        return unplayed(sheet, of_setup);
+    if let Err(refusal) = sheet::setup::setup_refusal(sheet, setup) {
+        return unplayed(sheet, refusal.number());
     }
-    let played = play::play_steps(sheet, setup, steps);
+    let known = &Sheet::of(sheet);
+    let played = play::play_steps(known, setup, steps);
     let position = played.position;
     let used = 4 * played.accepted;
     if accepted.len() < used {
-        return unplayed(sheet, refusal::BUFFER_SHORT);
+        return unplayed(sheet, Refusal::BufferShort as u32);
     }
     if report.len() < ROW_WIDTH * sheet::field::count(sheet) {
-        return unplayed(sheet, refusal::BUFFER_SHORT);
+        return unplayed(sheet, Refusal::BufferShort as u32);
     }
-    write::write_accepted(sheet, setup, steps, accepted);
+    write::write_accepted(known, setup, steps, accepted);
     let answer = call_report::report(sheet, setup, &accepted[..used], report);
-    let held = held::holders_in(position, sheet);
-    let reported = held::reported_holders(answer, sheet, report);
+    let held = held::holders_in(position, known);
+    let reported = held::reported_holders(answer, known, report);
     Outcome {
-        number: refusal::ACCEPTED,
+        number: ACCEPTED,
         report: answer,
         position,
         held,

@@ -9,6 +9,7 @@ ghost use Rattle.claim_history.specs.Forms.Steps.{played_one};
 
 use call_run::journal::step_at;
 use position::{Position, journal};
+use sheet::field::Sheet;
 
 // The position after the steps so far, and the number of those accepted.
 #[derive(Clone, Copy)]
@@ -28,11 +29,11 @@ fn one_if_taken(refusal: u32) -> usize
 }
 
 // One more step, the one that starts at byte i.
-fn play_one(played: Played, sheet: &[u8], setup: &[u8], steps: &[u8], i: usize) -> Played
-    requires fit { Fit sheet.now setup.now }
+fn play_one(played: Played, sheet: &Sheet, setup: &[u8], steps: &[u8], i: usize) -> Played
+    requires fit { Fit sheet.now.bytes setup.now }
     requires i_in_bounds { i + 4 ≤ length steps.now }
     requires accepted_le_i { played.accepted ≤ i }
-    ensures { result ≡ played_one sheet.now setup.now played (step_at steps.now i) }
+    ensures { result ≡ played_one sheet.now.bytes setup.now played (step_at steps.now i) }
 {
     let position = played.position;
     let stepped = step_at(position, sheet, setup, steps, i);
@@ -45,14 +46,14 @@ fn play_one(played: Played, sheet: &[u8], setup: &[u8], steps: &[u8], i: usize) 
 }
 
 // Every whole group of four bytes, one after the other.
-pub fn play_steps(sheet: &[u8], setup: &[u8], steps: &[u8]) -> Played
-    requires { Fit sheet.now setup.now }
-    ensures position_value { result.position ≡ play sheet.now setup.now (journal_steps steps.now) (start sheet.now) }
-    ensures accepted_value { result.accepted ≡ length (accepted_of sheet.now setup.now (journal_steps steps.now) (start sheet.now)) }
+pub fn play_steps(sheet: &Sheet, setup: &[u8], steps: &[u8]) -> Played
+    requires { Fit sheet.now.bytes setup.now }
+    ensures position_value { result.position ≡ play sheet.now.bytes setup.now (journal_steps steps.now) (start sheet.now.bytes) }
+    ensures accepted_value { result.accepted ≡ length (accepted_of sheet.now.bytes setup.now (journal_steps steps.now) (start sheet.now.bytes)) }
 {
     let n = steps.len() / 4;
     let mut played = Played {
-        position: journal::start(sheet),
+        position: journal::start(sheet.bytes()),
         accepted: 0,
     };
     for k in 0..n {

@@ -10,6 +10,7 @@ ghost use Rattle.claim_history.specs.Forms.Steps.{taken};
 use call_run::journal::step_at;
 use output::open;
 use position::journal;
+use sheet::field::Sheet;
 
 // The four bytes from byte i on, if their step was accepted; the answer is their number.
 fn write_taken(refusal: u32, steps: &[u8], i: usize, out: &mut [u8]) -> usize
@@ -29,13 +30,13 @@ fn write_taken(refusal: u32, steps: &[u8], i: usize, out: &mut [u8]) -> usize
 }
 
 // The accepted steps, at the front of the buffer.
-pub fn write_accepted(sheet: &[u8], setup: &[u8], steps: &[u8], out: &mut [u8])
-    requires fit { Fit sheet.now setup.now }
-    requires sheet_in_bounds { length (journal_bytes (accepted_of sheet.now setup.now (journal_steps steps.now) (start sheet.now))) ≤ length out.old }
-    ensures { out.new ≡ over (journal_bytes (accepted_of sheet.now setup.now (journal_steps steps.now) (start sheet.now))) out.old }
+pub fn write_accepted(sheet: &Sheet, setup: &[u8], steps: &[u8], out: &mut [u8])
+    requires fit { Fit sheet.now.bytes setup.now }
+    requires sheet_in_bounds { length (journal_bytes (accepted_of sheet.now.bytes setup.now (journal_steps steps.now) (start sheet.now.bytes))) ≤ length out.old }
+    ensures { out.new ≡ over (journal_bytes (accepted_of sheet.now.bytes setup.now (journal_steps steps.now) (start sheet.now.bytes))) out.old }
 {
     let n = steps.len() / 4;
-    let mut here = journal::start(sheet);
+    let mut here = journal::start(sheet.bytes());
     let mut at: usize = 0;
     for k in 0..n {
         let stepped = step_at(here, sheet, setup, steps, 4 * k);

@@ -1,6 +1,6 @@
 -- The table's rows for P6 and P7, by the laws for all sizes: their positions are places that these laws speak of.
 -- Assumes nothing.
-use Rattle.std.specs.Prelude.{ℕ, ◌+◌, ◌≤◌, ◌<◌, ◌≡◌, refl, Bool, true, false, ◌&&◌, List, [], ◌∷◌, ◌++◌, eqb, ltb, leb, get_or, take, drop}
+use Rattle.std.specs.Prelude.{ℕ, ◌+◌, ◌≤◌, ◌<◌, ◌≡◌, refl, Bool, true, false, ◌&&◌, List, [], ◌∷◌, ◌++◌, eqb, ltb, leb, get_or, take, drop, Some}
 use Rattle.std.proofs.Common.{sym, ◌∙◌, lit<, lit≤, eq-eqb, eqb-true}
 use Rattle.std.proofs.lemmas.Bool.{false≢true}
 use Rattle.laws.specs.Booleans.{split}
@@ -15,7 +15,6 @@ use Rattle.slots.specs.declared.Destination.{Destination}
 use Rattle.slots.specs.declared.Destination.TheVariants.{Contract}
 use Rattle.slots.specs.declared.Step.{Step}
 use Rattle.slots.specs.declared.Step.TheVariants.{SendToPool, HandToMiner}
-use Rattle.steps.specs.declared.Decoded.TheVariants.{Read}
 use Rattle.steps.specs.Names.{lock_a, success, revoke}
 use Rattle.position.specs.declared.Position.{Position}
 use Rattle.position.specs.Position.{start}
@@ -40,7 +39,7 @@ one_step s u b c p =
     (λ y. rw (run_stops s u b [] c p y))
 
 -- a step whose fields are right gets that of its tests
-read_number_lem : (s u : List ℕ) (p : Position) (b : FourBytes) (x : Step) → decode_bytes s u b ≡ Read x → (step s u p b).refusal ≡ step_refusal s u p x
+read_number_lem : (s u : List ℕ) (p : Position) (b : FourBytes) (x : Step) → decode_bytes s u b ≡ Some x → (step s u p b).refusal ≡ step_refusal s u p x
 unfolding step take_decoded take_step
 read_number_lem s u p b x e =
     split (eqb (step_refusal s u p x) accepted)
@@ -56,7 +55,7 @@ record Behind (s u j send : List ℕ) (x : Step) : Type 0 where
   allowed : first_failing (call_tests s u j) ≡ 0
   longer : first_failing (call_tests s u (j ++ send)) ≡ 0
   steps : journal_steps (j ++ send) ≡ journal_steps j ++ (bytes send ∷ [])
-  read : decode_bytes s u (bytes send) ≡ Read x
+  read : decode_bytes s u (bytes send) ≡ Some x
   taken : (run s u j).refusal ≡ accepted
 
 gets : (s u j send : List ℕ) (x : Step) → Behind s u j send x → (run s u (j ++ send)).refusal ≡ step_refusal s u (run s u j).position x

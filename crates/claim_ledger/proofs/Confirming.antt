@@ -1,7 +1,7 @@
 -- What a taken step confirms: nothing, or, kind 6, the block being filled.
 -- Assumes nothing.
 use Rattle.laws.proofs.Prelude.{ℕ, ◌≡◌, refl, false, List, [], ◌∷◌, ◌++◌, eqb}
-use Rattle.position.proofs.Rules.{accepted, Checked, Step, Share, Give, SendToPool, HandToMiner, Include, Mine, Bump, destination_number, Read, after_mine}
+use Rattle.position.proofs.Rules.{accepted, Checked, Step, Share, Give, SendToPool, HandToMiner, Include, Mine, Bump, destination_number, Some, after_mine}
 use Rattle.position.specs.declared.Position.{Position}
 use Rattle.position.proofs.Rules.{effect, FourBytes, decode_bytes, step, block_entries, confirms, confirmed_entries}
 use Rattle.step_laws.proofs.Untouched.{SameConfirmed}
@@ -12,8 +12,8 @@ use Rattle.claim_ledger.proofs.Sound.{Sound}
 use Rattle.claim_ledger.proofs.EachKind.{wide}
 
 pub data StepConfirms (s : List ℕ) (p : Position) (x : Step) : Type 0 where
-  nothing : confirms s p (Read x) ≡ [] → SameConfirmed p (effect s p x) → StepConfirms s p x
-  the_block : confirms s p (Read x) ≡ block_entries s p → effect s p x ≡ after_mine s p → StepConfirms s p x
+  nothing : confirms s p (Some x) ≡ [] → SameConfirmed p (effect s p x) → StepConfirms s p x
+  the_block : confirms s p (Some x) ≡ block_entries s p → effect s p x ≡ after_mine s p → StepConfirms s p x
 
 pub step_confirms : (s u : List ℕ) → Checked s → (p : Position) → Sound s u p → (x : Step) → StepConfirms s p x
 unfolding confirms effect
@@ -27,8 +27,8 @@ step_confirms s u ok p g (Bump party t to) = nothing refl (bump_confirmed s p (w
 
 -- the entries of a list, by its first step
 module _ (s u : List ℕ) (b : FourBytes) (bs : List FourBytes) (p : Position) where
-  pub entries_taken : (x : Step) → decode_bytes s u b ≡ Read x → step s u p b ≡ record { refusal = accepted; position = effect s p x }
-      → confirmed_entries s u (b ∷ bs) p ≡ confirms s p (Read x) ++ confirmed_entries s u bs (effect s p x)
+  pub entries_taken : (x : Step) → decode_bytes s u b ≡ Some x → step s u p b ≡ record { refusal = accepted; position = effect s p x }
+      → confirmed_entries s u (b ∷ bs) p ≡ confirms s p (Some x) ++ confirmed_entries s u bs (effect s p x)
   unfolding confirmed_entries
   entries_taken x d e = rw (e, d)
 

@@ -2,7 +2,7 @@
 -- Assumes nothing.
 use Rattle.laws.proofs.Prelude.{ℕ, zero, suc, ◌+◌, ◌<◌, ◌≡◌, refl, ap, ◌∙◌, true, List, [], ◌∷◌, ◌++◌, ltb, eq-eqb, lt-ltb, arith, pick, split, and_parts, or_right}
 use Rattle.laws.proofs.Prelude.{gather, All, empty, also, all_append, all_weaken}
-use Rattle.position.proofs.Rules.{count, sheet_refusal, setup_refusal, Step, Entry, before, in_order, Read, in_block, block_to, effect, FourBytes, block_entries}
+use Rattle.position.proofs.Rules.{count, sheet_refusal, setup_refusal, Step, Entry, before, in_order, Some, in_block, block_to, effect, FourBytes, block_entries}
 use Rattle.position.specs.declared.Position.{Position}
 use Rattle.position.proofs.Rules.{confirms, confirmed_entries}
 use Rattle.sheet.proofs.Theorems.{sheet_checked}
@@ -101,7 +101,7 @@ module _ (s u : List ℕ) (h : sheet_refusal s ≡ 0) (k : setup_refusal s u ≡
   Rest bs = (p : Position) → Sound s u p → After s p.mined (confirmed_entries s u bs p)
 
   step_then : (bs : List FourBytes) → Rest bs → (p : Position) → Sound s u p → (x : Step) → Sound s u (effect s p x) → StepConfirms s p x
-      → After s p.mined (confirms s p (Read x) ++ confirmed_entries s u bs (effect s p x))
+      → After s p.mined (confirms s p (Some x) ++ confirmed_entries s u bs (effect s p x))
   step_then bs rest p g x q (nothing e c) = rw e (after_same c.mined (rest (effect s p x) q))
   step_then bs rest p g x q (the_block e a) =
       rw e

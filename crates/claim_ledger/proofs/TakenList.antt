@@ -1,7 +1,7 @@
 -- The ledger takes all that the accepted kind 6 steps of a list confirm, and stays linked to the position.
 -- Assumes nothing.
 use Rattle.laws.proofs.Prelude.{ℕ, ◌+◌, ◌≡◌, refl, true, List, [], ◌∷◌, ◌++◌, arith, none_some}
-use Rattle.position.proofs.Rules.{sheet_refusal, per_day, setup_refusal, Checked, Step, Entry, Kept, none_kept, enter, Read, start, in_block, block_to, block_of}
+use Rattle.position.proofs.Rules.{sheet_refusal, per_day, setup_refusal, Checked, Step, Entry, Kept, none_kept, enter, Some, start, in_block, block_to, block_of}
 use Rattle.position.specs.declared.Position.{Position}
 use Rattle.position.proofs.Rules.{confirmed_to, after_mine, effect, FourBytes, play, block_entries, confirms, confirmed_entries}
 use Rattle.sheet.proofs.Theorems.{sheet_checked}
@@ -43,7 +43,7 @@ module _ (s u : List ℕ) (ok : Checked s) (p : Position) (g : Sound s u p) (kep
       let r = block_taken s (per_day u) ok (block_of p) (confirmed_to p) (in_block p) (block_to p) p.mined g.settled g.block kept lk in
       record { after = r.0; linked = rw (mine_blocks s p (wide s u ok p g) g.beyond, mine_to s p (wide s u ok p g) g.beyond) r.1; entered = r.2 }
 
-  step_takes : (x : Step) → StepConfirms s p x → Takes s u kept (confirms s p (Read x)) (effect s p x)
+  step_takes : (x : Step) → StepConfirms s p x → Takes s u kept (confirms s p (Some x)) (effect s p x)
   step_takes x (nothing e c) = rw e (nothing_taken (effect s p x) c)
   step_takes x (the_block e q) = rw (e, q) block_takes
 

@@ -3,7 +3,7 @@
 use Rattle.laws.proofs.Prelude.{ℕ, ◌<◌, ◌≡◌, refl, sym, ap, ◌∙◌, Bool, true, false, not, ◌&&◌, List, ◌⊎◌, eqb, eqb-true, lt-ltb, le-leb, arith, clash, and_parts}
 use Rattle.laws.proofs.Prelude.{or_right, fails_by, any_all_false, zero_or_one, first_failing, bit}
 use Rattle.position.proofs.Rules.{count, required, never, lock_height, accepted, saswap, per_day, conduct, Destination, Alice, Bob, SendToPool, has_parent, conflict}
-use Rattle.position.proofs.Rules.{conflict_in, no_conflict, deadline, alice, bob, destination_number, signed, Read, may_send, secret_alice, secret_bob, lock_b, spend_b}
+use Rattle.position.proofs.Rules.{conflict_in, no_conflict, deadline, alice, bob, destination_number, signed, Some, may_send, secret_alice, secret_bob, lock_b, spend_b}
 use Rattle.position.specs.declared.Position.{Position}
 use Rattle.position.proofs.Rules.{in_pool, pool_to, block_to, block_of, is_confirmed, confirmed_to, sent, holds, sender_has, lock_height_in, deadline_in, is_open}
 use Rattle.position.specs.declared.Stepped.{Stepped}
@@ -52,8 +52,8 @@ send : ℕ → FourBytes
 send party = record { kind = 3; party = party; transaction = spend_b; destination = party }
 
 reads : (d : ℕ) (u : List ℕ)
-    → (decode_bytes (saswap d) u (send alice) ≡ Read (SendToPool alice spend_b Alice))
-    × (decode_bytes (saswap d) u (send bob) ≡ Read (SendToPool bob spend_b Bob))
+    → (decode_bytes (saswap d) u (send alice) ≡ Some (SendToPool alice spend_b Alice))
+    × (decode_bytes (saswap d) u (send bob) ≡ Some (SendToPool bob spend_b Bob))
 unfolding opened send
 reads d u = (refl, refl)
 

@@ -1,7 +1,7 @@
 -- The confirmed entries of a list have blocks that are mined, so entries of later blocks stand behind them in order.
 -- Assumes nothing.
 use Rattle.laws.proofs.Prelude.{ℕ, ◌≤◌, ◌<◌, ◌≡◌, ap, ◌∙◌, true, List, [], ◌∷◌, ◌++◌, lt-ltb, arith, All, empty, all_append, all_weaken}
-use Rattle.position.proofs.Rules.{sheet_refusal, setup_refusal, Step, Read, Entry, before, in_order, start, effect, FourBytes, confirms, confirmed_entries, play}
+use Rattle.position.proofs.Rules.{sheet_refusal, setup_refusal, Step, Some, Entry, before, in_order, start, effect, FourBytes, confirms, confirmed_entries, play}
 use Rattle.position.specs.declared.Position.{Position}
 use Rattle.sheet.proofs.Theorems.{sheet_checked}
 use Rattle.position.proofs.StepCases.{StepCase, taken, turned_down, step_case}
@@ -20,7 +20,7 @@ module _ (s u : List ℕ) (h : sheet_refusal s ≡ 0) (k : setup_refusal s u ≡
   Rest bs = (p : Position) → Sound s u p → All (λ e. e.block ≤ (play s u bs p).mined) (confirmed_entries s u bs p)
 
   step_then : (bs : List FourBytes) → Rest bs → (p : Position) → Sound s u p → (x : Step) → Sound s u (effect s p x) → StepConfirms s p x
-      → All (λ e. e.block ≤ (play s u bs (effect s p x)).mined) (confirms s p (Read x) ++ confirmed_entries s u bs (effect s p x))
+      → All (λ e. e.block ≤ (play s u bs (effect s p x)).mined) (confirms s p (Some x) ++ confirmed_entries s u bs (effect s p x))
   step_then bs rest p g x q (nothing e c) = rw e (rest (effect s p x) q)
   step_then bs rest p g x q (the_block e a) =
       let m = ap (λ (r : Position). r.mined) a ∙ mine_mined s p (wide s u (sheet_checked s h) p g) g.beyond in

@@ -1,7 +1,7 @@
 -- Bytes that do not name Carol are the same step, or refused, on both sheets.
 -- Assumes nothing.
 use Rattle.laws.proofs.Prelude.{ℕ, ◌≡◌, refl, fun_ext, false, List, eqb}
-use Rattle.position.proofs.Rules.{Destination, Alice, Bob, Contract, carol, destination_number, is_payee, is_contract, Decoded, Refused, sends_to, shares_to, is_other}
+use Rattle.position.proofs.Rules.{Destination, Alice, Bob, Contract, carol, destination_number, is_payee, is_contract, Step, Option, None, sends_to, shares_to, is_other}
 use Rattle.position.proofs.Rules.{fields_right, of_kind, spelled, range_checked, decode}
 use Rattle.laws.specs.Cases.{picked_has}
 use Rattle.claim_parties.proofs.Alike.{Alike}
@@ -15,7 +15,7 @@ module _ (s w u : List ℕ) (a : Alike s w) where
   unfolding is_payee
   payee_same t party n = rw (a.parties_same party n, a.entries)
 
-  Same : Decoded → Type 0
+  Same : Option Step → Type 0
   Same y = range_checked w u y ≡ range_checked s u y
 
   module _ (party t : ℕ) (n : eqb party carol ≡ false) (to : Destination) (m : eqb (destination_number to) carol ≡ false) where
@@ -49,5 +49,5 @@ module _ (s w u : List ℕ) (a : Alike s w) where
       rw m
       (picked_has Same (eqb d 0) (kind_same party t n Alice refl kind)
       (picked_has Same (eqb d 1) (kind_same party t n Bob refl kind)
-      (picked_has Same (eqb d 2) {y = Refused} (kind_same party t n Contract refl kind)
+      (picked_has Same (eqb d 2) {y = None} (kind_same party t n Contract refl kind)
       refl)))

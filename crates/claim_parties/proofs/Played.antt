@@ -3,7 +3,7 @@
 use Rattle.laws.proofs.Prelude.{ℕ, ◌+◌, ◌<◌, ◌≡◌, refl, sym, ap, ◌∙◌, fun_ext, true, false, not, List, [], ◌∷◌, ◌++◌, eqb, eqb-true, eqb-false, not-true, ap₂, split}
 use Rattle.laws.proofs.Prelude.{and_parts, or_neither, first_failing, passed_append, every}
 use Rattle.position.proofs.Rules.{accepted, journal_length, byte, place, start_keys, array_tests, sheet_tests, sheet_refusal, conduct, parties_right, conduct_right, setup_tests}
-use Rattle.position.proofs.Rules.{carol, Step, Decoded, Read, Refused, start_held, start, FourBytes, journal_steps, decode_bytes, take_step}
+use Rattle.position.proofs.Rules.{carol, Step, Option, Some, None, start_held, start, FourBytes, journal_steps, decode_bytes, take_step}
 use Rattle.position.specs.declared.Position.{Position}
 use Rattle.position.specs.declared.Stepped.{Stepped}
 use Rattle.position.specs.declared.Ran.{Ran}
@@ -34,10 +34,10 @@ module _ (s u : List ℕ) (two : byte s 0 < 128) (o : conduct u ≡ 0) where
       let n = eqb-false (step_refusal s u p x) accepted y in
       sym (refuses w u p x (step_refusal s u p x) (sym same) n) ∙ refuses s u p x (step_refusal s u p x) refl n)
 
-  decoded_same : (p : Position) (y : Decoded) → take_decoded (with_carol s) u p y ≡ take_decoded s u p y
+  decoded_same : (p : Position) (y : Option Step) → take_decoded (with_carol s) u p y ≡ take_decoded s u p y
   unfolding take_decoded
-  decoded_same p (Read x) = take_same p x
-  decoded_same p Refused = refl
+  decoded_same p (Some x) = take_same p x
+  decoded_same p None = refl
 
   pub step_same : (p : Position) (b : FourBytes) → names_carol b ≡ false → step (with_carol s) u p b ≡ step s u p b
   unfolding step decode_bytes names_carol

@@ -3,7 +3,7 @@
 use Rattle.laws.proofs.Prelude.{ℕ, zero, suc, ◌%◌, ◌≤◌, ◌<◌, ◌≡◌, refl, sym, ap, ◌∙◌, Bool, true, false, ◌&&◌, and-false, List, eqb, ltb, eqb-true, eqb-false, ltb-true}
 use Rattle.laws.proofs.Prelude.{ltb-false, ne_eqb, arith, pick, split, either, clash, and_parts, or_parts}
 use Rattle.position.proofs.Rules.{accepted, byte, count, conduct, Destination, Alice, Bob, Contract, Carol, Step, Share, Give, SendToPool, HandToMiner, Include, Mine}
-use Rattle.position.proofs.Rules.{Bump, destinations, destination_number, is_party, Decoded, Read, Refused, no_transaction, sends_to, shares_to, is_other, first_share_fields}
+use Rattle.position.proofs.Rules.{Bump, destinations, destination_number, is_party, Option, Some, None, no_transaction, sends_to, shares_to, is_other, first_share_fields}
 use Rattle.position.proofs.Rules.{fields_right, of_kind, spelled, range_checked, decode, step_refusal, effect, FourBytes, decode_bytes, take_step}
 use Rattle.position.specs.declared.Position.{Position}
 use Rattle.position.specs.declared.Stepped.{Stepped}
@@ -38,7 +38,7 @@ spelled_known k a t (suc (suc zero)) l = refl
 spelled_known k a t (suc (suc (suc zero))) l = refl
 spelled_known k a t (suc (suc (suc (suc d)))) l = absurd (omega arith)
 
-spelled_unknown : (k a t d : ℕ) → destinations ≤ d → spelled k a t d ≡ Refused
+spelled_unknown : (k a t d : ℕ) → destinations ≤ d → spelled k a t d ≡ None
 unfolding spelled
 spelled_unknown k a t d l =
     rw (ne_eqb d 0 (λ z. omega (arith, z)), ne_eqb d 1 (λ z. omega (arith, z)), ne_eqb d 2 (λ z. omega (arith, z)), ne_eqb d 3 (λ z. omega (arith, z)))
@@ -49,7 +49,7 @@ unfolding count
 listed_not_none s t h = ne_eqb t no_transaction (λ z. omega (arith, z, ltb-true t (byte s 0 % 128) h))
 
 -- what holds of both pairs holds of the chosen ones
-pair_picked : (P : Decoded → Decoded → Type 0) (b : Bool) {x y x' y' : Decoded} → P x x' → P y y' → P (pick b x y) (pick b x' y')
+pair_picked : (P : Option Step → Option Step → Type 0) (b : Bool) {x y x' y' : Option Step} → P x x' → P y y' → P (pick b x y) (pick b x' y')
 pair_picked P true h k = h
 pair_picked P false h k = k
 
@@ -98,10 +98,10 @@ module _ (ρ : Renaming) (s w u : List ℕ) (c : RenamedSheet ρ s w) (o : condu
     Both : Stepped → Stepped → Type 0
     Both x y = (y.refusal ≡ x.refusal) × Renamed ρ x.position y.position
 
-    Related : Decoded → Decoded → Type 0
+    Related : Option Step → Option Step → Type 0
     Related x y = Both (take_decoded s u p (range_checked s u x)) (take_decoded w u q (range_checked w u y))
 
-    none_related : Related Refused Refused
+    none_related : Related None None
     unfolding range_checked take_decoded Related Both
     none_related = (refl, r)
 
@@ -120,7 +120,7 @@ module _ (ρ : Renaming) (s w u : List ℕ) (c : RenamedSheet ρ s w) (o : condu
         let n = eqb-false m accepted h in
         rw (sym (refuses s u p x m refl n), sym (refuses w u q y m (sym g) n)) (refl, r))
 
-    read_both : (x y : Step) → fields_right w u y ≡ fields_right s u x → (fields_right s u x ≡ true → Both (take_step s u p x) (take_step w u q y)) → Related (Read x) (Read y)
+    read_both : (x y : Step) → fields_right w u y ≡ fields_right s u x → (fields_right s u x ≡ true → Both (take_step s u p x) (take_step w u q y)) → Related (Some x) (Some y)
     unfolding range_checked take_decoded Related
     read_both x y e f =
         split (fields_right s u x)
@@ -134,7 +134,7 @@ module _ (ρ : Renaming) (s w u : List ℕ) (c : RenamedSheet ρ s w) (o : condu
       in_range : (rest : Bool) → (is_party s a && rest) ≡ true → a < destinations
       in_range rest h = party_small s a (and_parts (is_party s a) rest h).0
 
-      share_both : Related (Read (Share a t to)) (Read (Share (ρ.to a) t too))
+      share_both : Related (Some (Share a t to)) (Some (Share (ρ.to a) t too))
       unfolding fields_right tests effect d
       share_both =
           read_both (Share a t to) (Share (ρ.to a) t too)
@@ -146,7 +146,7 @@ module _ (ρ : Renaming) (s w u : List ℕ) (c : RenamedSheet ρ s w) (o : condu
           (rw (conduct_open u o s q (Share (ρ.to a) t too), conduct_open u o s p (Share a t to), n) (share_tests_lem ρ s u p q r a t d l (destination_within to) z))
           (rw n (share_renamed ρ s u p q r a t d l (destination_within to) z)))
 
-      give_both : Related (Read (Give a t to)) (Read (Give (ρ.to a) t too))
+      give_both : Related (Some (Give a t to)) (Some (Give (ρ.to a) t too))
       unfolding fields_right tests effect d
       give_both =
           read_both (Give a t to) (Give (ρ.to a) t too)
@@ -157,7 +157,7 @@ module _ (ρ : Renaming) (s w u : List ℕ) (c : RenamedSheet ρ s w) (o : condu
           (rw (conduct_open u o s q (Give (ρ.to a) t too), conduct_open u o s p (Give a t to), n) (give_tests_lem ρ s u p q r a t d l (destination_within to)))
           (rw n (give_renamed ρ s u p q r a t d l (destination_within to))))
 
-      send_both : Related (Read (SendToPool a t to)) (Read (SendToPool (ρ.to a) t too))
+      send_both : Related (Some (SendToPool a t to)) (Some (SendToPool (ρ.to a) t too))
       unfolding fields_right tests effect d
       send_both =
           read_both (SendToPool a t to) (SendToPool (ρ.to a) t too)
@@ -168,7 +168,7 @@ module _ (ρ : Renaming) (s w u : List ℕ) (c : RenamedSheet ρ s w) (o : condu
           (rw (conduct_open u o s q (SendToPool (ρ.to a) t too), conduct_open u o s p (SendToPool a t to), n) (pool_tests_lem ρ s u p q r a t d l (destination_within to)))
           (rw n (send_renamed ρ s u p q r a t d l (destination_within to))))
 
-      hand_both : Related (Read (HandToMiner a t to)) (Read (HandToMiner (ρ.to a) t too))
+      hand_both : Related (Some (HandToMiner a t to)) (Some (HandToMiner (ρ.to a) t too))
       unfolding fields_right tests effect d
       hand_both =
           read_both (HandToMiner a t to) (HandToMiner (ρ.to a) t too)
@@ -179,21 +179,21 @@ module _ (ρ : Renaming) (s w u : List ℕ) (c : RenamedSheet ρ s w) (o : condu
           (rw (conduct_open u o s q (HandToMiner (ρ.to a) t too), conduct_open u o s p (HandToMiner a t to), n) (miner_tests_lem ρ s u p q r a t d l (destination_within to)))
           (rw n (hand_renamed ρ s u p q r a t d l (destination_within to))))
 
-      include_both : Related (Read (Include a t to)) (Read (Include (ρ.to a) t too))
+      include_both : Related (Some (Include a t to)) (Some (Include (ρ.to a) t too))
       unfolding fields_right tests effect
       include_both =
           read_both (Include a t to) (Include (ρ.to a) t too)
           (rw (n, miner_number ρ a, miner_number ρ (destination_number to), c.transactions.counts) refl)
           (λ h. taken_both (Include a t to) (Include (ρ.to a) t too) (include_tests_lem ρ s u p q r t) (include_renamed ρ s u p q r t))
 
-      mine_both : Related (Read (Mine a t to)) (Read (Mine (ρ.to a) t too))
+      mine_both : Related (Some (Mine a t to)) (Some (Mine (ρ.to a) t too))
       unfolding fields_right tests effect
       mine_both =
           read_both (Mine a t to) (Mine (ρ.to a) t too)
           (rw (n, miner_number ρ a, miner_number ρ (destination_number to)) refl)
           (λ h. taken_both (Mine a t to) (Mine (ρ.to a) t too) (mine_tests_lem ρ s u p q r) (mine_renamed ρ s u p q r))
 
-      bump_both : Related (Read (Bump a t to)) (Read (Bump (ρ.to a) t too))
+      bump_both : Related (Some (Bump a t to)) (Some (Bump (ρ.to a) t too))
       unfolding fields_right tests effect
       bump_both =
           read_both (Bump a t to) (Bump (ρ.to a) t too)

@@ -9,6 +9,7 @@ ghost use Rattle.position.specs.Forms.View.{view_below};
 ghost use Rattle.dated.specs.Dated.{noted, dated_start};
 
 use position::{Position, journal};
+use sheet::field::Sheet;
 use steps::{View, parent};
 
 mod opens;
@@ -32,15 +33,15 @@ pub struct Viewed {
 pub fn noted(
     opened: [u32; 32],
     position: Position,
-    sheet: &[u8],
+    sheet: &Sheet,
     setup: &[u8],
     view: View,
 ) -> [u32; 32]
-    requires fit { Fit sheet.now setup.now }
-    requires view_value { view ≡ view_below sheet.now (count sheet.now) position }
-    ensures { result ≡ noted sheet.now setup.now position opened }
+    requires fit { Fit sheet.now.bytes setup.now }
+    requires view_value { view ≡ view_below sheet.now.bytes (count sheet.now.bytes) position }
+    ensures { result ≡ noted sheet.now.bytes setup.now position opened }
 {
-    let n = sheet::field::count(sheet);
+    let n = sheet.count();
     let per_day = sheet::setup::per_day(setup);
     let mut counts = opened;
     for t in 0..n {
@@ -57,12 +58,12 @@ pub fn noted(
 }
 
 // The empty journal's position, seen, and its view.
-pub fn start(sheet: &[u8], setup: &[u8]) -> Viewed
-    requires { Fit sheet.now setup.now }
-    ensures dated_value { result.dated ≡ dated_start sheet.now setup.now }
-    ensures view_value { result.view ≡ view_below sheet.now (count sheet.now) result.dated.position }
+pub fn start(sheet: &Sheet, setup: &[u8]) -> Viewed
+    requires { Fit sheet.now.bytes setup.now }
+    ensures dated_value { result.dated ≡ dated_start sheet.now.bytes setup.now }
+    ensures view_value { result.view ≡ view_below sheet.now.bytes (count sheet.now.bytes) result.dated.position }
 {
-    let position = journal::start(sheet);
+    let position = journal::start(sheet.bytes());
     let view = journal::start_view(sheet);
     let opened = noted([opens::NEVER; 32], position, sheet, setup, view);
     Viewed {

@@ -8,6 +8,7 @@ ghost use Rattle.sheet.specs.Checked.{Checked};
 ghost use Rattle.slots.specs.Ancestry.{has_parent};
 ghost use Rattle.dated.specs.Forms.Opens.{at_hand_in, opens_in, stays, first_open_in};
 
+use sheet::field::Sheet;
 use slots::{Slot, conflict, lock_height, party, signatures};
 use steps::{View, parent};
 
@@ -15,10 +16,10 @@ use steps::{View, parent};
 pub const NEVER: u32 = 2147483647;
 
 // Whether the signatures of t are at hand for a party: for the contract, or for itself as a payee.
-fn at_hand(sheet: &[u8], view: View, x: Slot, t: usize, party: u8) -> bool
-    requires checked { Checked sheet.now }
-    requires t_bound { t < count sheet.now }
-    ensures { result ≡ at_hand_in sheet.now view x t party }
+fn at_hand(sheet: &Sheet, view: View, x: Slot, t: usize, party: u8) -> bool
+    requires checked { Checked sheet.now.bytes }
+    requires t_bound { t < count sheet.now.bytes }
+    ensures { result ≡ at_hand_in sheet.now.bytes view x t party }
 {
     if party::is_contract(sheet, t) {
         return signatures::signed(sheet, view.sender(sheet, x, party, 2), t);
@@ -30,30 +31,29 @@ fn at_hand(sheet: &[u8], view: View, x: Slot, t: usize, party: u8) -> bool
 }
 
 // For some party.
-fn at_hand_of_some(sheet: &[u8], view: View, x: Slot, t: usize) -> bool
-    requires checked { Checked sheet.now }
-    requires t_bound { t < count sheet.now }
-    ensures { result ≡ any_below (parties sheet.now) (λ k. at_hand_in sheet.now view x t (party_at k)) }
+fn at_hand_of_some(sheet: &Sheet, view: View, x: Slot, t: usize) -> bool
+    requires checked { Checked sheet.now.bytes }
+    requires t_bound { t < count sheet.now.bytes }
+    ensures { result ≡ any_below (parties sheet.now.bytes) (λ k. at_hand_in sheet.now.bytes view x t (party_at k)) }
 {
-    let n = sheet::field::parties(sheet);
+    let n = sheet.parties();
     (0..n).any(|k| at_hand(sheet, view, x, t, sheet::field::party_at(k)))
 }
 
 // Whether the lock of t is reached.
-fn lock_reached(sheet: &[u8], per_day: u16, since: u16, mined: u16, t: usize) -> bool
-    requires sized { Sized sheet.now }
-    requires t_bound { t < count sheet.now }
-    ensures { result ≡ leb (lock_height sheet.now per_day (λ k. since) t) mined }
+fn lock_reached(sheet: &Sheet, per_day: u16, since: u16, mined: u16, t: usize) -> bool
+    requires t_bound { t < count sheet.now.bytes }
+    ensures { result ≡ leb (lock_height sheet.now.bytes per_day (λ k. since) t) mined }
 {
     lock_height::lock_height(sheet, per_day, since, t) <= lock_height::wide(mined)
 }
 
 // Whether t, whose parent is confirmed or which has none, is open. The search for a rival takes longest.
-fn opens(sheet: &[u8], per_day: u16, view: View, x: Slot, since: u16, t: usize) -> bool
-    requires checked { Checked sheet.now }
-    requires t_bound { t < count sheet.now }
-    requires t_value { has_parent sheet.now (bit view.confirmed) t ≡ true }
-    ensures { result ≡ opens_in sheet.now per_day view x since t }
+fn opens(sheet: &Sheet, per_day: u16, view: View, x: Slot, since: u16, t: usize) -> bool
+    requires checked { Checked sheet.now.bytes }
+    requires t_bound { t < count sheet.now.bytes }
+    requires t_value { has_parent sheet.now.bytes (bit view.confirmed) t ≡ true }
+    ensures { result ≡ opens_in sheet.now.bytes per_day view x since t }
 {
     if !lock_reached(sheet, per_day, since, view.mined, t) {
         return false;
@@ -65,10 +65,9 @@ fn opens(sheet: &[u8], per_day: u16, view: View, x: Slot, since: u16, t: usize) 
 }
 
 // Whether the count c of t stays, whatever its slot: it has one, or its parent is not confirmed.
-pub fn stays(sheet: &[u8], view: View, t: usize, c: u32) -> bool
-    requires sized { Sized sheet.now }
-    requires t_bound { t < count sheet.now }
-    ensures { result ≡ stays sheet.now view t c }
+pub fn stays(sheet: &Sheet, view: View, t: usize, c: u32) -> bool
+    requires t_bound { t < count sheet.now.bytes }
+    ensures { result ≡ stays sheet.now.bytes view t c }
 {
     if c != NEVER {
         return true;
@@ -77,11 +76,11 @@ pub fn stays(sheet: &[u8], view: View, t: usize, c: u32) -> bool
 }
 
 // The count of another transaction t once this is seen: the blocks mined, where it is open.
-pub fn first_open(sheet: &[u8], per_day: u16, view: View, x: Slot, since: u16, t: usize) -> u32
-    requires checked { Checked sheet.now }
-    requires t_bound { t < count sheet.now }
-    requires t_value { has_parent sheet.now (bit view.confirmed) t ≡ true }
-    ensures { result ≡ first_open_in sheet.now per_day view x since t never }
+pub fn first_open(sheet: &Sheet, per_day: u16, view: View, x: Slot, since: u16, t: usize) -> u32
+    requires checked { Checked sheet.now.bytes }
+    requires t_bound { t < count sheet.now.bytes }
+    requires t_value { has_parent sheet.now.bytes (bit view.confirmed) t ≡ true }
+    ensures { result ≡ first_open_in sheet.now.bytes per_day view x since t never }
 {
     if !opens(sheet, per_day, view, x, since, t) {
         return NEVER;

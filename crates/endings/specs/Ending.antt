@@ -11,7 +11,7 @@ use Rattle.slots.specs.Destination.{is_contract}
 use Rattle.ledger.specs.Coin.{coin_of}
 use Rattle.steps.specs.Decode.{shares_to}
 use Rattle.position.specs.Tests.{block_limit}
-use Rattle.endings.specs.Refusal.{ending_field, ending_impossible}
+use Rattle.sheet.specs.Refusal.{ending_field, ending_impossible}
 use Rattle.endings.specs.Earliest.{earliest}
 use Rattle.endings.specs.Plan.{planned}
 

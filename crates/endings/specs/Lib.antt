@@ -1,4 +1,3 @@
-pub mod Refusal
 pub mod Earliest
 pub mod Plan
 pub mod Ending

@@ -5,16 +5,16 @@ ghost use Rattle.ledger.specs.Ledger.{lock_from};
 ghost use Rattle.endings.specs.Earliest.{earliest_from, earliest};
 ghost use Rattle.endings.specs.Forms.Bounds.{Locked, Early};
 
+use sheet::field::Sheet;
 use slots::lock_height::lock_blocks;
 
 // The lock of t over a block of its parent.
-fn lock_from(sheet: &[u8], per_day: u16, above: u32, t: usize) -> u32
-    requires sized { Sized sheet.now }
-    requires t_bound { t < count sheet.now }
+fn lock_from(sheet: &Sheet, per_day: u16, above: u32, t: usize) -> u32
+    requires t_bound { t < count sheet.now.bytes }
     requires above_bound { above ≤ 536870944 }
-    ensures { Locked (lock_from sheet.now per_day above t) above result }
+    ensures { Locked (lock_from sheet.now.bytes per_day above t) above result }
 {
-    let lock = sheet::field::lock_type(sheet, t);
+    let lock = sheet.lock_type(t);
     if lock == 0 {
         return 0;
     }
@@ -26,11 +26,10 @@ fn lock_from(sheet: &[u8], per_day: u16, above: u32, t: usize) -> u32
 }
 
 // The earliest block of t over its parent's.
-fn earliest_from(sheet: &[u8], per_day: u16, t: usize, above: u32) -> u32
-    requires sized { Sized sheet.now }
-    requires t_bound { t < count sheet.now }
+fn earliest_from(sheet: &Sheet, per_day: u16, t: usize, above: u32) -> u32
+    requires t_bound { t < count sheet.now.bytes }
     requires above_bound { above ≤ 16777217 * t + 1 }
-    ensures { Early (earliest_from sheet.now per_day t above) t result }
+    ensures { Early (earliest_from sheet.now.bytes per_day t above) t result }
 {
     let next = lock_from(sheet, per_day, above, t) + 1;
     if above < next {
@@ -40,12 +39,11 @@ fn earliest_from(sheet: &[u8], per_day: u16, t: usize, above: u32) -> u32
 }
 
 // The earliest block of t.
-pub fn earliest_block(sheet: &[u8], per_day: u16, t: usize) -> u32
-    requires sized { Sized sheet.now }
-    requires t_bound { t < count sheet.now }
-    ensures { Early (earliest sheet.now per_day t) t result }
+pub fn earliest_block(sheet: &Sheet, per_day: u16, t: usize) -> u32
+    requires t_bound { t < count sheet.now.bytes }
+    ensures { Early (earliest sheet.now.bytes per_day t) t result }
 {
-    let up = sheet::field::parent(sheet, t);
+    let up = sheet.parent(t);
     if up < t {
         let above = earliest_block(sheet, per_day, up);
         return earliest_from(sheet, per_day, t, above);

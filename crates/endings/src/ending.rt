@@ -3,6 +3,7 @@ ghost use Rattle.std.specs.Prelude.{◌*◌, ◌^◌, ◌≤◌, ◌<◌, ◌≡
 ghost use Rattle.laws.specs.Below.{all_below};
 ghost use Rattle.laws.specs.Failing.{first_failing};
 ghost use Rattle.laws.specs.Sum.{bits_below};
+ghost use Rattle.sheet.specs.Refusal.{refused};
 ghost use Rattle.sheet.specs.Field.{count, Sized};
 ghost use Rattle.sheet.specs.Checked.{Fit};
 ghost use Rattle.slots.specs.Destination.{is_contract};
@@ -12,9 +13,10 @@ ghost use Rattle.endings.specs.Forms.Bounds.{Ones};
 
 use crate::block::earliest_block;
 use crate::planned::is_planned;
-use crate::refusal;
 use readings::holder::coin_of;
+use sheet::field::Sheet;
 use sheet::little::u32_at;
+use sheet::refusal::{Refusal, require};
 use sheet::set;
 use slots::party;
 
@@ -28,10 +30,9 @@ pub fn ones_below(mask: u32, n: usize) -> usize
 }
 
 // Whether a number is a payee of t, which is a paying transaction.
-fn pays(sheet: &[u8], t: usize, to: u32) -> bool
-    requires sized { Sized sheet.now }
-    requires t_bound { t < count sheet.now }
-    ensures { result ≡ (not (is_contract sheet.now t) && shares_to sheet.now t to) }
+fn pays(sheet: &Sheet, t: usize, to: u32) -> bool
+    requires t_bound { t < count sheet.now.bytes }
+    ensures { result ≡ (not (is_contract sheet.now.bytes t) && shares_to sheet.now.bytes t to) }
 {
     if party::is_contract(sheet, t) {
         return false;
@@ -43,11 +44,10 @@ fn pays(sheet: &[u8], t: usize, to: u32) -> bool
 }
 
 // Whether t is not in the mask, or is a paying one with a payee for its destination.
-fn paying_named(sheet: &[u8], mask: u32, dests: &[u8], t: usize) -> bool
-    requires sized { Sized sheet.now }
-    requires t_bound { t < count sheet.now }
-    requires dests_len { length dests.now ≡ 4 * bits_below (count sheet.now) mask }
-    ensures { result ≡ paying_named sheet.now mask dests.now t }
+fn paying_named(sheet: &Sheet, mask: u32, dests: &[u8], t: usize) -> bool
+    requires t_bound { t < count sheet.now.bytes }
+    requires dests_len { length dests.now ≡ 4 * bits_below (count sheet.now.bytes) mask }
+    ensures { result ≡ paying_named sheet.now.bytes mask dests.now t }
 {
     if !set::has(mask, t) {
         return true;
@@ -57,12 +57,11 @@ fn paying_named(sheet: &[u8], mask: u32, dests: &[u8], t: usize) -> bool
 }
 
 // The same of every transaction.
-fn all_named(sheet: &[u8], mask: u32, dests: &[u8]) -> bool
-    requires sized { Sized sheet.now }
-    requires dests_len { length dests.now ≡ 4 * bits_below (count sheet.now) mask }
-    ensures { result ≡ all_below (count sheet.now) (paying_named sheet.now mask dests.now) }
+fn all_named(sheet: &Sheet, mask: u32, dests: &[u8]) -> bool
+    requires dests_len { length dests.now ≡ 4 * bits_below (count sheet.now.bytes) mask }
+    ensures { result ≡ all_below (count sheet.now.bytes) (paying_named sheet.now.bytes mask dests.now) }
 {
-    (0..sheet::field::count(sheet)).all(|t| paying_named(sheet, mask, dests, t))
+    (0..sheet.count()).all(|t| paying_named(sheet, mask, dests, t))
 }
 
 // Whether every number of the mask is below n.
@@ -77,11 +76,10 @@ fn mask_within(mask: u32, n: usize) -> bool
 }
 
 // 33: the mask names paying transactions of the sheet, and there is a payee for each.
-fn ending_right(sheet: &[u8], mask: u32, dests: &[u8]) -> bool
-    requires { Sized sheet.now }
-    ensures { result ≡ ending_right sheet.now mask dests.now }
+fn ending_right(sheet: &Sheet, mask: u32, dests: &[u8]) -> bool
+    ensures { result ≡ ending_right sheet.now.bytes mask dests.now }
 {
-    let n = sheet::field::count(sheet);
+    let n = sheet.count();
     if !mask_within(mask, n) {
         return false;
     }
@@ -92,11 +90,10 @@ fn ending_right(sheet: &[u8], mask: u32, dests: &[u8]) -> bool
 }
 
 // Whether x and y are not two of the mask of one coin.
-fn coins_apart(sheet: &[u8], mask: u32, x: usize, y: usize) -> bool
-    requires sized { Sized sheet.now }
-    requires x_bound { x < count sheet.now }
-    requires y_bound { y < count sheet.now }
-    ensures { result ≡ coins_apart sheet.now mask x y }
+fn coins_apart(sheet: &Sheet, mask: u32, x: usize, y: usize) -> bool
+    requires x_bound { x < count sheet.now.bytes }
+    requires y_bound { y < count sheet.now.bytes }
+    ensures { result ≡ coins_apart sheet.now.bytes mask x y }
 {
     if !set::has(mask, x) {
         return true;
@@ -111,27 +108,24 @@ fn coins_apart(sheet: &[u8], mask: u32, x: usize, y: usize) -> bool
 }
 
 // The same of x and every transaction.
-fn apart_from(sheet: &[u8], mask: u32, x: usize) -> bool
-    requires sized { Sized sheet.now }
-    requires x_bound { x < count sheet.now }
-    ensures { result ≡ all_below (count sheet.now) (coins_apart sheet.now mask x) }
+fn apart_from(sheet: &Sheet, mask: u32, x: usize) -> bool
+    requires x_bound { x < count sheet.now.bytes }
+    ensures { result ≡ all_below (count sheet.now.bytes) (coins_apart sheet.now.bytes mask x) }
 {
-    (0..sheet::field::count(sheet)).all(|y| coins_apart(sheet, mask, x, y))
+    (0..sheet.count()).all(|y| coins_apart(sheet, mask, x, y))
 }
 
 // No two of the mask are of one coin.
-fn all_apart(sheet: &[u8], mask: u32) -> bool
-    requires { Sized sheet.now }
-    ensures { result ≡ all_below (count sheet.now) (λ x. all_below (count sheet.now) (coins_apart sheet.now mask x)) }
+fn all_apart(sheet: &Sheet, mask: u32) -> bool
+    ensures { result ≡ all_below (count sheet.now.bytes) (λ x. all_below (count sheet.now.bytes) (coins_apart sheet.now.bytes mask x)) }
 {
-    (0..sheet::field::count(sheet)).all(|x| apart_from(sheet, mask, x))
+    (0..sheet.count()).all(|x| apart_from(sheet, mask, x))
 }
 
 // Whether t is not planned, or its earliest block is none beyond the last.
-fn in_time(sheet: &[u8], per_day: u16, mask: u32, t: usize) -> bool
-    requires sized { Sized sheet.now }
-    requires t_bound { t < count sheet.now }
-    ensures { result ≡ in_time sheet.now per_day mask t }
+fn in_time(sheet: &Sheet, per_day: u16, mask: u32, t: usize) -> bool
+    requires t_bound { t < count sheet.now.bytes }
+    ensures { result ≡ in_time sheet.now.bytes per_day mask t }
 {
     if !is_planned(sheet, mask, t) {
         return true;
@@ -140,17 +134,15 @@ fn in_time(sheet: &[u8], per_day: u16, mask: u32, t: usize) -> bool
 }
 
 // The same of every transaction.
-fn all_in_time(sheet: &[u8], per_day: u16, mask: u32) -> bool
-    requires { Sized sheet.now }
-    ensures { result ≡ all_below (count sheet.now) (in_time sheet.now per_day mask) }
+fn all_in_time(sheet: &Sheet, per_day: u16, mask: u32) -> bool
+    ensures { result ≡ all_below (count sheet.now.bytes) (in_time sheet.now.bytes per_day mask) }
 {
-    (0..sheet::field::count(sheet)).all(|t| in_time(sheet, per_day, mask, t))
+    (0..sheet.count()).all(|t| in_time(sheet, per_day, mask, t))
 }
 
 // What 34 comes to: no two of one coin, and no block beyond the last.
-fn is_possible(sheet: &[u8], per_day: u16, mask: u32) -> bool
-    requires { Sized sheet.now }
-    ensures { result ≡ is_possible sheet.now per_day mask }
+fn is_possible(sheet: &Sheet, per_day: u16, mask: u32) -> bool
+    ensures { result ≡ is_possible sheet.now.bytes per_day mask }
 {
     if all_apart(sheet, mask) {
         return all_in_time(sheet, per_day, mask);
@@ -158,16 +150,14 @@ fn is_possible(sheet: &[u8], per_day: u16, mask: u32) -> bool
     false
 }
 
-// The first of 33 and 34 that fails, 0 where none does.
-pub fn ending_refusal(sheet: &[u8], setup: &[u8], mask: u32, dests: &[u8]) -> u32
-    requires { Fit sheet.now setup.now }
-    ensures { result ≡ first_failing (ending_tests sheet.now setup.now mask dests.now) }
+// The first of 33 and 34 that fails.
+pub fn ending_refusal(sheet: &Sheet, setup: &[u8], mask: u32, dests: &[u8]) -> Result<(), Refusal>
+    requires { Fit sheet.now.bytes setup.now }
+    ensures { refused result ≡ first_failing (ending_tests sheet.now.bytes setup.now mask dests.now) }
 {
-    if !ending_right(sheet, mask, dests) {
-        return refusal::ENDING_FIELD;
-    }
-    if !is_possible(sheet, sheet::setup::per_day(setup), mask) {
-        return refusal::ENDING_IMPOSSIBLE;
-    }
-    sheet::refusal::ACCEPTED
+    require(ending_right(sheet, mask, dests), Refusal::EndingField)?;
+    require(
+        is_possible(sheet, sheet::setup::per_day(setup), mask),
+        Refusal::EndingImpossible,
+    )
 }

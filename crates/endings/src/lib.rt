@@ -5,4 +5,3 @@
 pub mod block;
 pub mod ending;
 pub mod planned;
-pub mod refusal;

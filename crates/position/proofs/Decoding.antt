@@ -1,5 +1,6 @@
 -- What four bytes that decode to a step tell: they are the step's, and they are in range.
 -- Assumes nothing.
+use Rattle.std.specs.Prelude.{Option, Some, None}
 use Rattle.laws.proofs.Prelude.{ℕ, ◌≤◌, ◌<◌, ◌≡◌, refl, sym, Bool, true, ◌&&◌, List, [], ◌∷◌, ◌⊎◌, inl, inr, eqb, ltb, lit<, lit≤, length, get_or, eqb-true, ltb-true}
 use Rattle.laws.proofs.Prelude.{arith, pick, split, either, and_parts, or_parts}
 use Rattle.sheet.specs.Field.{count, signatures}
@@ -8,8 +9,6 @@ use Rattle.slots.specs.declared.Destination.TheVariants.{Alice, Bob, Contract, C
 use Rattle.slots.specs.declared.Step.{Step}
 use Rattle.slots.specs.declared.Step.TheVariants.{Share, Give, SendToPool, HandToMiner, Include, Mine, Bump}
 use Rattle.slots.specs.Destination.{miner, destinations, destination_number, is_party}
-use Rattle.steps.specs.declared.Decoded.{Decoded}
-use Rattle.steps.specs.declared.Decoded.TheVariants.{Read, Refused}
 use Rattle.position.specs.Position.{slot_count}
 use Rattle.steps.specs.Decode.{no_transaction, shares_to, first_share_fields, fields_right, of_kind, spelled, range_checked, decode, step_bytes}
 use Rattle.position.specs.Open.{kinds}
@@ -26,9 +25,9 @@ length_step (Mine a t to) = refl
 length_step (Bump a t to) = refl
 
 -- what is read from the bytes k a t d, whatever the sheet
-data Spelled (k a t d : ℕ) : Decoded → Type 0 where
-  is : (x : Step) → step_bytes x ≡ k ∷ a ∷ t ∷ d ∷ [] → 1 ≤ k → k ≤ kinds → d < destinations → Spelled k a t d (Read x)
-  not : Spelled k a t d Refused
+data Spelled (k a t d : ℕ) : Option Step → Type 0 where
+  is : (x : Step) → step_bytes x ≡ k ∷ a ∷ t ∷ d ∷ [] → 1 ≤ k → k ≤ kinds → d < destinations → Spelled k a t d (Some x)
+  not : Spelled k a t d None
 
 pub destination_within : (to : Destination) → destination_number to < destinations
 unfolding destination_number
@@ -39,8 +38,8 @@ destination_within Carol = lit< tt
 
 module _ (a t : ℕ) (to : Destination) where
   -- kind j, whose step is x
-  kind_is : (k j : ℕ) (x : Step) (rest : Decoded) → step_bytes x ≡ j ∷ a ∷ t ∷ destination_number to ∷ [] → 1 ≤ j → j ≤ kinds
-      → Spelled k a t (destination_number to) rest → Spelled k a t (destination_number to) (pick (eqb k j) (Read x) rest)
+  kind_is : (k j : ℕ) (x : Step) (rest : Option Step) → step_bytes x ≡ j ∷ a ∷ t ∷ destination_number to ∷ [] → 1 ≤ j → j ≤ kinds
+      → Spelled k a t (destination_number to) rest → Spelled k a t (destination_number to) (pick (eqb k j) (Some x) rest)
   kind_is k j x rest b l m r =
       split (eqb k j)
       (λ e. rw (e, eqb-true k j e) (is x b l m (destination_within to)))
@@ -58,7 +57,7 @@ module _ (a t : ℕ) (to : Destination) where
       (kind_is k 7 (Bump a t to) _ refl (lit≤ tt) (lit≤ tt) not))))))
 
 module _ (k a t d : ℕ) where
-  destination_is : (to : Destination) (rest : Decoded) → Spelled k a t d rest → Spelled k a t d (pick (eqb d (destination_number to)) (of_kind k a t to) rest)
+  destination_is : (to : Destination) (rest : Option Step) → Spelled k a t d rest → Spelled k a t d (pick (eqb d (destination_number to)) (of_kind k a t to) rest)
   destination_is to rest r =
       split (eqb d (destination_number to))
       (λ e. rw (e, eqb-true d (destination_number to) e) (spelled_kind a t to k))
@@ -76,20 +75,20 @@ pub record Decodes (s u : List ℕ) (k a t d : ℕ) (x : Step) : Type 0 where
   pub destination_few : d < destinations
   pub fields : fields_right s u x ≡ true
 
-read_same : {x y : Step} → Read x ≡ Read y → x ≡ y
+read_same : {x y : Step} → Some x ≡ Some y → x ≡ y
 read_same e = cc
 
-checked_is : (s u : List ℕ) (k a t d : ℕ) (x : Step) {y : Decoded} → Spelled k a t d y → range_checked s u y ≡ Read x → Decodes s u k a t d x
+checked_is : (s u : List ℕ) (k a t d : ℕ) (x : Step) {y : Option Step} → Spelled k a t d y → range_checked s u y ≡ Some x → Decodes s u k a t d x
 unfolding range_checked
 checked_is s u k a t d x (is y b l m n) e =
     split (fields_right s u y)
     (λ f.
     let q : y ≡ x = read_same (rw f at e) in
     record { bytes = rw (sym q) b; kind_some = l; kind_few = m; destination_few = n; fields = rw (sym q) f })
-    (λ f. let z : ◌≡◌ {A = Decoded} Refused (Read x) = rw f at e in let w : ◌≡◌ {A = ℕ} 0 1 = cc in absurd (omega arith))
+    (λ f. let z : ◌≡◌ {A = Option Step} None (Some x) = rw f at e in let w : ◌≡◌ {A = ℕ} 0 1 = cc in absurd (omega arith))
 checked_is s u k a t d x not e = let w : ◌≡◌ {A = ℕ} 0 1 = cc in absurd (omega arith)
 
-pub decodes : (s u : List ℕ) (k a t d : ℕ) (x : Step) → decode s u k a t d ≡ Read x → Decodes s u k a t d x
+pub decodes : (s u : List ℕ) (k a t d : ℕ) (x : Step) → decode s u k a t d ≡ Some x → Decodes s u k a t d x
 unfolding decode
 decodes s u k a t d x e = checked_is s u k a t d x (spelled_right k a t d) e
 

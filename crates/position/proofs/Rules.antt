@@ -70,7 +70,6 @@ unfoldable pub use Rattle.steps.specs.Forms.View.{keys_in}
 unfoldable pub use Rattle.steps.specs.Mined.{confirm_entry}
 pub use Rattle.steps.specs.Names.{lock_a, lock_b, refund1, refund2, revoke, secret_alice, secret_bob, sig_alice, sig_bob, spend_a, spend_b, spend_refund1_alice, spend_refund1_bob}
 pub use Rattle.steps.specs.Names.{spend_refund2, spend_revoke, spend_success, spend_timeout, success, timeout}
-pub use Rattle.steps.specs.declared.Decoded.{Decoded}
-pub use Rattle.steps.specs.declared.Decoded.TheVariants.{Read, Refused}
+pub use Rattle.std.specs.Prelude.{Option, Some, None}
 pub use Rattle.steps.specs.declared.Guards.{Guards}
 pub use Rattle.steps.specs.declared.View.{View}

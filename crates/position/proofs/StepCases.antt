@@ -1,11 +1,10 @@
 -- The two outcomes of a step of four bytes: taken, with its fields right and its tests passed, or refused.
 -- Assumes nothing.
+use Rattle.std.specs.Prelude.{Option, Some, None}
 use Rattle.laws.proofs.Prelude.{ℕ, ◌≡◌, refl, sym, ap, ◌∙◌, true, false, List, ◌⊎◌, inl, inr, eqb, eqb-true, eq-eqb, ne_eqb, split, either, clash}
 use Rattle.sheet.specs.Refusal.{accepted, step_field}
 use Rattle.slots.specs.declared.Step.{Step}
 use Rattle.position.specs.declared.Position.{Position}
-use Rattle.steps.specs.declared.Decoded.{Decoded}
-use Rattle.steps.specs.declared.Decoded.TheVariants.{Read, Refused}
 use Rattle.position.specs.declared.Stepped.{Stepped}
 use Rattle.steps.specs.Decode.{fields_right, range_checked, decode, spelled}
 use Rattle.position.specs.StepRefusal.{step_refusal}
@@ -13,17 +12,17 @@ use Rattle.position.specs.Effect.{effect}
 use Rattle.position.specs.Play.{FourBytes, decode_bytes, take_step, take_decoded, step}
 
 -- what is read has right fields
-ranged : (s u : List ℕ) (y : Decoded) → (range_checked s u y ≡ Refused) ⊎ ((x : Step) × (range_checked s u y ≡ Read x) × (fields_right s u x ≡ true))
+ranged : (s u : List ℕ) (y : Option Step) → (range_checked s u y ≡ None) ⊎ ((x : Step) × (range_checked s u y ≡ Some x) × (fields_right s u x ≡ true))
 unfolding range_checked
-ranged s u (Read x) = split (fields_right s u x) (λ h. inr (x, rw h, h)) (λ h. inl (rw h))
-ranged s u Refused = inl refl
+ranged s u (Some x) = split (fields_right s u x) (λ h. inr (x, rw h, h)) (λ h. inl (rw h))
+ranged s u None = inl refl
 
-decoded : (s u : List ℕ) (b : FourBytes) → (decode_bytes s u b ≡ Refused) ⊎ ((x : Step) × (decode_bytes s u b ≡ Read x) × (fields_right s u x ≡ true))
+decoded : (s u : List ℕ) (b : FourBytes) → (decode_bytes s u b ≡ None) ⊎ ((x : Step) × (decode_bytes s u b ≡ Some x) × (fields_right s u x ≡ true))
 unfolding decode_bytes decode
 decoded s u b = ranged s u (spelled b.kind b.party b.transaction b.destination)
 
 pub data StepCase (s u : List ℕ) (p : Position) (b : FourBytes) : Type 0 where
-  taken : (x : Step) → decode_bytes s u b ≡ Read x → fields_right s u x ≡ true → step_refusal s u p x ≡ accepted → step s u p b ≡ record { refusal = accepted; position = effect s p x } → StepCase s u p b
+  taken : (x : Step) → decode_bytes s u b ≡ Some x → fields_right s u x ≡ true → step_refusal s u p x ≡ accepted → step s u p b ≡ record { refusal = accepted; position = effect s p x } → StepCase s u p b
   turned_down : (n : ℕ) → eqb n accepted ≡ false → step s u p b ≡ record { refusal = n; position = p } → StepCase s u p b
 
 module _ (s u : List ℕ) (p : Position) where

@@ -1,6 +1,6 @@
 -- The open steps: those that would be accepted next, in the order of the list.
 -- Assumes nothing.
-use Rattle.std.specs.Prelude.{ℕ, ◌+◌, Bool, eqb, ltb}
+use Rattle.std.specs.Prelude.{ℕ, ◌+◌, Bool, eqb, ltb, Option, Some, None}
 use mathlib.Core.List.{List, [], ◌∷◌, ◌++◌, flat_map}
 use Rattle.laws.specs.Booleans.{pick}
 use Rattle.laws.specs.Gather.{gather}
@@ -10,8 +10,6 @@ use Rattle.sheet.specs.Field.{parties, place, party_at}
 use Rattle.slots.specs.declared.Step.{Step}
 use Rattle.slots.specs.Destination.{miner, destinations}
 use Rattle.position.specs.declared.Position.{Position}
-use Rattle.steps.specs.declared.Decoded.{Decoded}
-use Rattle.steps.specs.declared.Decoded.TheVariants.{Read, Refused}
 use Rattle.position.specs.Position.{slot_count}
 use Rattle.steps.specs.Decode.{decode, step_bytes, no_transaction}
 use Rattle.position.specs.StepRefusal.{step_refusal}
@@ -31,9 +29,9 @@ abbrev pub kinds : ℕ
 kinds = 7
 
 -- a step alone if it is accepted, else none
-unfoldable pub if_accepted : List ℕ → List ℕ → Position → Decoded → List Step
-if_accepted s u p (Read x) = pick (eqb (step_refusal s u p x) accepted) (x ∷ []) []
-if_accepted s u p Refused = []
+unfoldable pub if_accepted : List ℕ → List ℕ → Position → Option Step → List Step
+if_accepted s u p (Some x) = pick (eqb (step_refusal s u p x) accepted) (x ∷ []) []
+if_accepted s u p None = []
 
 -- ".. destination": the open steps of an actor, a kind and a transaction byte
 unfoldable pub open_at : List ℕ → List ℕ → Position → ℕ → ℕ → ℕ → List Step

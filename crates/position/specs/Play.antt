@@ -1,6 +1,6 @@
 -- Playing steps: one on a position, a journal up to its refusal, any row of steps with refused ones passed over.
 -- Assumes nothing.
-use Rattle.std.specs.Prelude.{ℕ, ◌+◌, ◌%◌, Bool, true, false, ◌&&◌, List, [], ◌∷◌, ◌++◌, eqb, leb, length}
+use Rattle.std.specs.Prelude.{ℕ, ◌+◌, ◌%◌, Bool, true, false, ◌&&◌, List, [], ◌∷◌, ◌++◌, eqb, leb, length, Option, Some, None}
 use Rattle.laws.specs.Booleans.{pick}
 use Rattle.laws.specs.Failing.{first_failing}
 use Rattle.laws.specs.Gather.{gather}
@@ -12,8 +12,6 @@ use Rattle.ledger.specs.Entry.{Entry}
 use Rattle.slots.specs.declared.Step.{Step}
 use Rattle.slots.specs.declared.Step.TheVariants.{Share, Give, SendToPool, HandToMiner, Include, Mine, Bump}
 use Rattle.position.specs.declared.Position.{Position}
-use Rattle.steps.specs.declared.Decoded.{Decoded}
-use Rattle.steps.specs.declared.Decoded.TheVariants.{Read, Refused}
 use Rattle.position.specs.declared.Stepped.{Stepped}
 use Rattle.position.specs.declared.Ran.{Ran}
 use Rattle.position.specs.Position.{start, in_block, block_to}
@@ -42,7 +40,7 @@ journal_bytes [] = []
 journal_bytes (b ∷ bs) = b.kind ∷ b.party ∷ b.transaction ∷ b.destination ∷ journal_bytes bs
 
 -- a step of a journal, decoded
-unfoldable pub decode_bytes : List ℕ → List ℕ → FourBytes → Decoded
+unfoldable pub decode_bytes : List ℕ → List ℕ → FourBytes → Option Step
 decode_bytes s u b = decode s u b.kind b.party b.transaction b.destination
 
 -- "The position goes into a step and comes back from it, whole, accepted or not."
@@ -55,9 +53,9 @@ take_step s u p x =
     ]
 
 -- 11 "step field out of range for its kind"
-unfoldable pub take_decoded : List ℕ → List ℕ → Position → Decoded → Stepped
-take_decoded s u p (Read x) = take_step s u p x
-take_decoded s u p Refused = record { refusal = step_field; position = p }
+unfoldable pub take_decoded : List ℕ → List ℕ → Position → Option Step → Stepped
+take_decoded s u p (Some x) = take_step s u p x
+take_decoded s u p None = record { refusal = step_field; position = p }
 
 -- one step of four bytes: its number, and the position whole
 unfoldable pub step : List ℕ → List ℕ → Position → FourBytes → Stepped
@@ -108,15 +106,15 @@ block_entries s p =
     gather (count s) (λ t. pick (in_block p t) (record { transaction = t; destination = block_to p t; block = p.mined + 1 } ∷ []) [])
 
 -- what a step confirms: nothing but kind 6 does
-unfoldable pub confirms : List ℕ → Position → Decoded → List Entry
-confirms s p (Read (Share party t to)) = []
-confirms s p (Read (Give party i to)) = []
-confirms s p (Read (SendToPool party t to)) = []
-confirms s p (Read (HandToMiner party t to)) = []
-confirms s p (Read (Include party t to)) = []
-confirms s p (Read (Mine party t to)) = block_entries s p
-confirms s p (Read (Bump party t to)) = []
-confirms s p Refused = []
+unfoldable pub confirms : List ℕ → Position → Option Step → List Entry
+confirms s p (Some (Share party t to)) = []
+confirms s p (Some (Give party i to)) = []
+confirms s p (Some (SendToPool party t to)) = []
+confirms s p (Some (HandToMiner party t to)) = []
+confirms s p (Some (Include party t to)) = []
+confirms s p (Some (Mine party t to)) = block_entries s p
+confirms s p (Some (Bump party t to)) = []
+confirms s p None = []
 
 -- "those that the accepted kind 6 steps confirm", of such a row
 unfoldable pub confirmed_entries : List ℕ → List ℕ → List FourBytes → Position → List Entry

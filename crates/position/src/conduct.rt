@@ -1,6 +1,7 @@
 // Conduct in a position.
 ghost use Rattle.std.specs.Prelude.{◌<◌, ◌≡◌, not, ◌&&◌, ◌||◌, ltb, length};
 ghost use Rattle.laws.specs.Failing.{first_failing};
+ghost use Rattle.sheet.specs.Refusal.{refused};
 ghost use Rattle.sheet.specs.Field.{count};
 ghost use Rattle.sheet.specs.Checked.{Fit};
 ghost use Rattle.slots.specs.Slot.{standing};
@@ -15,7 +16,8 @@ ghost use Rattle.position.specs.Forms.Guards.{guards, send_guards};
 ghost use Rattle.position.specs.Forms.View.{view_below};
 
 use crate::Position;
-use sheet::refusal;
+use sheet::field::Sheet;
+use sheet::refusal::{Refusal, require};
 use slots::{Slot, lock_height, next, party, signatures};
 use steps::names::{LOCK_A, LOCK_B, NO_TRANSACTION, REFUND_1, SECRET_BOB, SUCCESS};
 use steps::{Guards, View, conduct, parent, sending};
@@ -66,10 +68,10 @@ pub fn is_early(party: u8, a: Slot, b: Slot) -> bool
 }
 
 // Whether t is one that a party sends only where it can send none that pays it: a contract transaction under careful conduct.
-pub fn pays_first(sheet: &[u8], setup: &[u8], t: usize) -> bool
-    requires fit { Fit sheet.now setup.now }
-    requires t_bound { t < count sheet.now }
-    ensures { result ≡ (is_careful setup.now && is_contract sheet.now t) }
+pub fn pays_first(sheet: &Sheet, setup: &[u8], t: usize) -> bool
+    requires fit { Fit sheet.now.bytes setup.now }
+    requires t_bound { t < count sheet.now.bytes }
+    ensures { result ≡ (is_careful setup.now && is_contract sheet.now.bytes t) }
 {
     if sheet::setup::conduct(setup) != CAREFUL {
         return false;
@@ -109,19 +111,19 @@ impl Position {
     }
 
     // Whether the deadline of success is reached.
-    pub fn late(self, sheet: &[u8], setup: &[u8]) -> bool
-        requires fit { Fit sheet.now setup.now }
-        requires bound { 2 < count sheet.now }
-        ensures { result ≡ late sheet.now setup.now self }
+    pub fn late(self, sheet: &Sheet, setup: &[u8]) -> bool
+        requires fit { Fit sheet.now.bytes setup.now }
+        requires bound { 2 < count sheet.now.bytes }
+        ensures { result ≡ late sheet.now.bytes setup.now self }
     {
         self.deadline_in(sheet, setup, SUCCESS) <= lock_height::wide(self.mined)
     }
 
     // What conduct reads off the position.
-    pub fn guards(self, sheet: &[u8], setup: &[u8], view: View) -> Guards
-        requires fit { Fit sheet.now setup.now }
-        requires view_value { view ≡ view_below sheet.now (count sheet.now) self }
-        ensures { result ≡ guards sheet.now setup.now self }
+    pub fn guards(self, sheet: &Sheet, setup: &[u8], view: View) -> Guards
+        requires fit { Fit sheet.now.bytes setup.now }
+        requires view_value { view ≡ view_below sheet.now.bytes (count sheet.now.bytes) self }
+        ensures { result ≡ guards sheet.now.bytes setup.now self }
     {
         let way = sheet::setup::conduct(setup);
         if way == OPEN {
@@ -170,13 +172,13 @@ impl Position {
     }
 
     // Whether a party can send a transaction that pays it.
-    pub fn can_pay(self, sheet: &[u8], setup: &[u8], view: View, party: u8) -> bool
-        requires fit { Fit sheet.now setup.now }
-        requires view_value { view ≡ view_below sheet.now (count sheet.now) self }
-        ensures { result ≡ can_pay sheet.now setup.now self party }
+    pub fn can_pay(self, sheet: &Sheet, setup: &[u8], view: View, party: u8) -> bool
+        requires fit { Fit sheet.now.bytes setup.now }
+        requires view_value { view ≡ view_below sheet.now.bytes (count sheet.now.bytes) self }
+        ensures { result ≡ can_pay sheet.now.bytes setup.now self party }
     {
         let o = self.send_guards(setup);
-        (0..sheet::field::count(sheet)).any(|t| {
+        (0..sheet.count()).any(|t| {
             let x = self.slots[t];
             let up = parent::slot_above(sheet, t);
             let above = self.slots[up];
@@ -186,20 +188,20 @@ impl Position {
     }
 
     // Whether conduct allows a party to send t, but for paying first.
-    pub fn may_send(self, sheet: &[u8], setup: &[u8], party: u8, t: usize) -> bool
-        requires fit { Fit sheet.now setup.now }
-        requires t_bound { t < count sheet.now }
-        ensures { result ≡ send_allowed sheet.now setup.now self party t }
+    pub fn may_send(self, sheet: &Sheet, setup: &[u8], party: u8, t: usize) -> bool
+        requires fit { Fit sheet.now.bytes setup.now }
+        requires t_bound { t < count sheet.now.bytes }
+        ensures { result ≡ send_allowed sheet.now.bytes setup.now self party t }
     {
         let o = self.send_guards(setup);
         o.send_allowed(sheet, party, t)
     }
 
     // Whether conduct allows a party to share t, or with no transaction its first shares.
-    pub fn may_share(self, sheet: &[u8], setup: &[u8], view: View, party: u8, t: u8) -> bool
-        requires fit { Fit sheet.now setup.now }
-        requires view_value { view ≡ view_below sheet.now (count sheet.now) self }
-        ensures { result ≡ (is_open setup.now || may_share sheet.now setup.now self party t) }
+    pub fn may_share(self, sheet: &Sheet, setup: &[u8], view: View, party: u8, t: u8) -> bool
+        requires fit { Fit sheet.now.bytes setup.now }
+        requires view_value { view ≡ view_below sheet.now.bytes (count sheet.now.bytes) self }
+        ensures { result ≡ (is_open setup.now || may_share sheet.now.bytes setup.now self party t) }
     {
         let o = self.guards(sheet, setup, view);
         o.share_allowed(party, t)
@@ -208,32 +210,30 @@ impl Position {
     // 13 unless conduct allows a party its first shares and they are not made. An early one needs nothing else.
     pub fn first_refusal(
         self,
-        sheet: &[u8],
+        sheet: &Sheet,
         setup: &[u8],
         view: View,
         early: bool,
         party: u8,
-    ) -> u32
-        requires fit { Fit sheet.now setup.now }
-        requires view_value { view ≡ view_below sheet.now (count sheet.now) self }
+    ) -> Result<(), Refusal>
+        requires fit { Fit sheet.now.bytes setup.now }
+        requires view_value { view ≡ view_below sheet.now.bytes (count sheet.now.bytes) self }
         requires early_value { early ≡ is_early party (slot self lock_a) (slot self lock_b) }
-        ensures { result ≡ first_failing (conduct_rule (is_open setup.now || may_share sheet.now setup.now self party 255) (not (first_shares_made self party))) }
+        ensures { refused result ≡ first_failing (conduct_rule (is_open setup.now || may_share sheet.now.bytes setup.now self party 255) (not (first_shares_made self party))) }
     {
-        if self.first_shares_made(party) {
-            return refusal::STEP_CONDUCT;
-        }
+        require(!self.first_shares_made(party), Refusal::StepConduct)?;
         if early {
-            return refusal::ACCEPTED;
+            return Ok(());
         }
         let allowed = self.may_share(sheet, setup, view, party, NO_TRANSACTION);
         conduct::conduct_refusal(allowed, true)
     }
 
     // Whether conduct allows a party to give signature i.
-    pub fn may_give(self, sheet: &[u8], setup: &[u8], view: View, party: u8, i: u8) -> bool
-        requires fit { Fit sheet.now setup.now }
-        requires view_value { view ≡ view_below sheet.now (count sheet.now) self }
-        ensures { result ≡ (is_open setup.now || may_give sheet.now setup.now self party i) }
+    pub fn may_give(self, sheet: &Sheet, setup: &[u8], view: View, party: u8, i: u8) -> bool
+        requires fit { Fit sheet.now.bytes setup.now }
+        requires view_value { view ≡ view_below sheet.now.bytes (count sheet.now.bytes) self }
+        ensures { result ≡ (is_open setup.now || may_give sheet.now.bytes setup.now self party i) }
     {
         let o = self.guards(sheet, setup, view);
         o.give_allowed(party, i)

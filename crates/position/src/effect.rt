@@ -8,17 +8,17 @@ ghost use Rattle.position.specs.FirstShares.{first_shares};
 ghost use Rattle.position.specs.Effect.{share_each};
 
 use crate::{Position, conduct};
+use sheet::field::Sheet;
 use slots::{Slot, next, signatures};
 
 // No signature.
 const NOTHING: u8 = 0;
 
 // The slot x of t after a share by a party with these keys held: what it shares, and its mark.
-pub fn shared_slot(sheet: &[u8], held: u8, party: u8, t: usize, destination: u8, x: Slot) -> Slot
-    requires sized { Sized sheet.now }
-    requires t_bound { t < count sheet.now }
+pub fn shared_slot(sheet: &Sheet, held: u8, party: u8, t: usize, destination: u8, x: Slot) -> Slot
+    requires t_bound { t < count sheet.now.bytes }
     requires destination_bound { destination < 4 }
-    ensures { result ≡ with_mark party destination (with_shared destination (share_mask sheet.now held t) x) }
+    ensures { result ≡ with_mark party destination (with_shared destination (share_mask sheet.now.bytes held t) x) }
 {
     let mask = signatures::share_mask(sheet, held, t);
     let y = x.with_shared(destination, mask);
@@ -47,10 +47,9 @@ impl Position {
     }
 
     // A party's first shares, for the contract. A share changes no key.
-    pub fn share_first(mut self, sheet: &[u8], party: u8) -> Position
-        requires sized { Sized sheet.now }
-        requires bound { 6 < count sheet.now }
-        ensures { result ≡ share_each sheet.now party (first_shares party) self }
+    pub fn share_first(mut self, sheet: &Sheet, party: u8) -> Position
+        requires bound { 6 < count sheet.now.bytes }
+        ensures { result ≡ share_each sheet.now.bytes party (first_shares party) self }
     {
         let set = conduct::first_shares(party);
         let held = self.keys(party);

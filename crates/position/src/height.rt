@@ -6,6 +6,7 @@ ghost use Rattle.slots.specs.Forms.Height.{Height};
 ghost use Rattle.position.specs.Position.{block_of, deadline_in};
 
 use crate::Position;
+use sheet::field::Sheet;
 use slots::deadline;
 
 impl Position {
@@ -20,12 +21,12 @@ impl Position {
     }
 
     // The deadline of a transaction.
-    pub fn deadline_in(self, sheet: &[u8], setup: &[u8], t: usize) -> u32
-        requires fit { Fit sheet.now setup.now }
-        requires t_bound { t < count sheet.now }
-        ensures { Height (deadline_in sheet.now setup.now self t) result }
+    pub fn deadline_in(self, sheet: &Sheet, setup: &[u8], t: usize) -> u32
+        requires fit { Fit sheet.now.bytes setup.now }
+        requires t_bound { t < count sheet.now.bytes }
+        ensures { Height (deadline_in sheet.now.bytes setup.now self t) result }
     {
-        let since = self.block_of(sheet::field::parent(sheet, t));
+        let since = self.block_of(sheet.parent(t));
         deadline::deadline(sheet, sheet::setup::per_day(setup), since, t)
     }
 }

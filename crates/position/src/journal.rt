@@ -6,6 +6,7 @@ ghost use Rattle.position.specs.Forms.View.{view_below};
 ghost use Rattle.position.specs.Position.{start};
 
 use crate::Position;
+use sheet::field::Sheet;
 use slots::{Slot, expiring};
 use steps::View;
 
@@ -37,11 +38,11 @@ pub fn start(sheet: &[u8]) -> Position
 }
 
 // The view of that position.
-pub fn start_view(sheet: &[u8]) -> View
-    requires { Checked sheet.now }
-    ensures { result ≡ view_below sheet.now (count sheet.now) (start sheet.now) }
+pub fn start_view(sheet: &Sheet) -> View
+    requires { Checked sheet.now.bytes }
+    ensures { result ≡ view_below sheet.now.bytes (count sheet.now.bytes) (start sheet.now.bytes) }
 {
-    let position = start(sheet);
+    let position = start(sheet.bytes());
     let keys = position.keys;
     View {
         pool: 0,

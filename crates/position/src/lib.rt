@@ -18,6 +18,7 @@ mod owed;
 pub mod seen;
 pub mod step;
 
+use sheet::field::Sheet;
 use slots::{Slot, expiring};
 use steps::View;
 
@@ -34,6 +35,7 @@ pub struct Position {
 // A step's refusal number and the position after it, whole, accepted or not.
 #[derive(Clone, Copy)]
 pub struct Stepped {
+    // a number, as in take_step of specs/Play.antt
     pub refusal: u32,
     pub position: Position,
 }
@@ -41,6 +43,7 @@ pub struct Stepped {
 // A journal's refusal number, the steps accepted before it, and the position after these.
 #[derive(Clone, Copy)]
 pub struct Ran {
+    // a number, as in run of specs/Play.antt
     pub refusal: u32,
     pub accepted: u32,
     pub position: Position,
@@ -48,11 +51,11 @@ pub struct Ran {
 
 impl Position {
     // The view of the sheet's transactions.
-    pub fn view(self, sheet: &[u8]) -> View
-        requires { Checked sheet.now }
-        ensures { result ≡ view_below sheet.now (count sheet.now) self }
+    pub fn view(self, sheet: &Sheet) -> View
+        requires { Checked sheet.now.bytes }
+        ensures { result ≡ view_below sheet.now.bytes (count sheet.now.bytes) self }
     {
-        let n = sheet::field::count(sheet);
+        let n = sheet.count();
         let expiring = expiring::expiring(sheet);
         let keys = self.keys;
         let mut v = View {

@@ -6,21 +6,22 @@ ghost use Rattle.position.specs.Forms.View.{view_below};
 ghost use Rattle.position.specs.Effect.{after_mine};
 
 use crate::Position;
+use sheet::field::Sheet;
 use slots::next;
 use steps::{View, mined};
 
 impl Position {
     // A mined block: its entries are confirmed and leave the pool, and who conflicts with another of them leaves it too.
-    pub fn after_entries(mut self, sheet: &[u8], view: View) -> Position
-        requires checked { Checked sheet.now }
-        requires view_value { view ≡ view_below sheet.now (count sheet.now) self }
+    pub fn after_entries(mut self, sheet: &Sheet, view: View) -> Position
+        requires checked { Checked sheet.now.bytes }
+        requires view_value { view ≡ view_below sheet.now.bytes (count sheet.now.bytes) self }
         requires mined_bound { self.mined < 10000 }
-        ensures { result ≡ after_mine sheet.now self }
+        ensures { result ≡ after_mine sheet.now.bytes self }
     {
         let leaving = mined::conflicted(sheet, view);
         let block = self.mined + 1;
         let members = mined::affected(view, leaving);
-        let n = sheet::field::count(sheet);
+        let n = sheet.count();
         for t in next::members(members, n) {
             let x = self.slots[t];
             let y = mined::mined_slot(sheet, block, view.block, leaving, t, x);

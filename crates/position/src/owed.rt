@@ -12,6 +12,7 @@ ghost use Rattle.position.specs.Forms.View.{view_below, since_in};
 ghost use Rattle.position.specs.Forms.Owed.{due_in, soonest_in, due_before, DueKnown};
 
 use crate::Position;
+use sheet::field::Sheet;
 use slots::{deadline, lock_height, next};
 use steps::{View, owed, parent};
 
@@ -27,21 +28,20 @@ fn ahead(mined: u16, height: u32) -> u32
 
 impl Position {
     // Whether a bump of t is owed.
-    pub fn owed(self, sheet: &[u8], setup: &[u8], view: View, t: usize) -> bool
-        requires fit { Fit sheet.now setup.now }
-        requires view_value { view ≡ view_below sheet.now (count sheet.now) self }
-        requires t_bound { t < count sheet.now }
-        ensures { result ≡ owed sheet.now setup.now self t }
+    pub fn owed(self, sheet: &Sheet, setup: &[u8], view: View, t: usize) -> bool
+        requires fit { Fit sheet.now.bytes setup.now }
+        requires view_value { view ≡ view_below sheet.now.bytes (count sheet.now.bytes) self }
+        requires t_bound { t < count sheet.now.bytes }
+        ensures { result ≡ owed sheet.now.bytes setup.now self t }
     {
-        let since = self.block_of(sheet::field::parent(sheet, t));
+        let since = self.block_of(sheet.parent(t));
         owed::owed_at(sheet, sheet::setup::per_day(setup), view, since, t)
     }
 
     // The deadline of t, since its parent's block.
-    fn deadline_with(&self, sheet: &[u8], per_day: u16, t: usize) -> u32
-        requires sized { Sized sheet.now }
-        requires t_bound { t < count sheet.now }
-        ensures { Height (deadline sheet.now per_day (λ k. since_in sheet.now self.now t) t) result }
+    fn deadline_with(&self, sheet: &Sheet, per_day: u16, t: usize) -> u32
+        requires t_bound { t < count sheet.now.bytes }
+        ensures { Height (deadline sheet.now.bytes per_day (λ k. since_in sheet.now.bytes self.now t) t) result }
     {
         let up = parent::slot_above(sheet, t);
         let above = self.slots[up];
@@ -50,20 +50,19 @@ impl Position {
     }
 
     // Whether the next block is the deadline of any of a set.
-    fn any_due(self, sheet: &[u8], per_day: u16, mined: u16, among: u32) -> bool
-        requires { Sized sheet.now }
-        ensures { result ≡ any_below (count sheet.now) (due_in sheet.now per_day self mined among) }
+    fn any_due(self, sheet: &Sheet, per_day: u16, mined: u16, among: u32) -> bool
+        ensures { result ≡ any_below (count sheet.now.bytes) (due_in sheet.now.bytes per_day self mined among) }
     {
-        let n = sheet::field::count(sheet);
+        let n = sheet.count();
         next::members(among, n).any(|t| lock_height::wide(mined) + 1
             == self.deadline_with(sheet, per_day, t))
     }
 
     // Whether any is. Only those outside the block that can have a deadline are looked at.
-    pub fn any_owed(self, sheet: &[u8], setup: &[u8], view: View) -> bool
-        requires fit { Fit sheet.now setup.now }
-        requires view_value { view ≡ view_below sheet.now (count sheet.now) self }
-        ensures { result ≡ any_owed sheet.now setup.now self }
+    pub fn any_owed(self, sheet: &Sheet, setup: &[u8], view: View) -> bool
+        requires fit { Fit sheet.now.bytes setup.now }
+        requires view_value { view ≡ view_below sheet.now.bytes (count sheet.now.bytes) self }
+        ensures { result ≡ any_owed sheet.now.bytes setup.now self }
     {
         let among = view.pool & !view.block & view.expiring;
         if among == 0 {
@@ -73,11 +72,10 @@ impl Position {
     }
 
     // The least deadline above the blocks mined of the members of a set, else never.
-    fn soonest_in(self, sheet: &[u8], per_day: u16, mined: u16, among: u32) -> u32
-        requires { Sized sheet.now }
-        ensures { result ≡ soonest_in sheet.now per_day self mined among }
+    fn soonest_in(self, sheet: &Sheet, per_day: u16, mined: u16, among: u32) -> u32
+        ensures { result ≡ soonest_in sheet.now.bytes per_day self mined among }
     {
-        let n = sheet::field::count(sheet);
+        let n = sheet.count();
         let mut best: u32 = lock_height::NEVER;
         for t in next::members(among, n) {
             let height = self.deadline_with(sheet, per_day, t);
@@ -88,11 +86,11 @@ impl Position {
 
     // The soonest deadline ahead of those that wait outside the block, before a block is mined; 0 before another step. It is looked for
     // where nothing is known of it, which is 0.
-    pub fn soonest_due(self, sheet: &[u8], setup: &[u8], view: View, kind: u8, known: u32) -> u32
-        requires fit { Fit sheet.now setup.now }
-        requires view_value { view ≡ view_below sheet.now (count sheet.now) self }
-        requires due_known { DueKnown sheet.now setup.now self known }
-        ensures { result ≡ due_before sheet.now setup.now self kind }
+    pub fn soonest_due(self, sheet: &Sheet, setup: &[u8], view: View, kind: u8, known: u32) -> u32
+        requires fit { Fit sheet.now.bytes setup.now }
+        requires view_value { view ≡ view_below sheet.now.bytes (count sheet.now.bytes) self }
+        requires due_known { DueKnown sheet.now.bytes setup.now self known }
+        ensures { result ≡ due_before sheet.now.bytes setup.now self kind }
     {
         if kind != 6 {
             return 0;

@@ -7,6 +7,7 @@ ghost use Rattle.position.specs.Forms.Seen.{changed_set, refined_set, lowest, vi
 
 use crate::Position;
 use crate::conduct::BOB_FIRST;
+use sheet::field::Sheet;
 use slots::next;
 use steps::{View, mined};
 
@@ -34,9 +35,9 @@ pub fn changed_set(view: View, kind: u8, t: u8) -> u32
 }
 
 // Of these, those that a mined block may have changed, or all.
-pub fn refined(sheet: &[u8], view: View, kind: u8, members: u32) -> u32
-    requires { Checked sheet.now }
-    ensures { result ≡ refined_set sheet.now view kind members }
+pub fn refined(sheet: &Sheet, view: View, kind: u8, members: u32) -> u32
+    requires { Checked sheet.now.bytes }
+    ensures { result ≡ refined_set sheet.now.bytes view kind members }
 {
     if kind == 6 {
         return mined::affected(view, mined::conflicted(sheet, view));
@@ -57,11 +58,10 @@ pub fn lowest(set: u32) -> usize
 
 impl Position {
     // What a view keeps over a step to this position, with the members of a set outside which no slot changed.
-    pub fn view_over(self, sheet: &[u8], view: View, members: u32) -> View
-        requires { Sized sheet.now }
-        ensures { result ≡ view_joined (count sheet.now) (bit members) self (view_kept view members self) }
+    pub fn view_over(self, sheet: &Sheet, view: View, members: u32) -> View
+        ensures { result ≡ view_joined (count sheet.now.bytes) (bit members) self (view_kept view members self) }
     {
-        let n = sheet::field::count(sheet);
+        let n = sheet.count();
         let keys = self.keys;
         let mut v = View {
             pool: view.pool & !members,

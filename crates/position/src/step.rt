@@ -12,8 +12,9 @@ ghost use Rattle.position.specs.Forms.View.{view_below};
 
 use crate::conduct::{is_early, pays_first};
 use crate::{Position, Stepped, effect, outcome};
+use sheet::field::Sheet;
 use sheet::refusal;
-use slots::{Destination, party};
+use slots::Destination;
 use steps::names::{LOCK_A, LOCK_B, NO_TRANSACTION};
 use steps::{View, conduct, mining, owed, parent, sending, sharing};
 
@@ -21,17 +22,17 @@ impl Position {
     // 1 Share: of one transaction, or with none of the party's first shares.
     pub fn share(
         mut self,
-        sheet: &[u8],
+        sheet: &Sheet,
         setup: &[u8],
         view: View,
         party: u8,
         t: u8,
         to: Destination,
     ) -> Stepped
-        requires fit { Fit sheet.now setup.now }
-        requires view_value { view ≡ view_below sheet.now (count sheet.now) self }
-        requires t_value { shareable sheet.now t ≡ true }
-        ensures { result ≡ take_step sheet.now setup.now self (Share party t to) }
+        requires fit { Fit sheet.now.bytes setup.now }
+        requires view_value { view ≡ view_below sheet.now.bytes (count sheet.now.bytes) self }
+        requires t_value { shareable sheet.now.bytes t ≡ true }
+        ensures { result ≡ take_step sheet.now.bytes setup.now self (Share party t to) }
     {
         if t == NO_TRANSACTION {
             let a = self.slots[LOCK_A];
@@ -39,14 +40,14 @@ impl Position {
             let early = is_early(party, a, b);
             return self.share_all(sheet, setup, view, early, party, to);
         }
-        let destination = party::destination_number(to);
+        let destination = u8::from(to);
         let k = sheet::field::wide(t);
         let allowed = sheet::setup::conduct(setup) == 0
             || self.may_share(sheet, setup, view, party, t);
         let held = view.keys(party);
         let x = self.slots[k];
         let met = sharing::share_met(sheet, held, x, party, k, destination);
-        let refusal = conduct::conduct_refusal(allowed, met);
+        let refusal = refusal::number_of(conduct::conduct_refusal(allowed, met));
         let shared = effect::shared_slot(sheet, held, party, k, destination, x);
         let after = outcome::slot_after(refusal, shared, x);
         self.slots[k] = after;
@@ -59,23 +60,22 @@ impl Position {
     // The party's first shares, for the contract.
     fn share_all(
         self,
-        sheet: &[u8],
+        sheet: &Sheet,
         setup: &[u8],
         view: View,
         early: bool,
         party: u8,
         to: Destination,
     ) -> Stepped
-        requires fit { Fit sheet.now setup.now }
-        requires view_value { view ≡ view_below sheet.now (count sheet.now) self }
+        requires fit { Fit sheet.now.bytes setup.now }
+        requires view_value { view ≡ view_below sheet.now.bytes (count sheet.now.bytes) self }
         requires early_value { early ≡ is_early party (slot self lock_a) (slot self lock_b) }
-        requires sheet_value { shareable sheet.now 255 ≡ true }
-        ensures { result ≡ take_step sheet.now setup.now self (Share party 255 to) }
+        requires sheet_value { shareable sheet.now.bytes 255 ≡ true }
+        ensures { result ≡ take_step sheet.now.bytes setup.now self (Share party 255 to) }
     {
-        let refusal = self.first_refusal(sheet, setup, view, early, party);
-        if refusal != 0 {
+        if let Err(refusal) = self.first_refusal(sheet, setup, view, early, party) {
             return Stepped {
-                refusal,
+                refusal: refusal.number(),
                 position: self,
             };
         }
@@ -89,24 +89,24 @@ impl Position {
     // 2 Give.
     pub fn give(
         mut self,
-        sheet: &[u8],
+        sheet: &Sheet,
         setup: &[u8],
         view: View,
         party: u8,
         i: u8,
         to: Destination,
     ) -> Stepped
-        requires fit { Fit sheet.now setup.now }
-        requires view_value { view ≡ view_below sheet.now (count sheet.now) self }
+        requires fit { Fit sheet.now.bytes setup.now }
+        requires view_value { view ≡ view_below sheet.now.bytes (count sheet.now.bytes) self }
         requires i_bound { i < 8 }
-        ensures { result ≡ take_step sheet.now setup.now self (Give party i to) }
+        ensures { result ≡ take_step sheet.now.bytes setup.now self (Give party i to) }
     {
-        let receiver = party::destination_number(to);
+        let receiver = u8::from(to);
         let allowed = sheet::setup::conduct(setup) == 0
             || self.may_give(sheet, setup, view, party, i);
         let held = view.keys(receiver);
         let met = sharing::give_met(view.keys(party), held, i);
-        let refusal = conduct::conduct_refusal(allowed, met);
+        let refusal = refusal::number_of(conduct::conduct_refusal(allowed, met));
         let k = sheet::field::wide(receiver);
         let after = outcome::keys_after(refusal, held, i);
         self.keys[k] = after;
@@ -119,19 +119,19 @@ impl Position {
     // 3 Send to pool.
     pub fn send_to_pool(
         mut self,
-        sheet: &[u8],
+        sheet: &Sheet,
         setup: &[u8],
         view: View,
         party: u8,
         t: u8,
         to: Destination,
     ) -> Stepped
-        requires fit { Fit sheet.now setup.now }
-        requires view_value { view ≡ view_below sheet.now (count sheet.now) self }
-        requires t_bound { t < count sheet.now }
-        ensures { result ≡ take_step sheet.now setup.now self (SendToPool party t to) }
+        requires fit { Fit sheet.now.bytes setup.now }
+        requires view_value { view ≡ view_below sheet.now.bytes (count sheet.now.bytes) self }
+        requires t_bound { t < count sheet.now.bytes }
+        ensures { result ≡ take_step sheet.now.bytes setup.now self (SendToPool party t to) }
     {
-        let destination = party::destination_number(to);
+        let destination = u8::from(to);
         let k = sheet::field::wide(t);
         let may = sheet::setup::conduct(setup) == 0 || self.may_send(sheet, setup, party, k);
         let paying = pays_first(sheet, setup, k) && self.can_pay(sheet, setup, view, party);
@@ -140,7 +140,7 @@ impl Position {
         let above = self.slots[up];
         let since = parent::block_above(sheet, k, above.height);
         let x = self.slots[k];
-        let refusal = sending::pool_refusal(
+        let refusal = refusal::number_of(sending::pool_refusal(
             sheet,
             setup,
             view,
@@ -150,7 +150,7 @@ impl Position {
             party,
             k,
             destination,
-        );
+        ));
         let sent = sending::sent_slot(sheet, k, destination, x);
         let after = outcome::slot_after(refusal, sent, x);
         self.slots[k] = after;
@@ -163,19 +163,19 @@ impl Position {
     // 4 Hand to miner.
     pub fn hand_to_miner(
         mut self,
-        sheet: &[u8],
+        sheet: &Sheet,
         setup: &[u8],
         view: View,
         party: u8,
         t: u8,
         to: Destination,
     ) -> Stepped
-        requires fit { Fit sheet.now setup.now }
-        requires view_value { view ≡ view_below sheet.now (count sheet.now) self }
-        requires t_bound { t < count sheet.now }
-        ensures { result ≡ take_step sheet.now setup.now self (HandToMiner party t to) }
+        requires fit { Fit sheet.now.bytes setup.now }
+        requires view_value { view ≡ view_below sheet.now.bytes (count sheet.now.bytes) self }
+        requires t_bound { t < count sheet.now.bytes }
+        ensures { result ≡ take_step sheet.now.bytes setup.now self (HandToMiner party t to) }
     {
-        let destination = party::destination_number(to);
+        let destination = u8::from(to);
         let k = sheet::field::wide(t);
         let may = sheet::setup::conduct(setup) == 0 || self.may_send(sheet, setup, party, k);
         let paying = pays_first(sheet, setup, k) && self.can_pay(sheet, setup, view, party);
@@ -184,7 +184,7 @@ impl Position {
         let above = self.slots[up];
         let since = parent::block_above(sheet, k, above.height);
         let x = self.slots[k];
-        let refusal = sending::miner_refusal(
+        let refusal = refusal::number_of(sending::miner_refusal(
             sheet,
             setup,
             view,
@@ -194,7 +194,7 @@ impl Position {
             party,
             k,
             destination,
-        );
+        ));
         let handed = effect::handed_slot(destination, x);
         let after = outcome::slot_after(refusal, handed, x);
         self.slots[k] = after;
@@ -207,21 +207,21 @@ impl Position {
     // 5 Include.
     pub fn include(
         mut self,
-        sheet: &[u8],
+        sheet: &Sheet,
         setup: &[u8],
         view: View,
         party: u8,
         t: u8,
         to: Destination,
     ) -> Stepped
-        requires fit { Fit sheet.now setup.now }
-        requires view_value { view ≡ view_below sheet.now (count sheet.now) self }
-        requires t_bound { t < count sheet.now }
-        ensures { result ≡ take_step sheet.now setup.now self (Include party t to) }
+        requires fit { Fit sheet.now.bytes setup.now }
+        requires view_value { view ≡ view_below sheet.now.bytes (count sheet.now.bytes) self }
+        requires t_bound { t < count sheet.now.bytes }
+        ensures { result ≡ take_step sheet.now.bytes setup.now self (Include party t to) }
     {
         let k = sheet::field::wide(t);
         let any = self.any_owed(sheet, setup, view);
-        let refusal = mining::include_refusal(sheet, view, any, k);
+        let refusal = refusal::number_of(mining::include_refusal(sheet, view, any, k));
         let x = self.slots[k];
         let included = x.with_block(x.pool);
         let after = outcome::slot_after(refusal, included, x);
@@ -235,7 +235,7 @@ impl Position {
     // 6 Mine, where `due` is the soonest deadline of those that wait. An empty block changes only the blocks mined.
     pub fn mine(
         mut self,
-        sheet: &[u8],
+        sheet: &Sheet,
         setup: &[u8],
         view: View,
         due: u32,
@@ -243,13 +243,13 @@ impl Position {
         t: u8,
         to: Destination,
     ) -> Stepped
-        requires fit { Fit sheet.now setup.now }
-        requires view_value { view ≡ view_below sheet.now (count sheet.now) self }
-        requires due_value { due ≡ soonest_due sheet.now setup.now self }
-        ensures { result ≡ take_step sheet.now setup.now self (Mine party t to) }
+        requires fit { Fit sheet.now.bytes setup.now }
+        requires view_value { view ≡ view_below sheet.now.bytes (count sheet.now.bytes) self }
+        requires due_value { due ≡ soonest_due sheet.now.bytes setup.now self }
+        ensures { result ≡ take_step sheet.now.bytes setup.now self (Mine party t to) }
     {
         let any = owed::is_next(view.mined, due);
-        let refusal = mining::mine_refusal(view, any);
+        let refusal = refusal::number_of(mining::mine_refusal(view, any));
         if outcome::entries_after(refusal, view.block) != 0 {
             let position = self.after_entries(sheet, view);
             return Stepped { refusal, position };
@@ -265,24 +265,23 @@ impl Position {
     // 7 Bump.
     pub fn bump(
         self,
-        sheet: &[u8],
+        sheet: &Sheet,
         setup: &[u8],
         view: View,
         party: u8,
         t: u8,
         to: Destination,
     ) -> Stepped
-        requires fit { Fit sheet.now setup.now }
-        requires view_value { view ≡ view_below sheet.now (count sheet.now) self }
-        requires t_bound { t < count sheet.now }
-        ensures { result ≡ take_step sheet.now setup.now self (Bump party t to) }
+        requires fit { Fit sheet.now.bytes setup.now }
+        requires view_value { view ≡ view_below sheet.now.bytes (count sheet.now.bytes) self }
+        requires t_bound { t < count sheet.now.bytes }
+        ensures { result ≡ take_step sheet.now.bytes setup.now self (Bump party t to) }
     {
         let k = sheet::field::wide(t);
         let owed = self.owed(sheet, setup, view, k);
-        let refusal = mining::bump_refusal(owed);
-        if refusal != 0 {
+        if let Err(refusal) = mining::bump_refusal(owed) {
             return Stepped {
-                refusal,
+                refusal: refusal.number(),
                 position: self,
             };
         }

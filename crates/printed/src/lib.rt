@@ -15,6 +15,7 @@ use sheet::little::u32_at;
 #[derive(Clone, Copy)]
 pub struct First {
     pub accepted: u32,
+    // a number, as in position's run of specs/Play.antt
     pub refusal: u32,
     pub blocks: u32,
     pub lines: usize,

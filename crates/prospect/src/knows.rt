@@ -13,6 +13,7 @@ ghost use Rattle.slack.specs.Beaten.{signs};
 
 use crate::pool;
 use position::Position;
+use sheet::field::Sheet;
 use sheet::{set, table};
 use slots::signatures;
 
@@ -39,35 +40,29 @@ fn shown_by(members: u32, secrets: u8, t: usize) -> u8
 }
 
 // What is known by the secrets that the members of a set show.
-fn known_of(shows: [u8; 32], sheet: &[u8], have: u8, members: u32) -> u8
-    requires { Sized sheet.now }
-    ensures { result ≡ bit_or have (shown_in sheet.now shows members) }
+fn known_of(shows: [u8; 32], sheet: &Sheet, have: u8, members: u32) -> u8
+    ensures { result ≡ bit_or have (shown_in sheet.now.bytes shows members) }
 {
     let mut found: u8 = 0;
-    for t in 0..sheet::field::count(sheet) {
+    for t in 0..sheet.count() {
         found |= shown_by(members, shows[t], t);
     }
     have | found
 }
 
 // What is known by those above each, in a table.
-pub fn known(shows: [u8; 32], sheet: &[u8], have: u8, above: [u32; 32]) -> [u8; 32]
-    requires { Sized sheet.now }
-    ensures { Filled (λ t v. v ≡ bit_or have (shown_in sheet.now shows (get_or above t 0))) (count sheet.now) result }
+pub fn known(shows: [u8; 32], sheet: &Sheet, have: u8, above: [u32; 32]) -> [u8; 32]
+    ensures { Filled (λ t v. v ≡ bit_or have (shown_in sheet.now.bytes shows (get_or above t 0))) (count sheet.now.bytes) result }
 {
-    table::filled(
-        sheet::field::count(sheet),
-        0,
-        |t| known_of(shows, sheet, have, above[t]),
-    )
+    table::filled(sheet.count(), 0, |t| known_of(shows, sheet, have, above[t]))
 }
 
 // Those that the party can sign with what it knows.
-pub fn signs(position: Position, sheet: &[u8], party: u8, known: [u8; 32]) -> u32
-    requires { Checked sheet.now }
-    ensures { result ≡ set_below (count sheet.now) (λ t. signs sheet.now position party (get_or known t 0) t) }
+pub fn signs(position: Position, sheet: &Sheet, party: u8, known: [u8; 32]) -> u32
+    requires { Checked sheet.now.bytes }
+    ensures { result ≡ set_below (count sheet.now.bytes) (λ t. signs sheet.now.bytes position party (get_or known t 0) t) }
 {
-    set::below(sheet::field::count(sheet), |t| {
+    set::below(sheet.count(), |t| {
         let given = position.slots[t].shared_for(pool::destination_of(sheet, party, t));
         signatures::signed(sheet, known[t] | given, t)
     })

@@ -7,6 +7,7 @@ ghost use Rattle.soonest.specs.Forms.Table.{Filled};
 ghost use Rattle.prospect.specs.Forms.Marks.{OwnLock};
 
 use position::Position;
+use sheet::field::Sheet;
 use slots::lock_height;
 use soonest::{block, lock, table};
 use steps::parent;
@@ -22,14 +23,14 @@ fn block_or(since: u16, soonest: u32) -> u32
 }
 
 // The lock heights with the parent in that block, in a table.
-pub fn locks(position: Position, sheet: &[u8], setup: &[u8]) -> [u32; 32]
-    requires { Fit sheet.now setup.now }
-    ensures { Filled (OwnLock sheet.now setup.now position) (count sheet.now) result }
+pub fn locks(position: Position, sheet: &Sheet, setup: &[u8]) -> [u32; 32]
+    requires { Fit sheet.now.bytes setup.now }
+    ensures { Filled (OwnLock sheet.now.bytes setup.now position) (count sheet.now.bytes) result }
 {
     let per_day = sheet::setup::per_day(setup);
     let soonest = block::soonest_blocks(position, sheet, per_day);
     let mut table = [0u32; 32];
-    for t in 0..sheet::field::count(sheet) {
+    for t in 0..sheet.count() {
         let up = parent::slot_above(sheet, t);
         let above = position.slots[up];
         let since = parent::block_above(sheet, t, above.height);

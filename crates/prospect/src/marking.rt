@@ -11,27 +11,28 @@ ghost use Rattle.prospect.specs.Forms.Marks.{Marked};
 use crate::{Marks, coins, kinds, knows, locks, mask, parents, pool, rivals};
 use attainable::{Others, round};
 use position::Position;
+use sheet::field::Sheet;
 
 // What a position tells for a party, from what is read of the others, what is above each transaction and what the party knows then.
 pub fn mark(
     position: Position,
-    sheet: &[u8],
+    sheet: &Sheet,
     setup: &[u8],
     party: u8,
     others: Others,
     ancestors: [u32; 32],
     known: [u8; 32],
 ) -> Marks
-    requires fit { Fit sheet.now setup.now }
-    requires reads { Reads sheet.now setup.now position party others }
-    requires filled { Filled (λ t v. v ≡ above sheet.now position t) (count sheet.now) ancestors }
-    requires filled_2 { Filled (λ t v. v ≡ known_at sheet.now position party t) (count sheet.now) known }
-    ensures { Marked sheet.now setup.now position party result }
+    requires fit { Fit sheet.now.bytes setup.now }
+    requires reads { Reads sheet.now.bytes setup.now position party others }
+    requires filled { Filled (λ t v. v ≡ above sheet.now.bytes position t) (count sheet.now.bytes) ancestors }
+    requires filled_2 { Filled (λ t v. v ≡ known_at sheet.now.bytes position party t) (count sheet.now.bytes) known }
+    ensures { Marked sheet.now.bytes setup.now position party result }
 {
     let fixed = parents::fixed(sheet, others.confirmed);
     let can = round::attainable(others, sheet, 0);
     Marks {
-        count: sheet::field::count(sheet),
+        count: sheet.count(),
         stealth: mask::wide(sheet::setup::stealth(setup)),
         gone: others.gone,
         contract: kinds::contracts(sheet),

@@ -3,6 +3,7 @@ ghost use Rattle.std.specs.Prelude.{◌<◌, ◌≡◌, get_or};
 ghost use Rattle.sheet.specs.Field.{count, Sized};
 ghost use Rattle.soonest.specs.Forms.Table.{Filled};
 
+use sheet::field::Sheet;
 use sheet::table;
 
 // One.
@@ -13,9 +14,8 @@ pub fn wide(mask: u8) -> u32
 }
 
 // A table of them.
-pub fn widened(masks: [u8; 32], sheet: &[u8]) -> [u32; 32]
-    requires { Sized sheet.now }
-    ensures { Filled (λ t v. v ≡ get_or masks t 0) (count sheet.now) result }
+pub fn widened(masks: [u8; 32], sheet: &Sheet) -> [u32; 32]
+    ensures { Filled (λ t v. v ≡ get_or masks t 0) (count sheet.now.bytes) result }
 {
-    table::filled(sheet::field::count(sheet), 0, |t| wide(masks[t]))
+    table::filled(sheet.count(), 0, |t| wide(masks[t]))
 }

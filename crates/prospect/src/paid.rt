@@ -10,6 +10,7 @@ ghost use Rattle.soonest.specs.Forms.Table.{Filled};
 ghost use Rattle.slack.specs.Kept.{paid};
 
 use position::Position;
+use sheet::field::Sheet;
 use sheet::{set, table};
 use slots::{Slot, party};
 
@@ -34,28 +35,25 @@ fn has_paid(x: Slot, party: u8) -> bool
 }
 
 // Whether one of them has.
-pub fn paid(position: Position, sheet: &[u8], party: u8) -> bool
-    requires { Sized sheet.now }
-    ensures { result ≡ paid sheet.now position party }
+pub fn paid(position: Position, sheet: &Sheet, party: u8) -> bool
+    ensures { result ≡ paid sheet.now.bytes position party }
 {
-    (0..sheet::field::count(sheet)).any(|t| has_paid(position.slots[t], party))
+    (0..sheet.count()).any(|t| has_paid(position.slots[t], party))
 }
 
 // Those that pay the party, and are not confirmed.
-pub fn awaited(sheet: &[u8], confirmed: u32, party: u8) -> u32
-    requires { Sized sheet.now }
-    ensures { result ≡ set_below (count sheet.now) (λ t. is_payee sheet.now t party && not (bit confirmed t)) }
+pub fn awaited(sheet: &Sheet, confirmed: u32, party: u8) -> u32
+    ensures { result ≡ set_below (count sheet.now.bytes) (λ t. is_payee sheet.now.bytes t party && not (bit confirmed t)) }
 {
     set::below(
-        sheet::field::count(sheet),
+        sheet.count(),
         |t| party::is_payee(sheet, t, party) && !set::has(confirmed, t),
     )
 }
 
 // Those of a set in the set of each, in a table.
-pub fn aims(sheet: &[u8], sets: [u32; 32], members: u32) -> [u32; 32]
-    requires { Sized sheet.now }
-    ensures { Filled (λ t v. v ≡ bit_and (get_or sets t 0) members) (count sheet.now) result }
+pub fn aims(sheet: &Sheet, sets: [u32; 32], members: u32) -> [u32; 32]
+    ensures { Filled (λ t v. v ≡ bit_and (get_or sets t 0) members) (count sheet.now.bytes) result }
 {
-    table::filled(sheet::field::count(sheet), 0, |t| sets[t] & members)
+    table::filled(sheet.count(), 0, |t| sets[t] & members)
 }

@@ -12,14 +12,14 @@ ghost use Rattle.kept.specs.Forms.Evaluation.{within};
 
 use crate::mask;
 use position::Position;
+use sheet::field::Sheet;
 use sheet::{set, table};
 use slots::party;
 
 // The destination for which the party counts on t.
-pub fn destination_of(sheet: &[u8], party: u8, t: usize) -> u8
-    requires sized { Sized sheet.now }
-    requires t_bound { t < count sheet.now }
-    ensures { result ≡ destination_of sheet.now party t }
+pub fn destination_of(sheet: &Sheet, party: u8, t: usize) -> u8
+    requires t_bound { t < count sheet.now.bytes }
+    ensures { result ≡ destination_of sheet.now.bytes party t }
 {
     if party::is_contract(sheet, t) {
         return 2;
@@ -38,12 +38,11 @@ fn names(entry: u8, to: u8) -> bool
 }
 
 // Those that are in the pool for that destination.
-pub fn pooled(position: Position, sheet: &[u8], party: u8) -> u32
-    requires { Sized sheet.now }
-    ensures { result ≡ set_below (count sheet.now) (pooled sheet.now position party) }
+pub fn pooled(position: Position, sheet: &Sheet, party: u8) -> u32
+    ensures { result ≡ set_below (count sheet.now.bytes) (pooled sheet.now.bytes position party) }
 {
     set::below(
-        sheet::field::count(sheet),
+        sheet.count(),
         |t| names(position.slots[t].pool, destination_of(sheet, party, t)),
     )
 }
@@ -59,13 +58,13 @@ fn lack_of(pooled: bool, required: u8, given: u8) -> u32
 }
 
 // What is lacking of each, where `held` are those in the pool, in a table.
-pub fn lacks(position: Position, sheet: &[u8], party: u8, held: u32) -> [u32; 32]
-    requires checked { Checked sheet.now }
-    requires held_value { held ≡ set_below (count sheet.now) (pooled sheet.now position party) }
-    ensures { Filled (λ t v. (know : ℕ) → within v know ≡ (signs sheet.now position party know t || pooled sheet.now position party t)) (count sheet.now) result }
+pub fn lacks(position: Position, sheet: &Sheet, party: u8, held: u32) -> [u32; 32]
+    requires checked { Checked sheet.now.bytes }
+    requires held_value { held ≡ set_below (count sheet.now.bytes) (pooled sheet.now.bytes position party) }
+    ensures { Filled (λ t v. (know : ℕ) → within v know ≡ (signs sheet.now.bytes position party know t || pooled sheet.now.bytes position party t)) (count sheet.now.bytes) result }
 {
-    table::filled(sheet::field::count(sheet), 0, |t| {
+    table::filled(sheet.count(), 0, |t| {
         let given = position.slots[t].shared_for(destination_of(sheet, party, t));
-        lack_of(set::has(held, t), sheet::field::required(sheet, t), given)
+        lack_of(set::has(held, t), sheet.required(t), given)
     })
 }

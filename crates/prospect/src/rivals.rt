@@ -5,22 +5,21 @@ ghost use Rattle.sheet.specs.Field.{count, Sized};
 ghost use Rattle.slots.specs.Conflict.{conflict};
 ghost use Rattle.soonest.specs.Forms.Table.{Filled};
 
+use sheet::field::Sheet;
 use sheet::{set, table};
 use soonest::rival;
 
 // Those of t, itself included.
-fn rivals_of(sheet: &[u8], t: usize) -> u32
-    requires sized { Sized sheet.now }
-    requires t_bound { t < count sheet.now }
-    ensures { result ≡ set_below (count sheet.now) (λ r. conflict sheet.now r t) }
+fn rivals_of(sheet: &Sheet, t: usize) -> u32
+    requires t_bound { t < count sheet.now.bytes }
+    ensures { result ≡ set_below (count sheet.now.bytes) (λ r. conflict sheet.now.bytes r t) }
 {
-    set::below(sheet::field::count(sheet), |r| rival::conflict(sheet, r, t))
+    set::below(sheet.count(), |r| rival::conflict(sheet, r, t))
 }
 
 // Those of all, in a table.
-pub fn rivals(sheet: &[u8]) -> [u32; 32]
-    requires { Sized sheet.now }
-    ensures { Filled (λ t v. v ≡ set_below (count sheet.now) (λ r. conflict sheet.now r t)) (count sheet.now) result }
+pub fn rivals(sheet: &Sheet) -> [u32; 32]
+    ensures { Filled (λ t v. v ≡ set_below (count sheet.now.bytes) (λ r. conflict sheet.now.bytes r t)) (count sheet.now.bytes) result }
 {
-    table::filled(sheet::field::count(sheet), 0, |t| rivals_of(sheet, t))
+    table::filled(sheet.count(), 0, |t| rivals_of(sheet, t))
 }

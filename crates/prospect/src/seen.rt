@@ -6,12 +6,13 @@ use crate::{come, kinds, knows, lines, marking, mask, paid, parents, pool, table
 use attainable::read;
 use kept::Prospect;
 use position::Position;
+use sheet::field::Sheet;
 use slots::lock_height;
 
 // What is read once for a position and a party.
-pub fn prospect(position: Position, sheet: &[u8], setup: &[u8], party: u8) -> Prospect
-    requires { Fit sheet.now setup.now }
-    ensures { Seen sheet.now setup.now position party result }
+pub fn prospect(position: Position, sheet: &Sheet, setup: &[u8], party: u8) -> Prospect
+    requires { Fit sheet.now.bytes setup.now }
+    ensures { Seen sheet.now.bytes setup.now position party result }
 {
     let others = read::read(position, sheet, setup, party);
     let unconfirmed = lines::unconfirmed(sheet, others.confirmed);

@@ -6,6 +6,7 @@ ghost use Rattle.prospect.specs.Forms.Until.{lasting, Holds, Lasts};
 
 use crate::{Marks, rival, table};
 use attainable::{Others, round};
+use sheet::field::Sheet;
 use sheet::set;
 
 // What can come where X sends transactions of the set `also`; for another than X; and the height last found with it.
@@ -18,10 +19,10 @@ pub struct Found {
 }
 
 // What can come where X sends transactions of a set.
-fn find(others: Others, sheet: &[u8], also: u32) -> Found
-    requires { Checked sheet.now }
+fn find(others: Others, sheet: &Sheet, also: u32) -> Found
+    requires { Checked sheet.now.bytes }
     ensures also_value { result.also ≡ also }
-    ensures holds { Holds sheet.now others result }
+    ensures holds { Holds sheet.now.bytes others result }
 {
     let can = round::attainable(others, sheet, also);
     let elsewhere = round::attainable_elsewhere(others, sheet, also, can);
@@ -34,11 +35,11 @@ fn find(others: Others, sheet: &[u8], also: u32) -> Found
 }
 
 // The same, not asked again where it was found last.
-fn find_again(last: Found, others: Others, sheet: &[u8], also: u32) -> Found
-    requires checked { Checked sheet.now }
-    requires holds { Holds sheet.now others last }
+fn find_again(last: Found, others: Others, sheet: &Sheet, also: u32) -> Found
+    requires checked { Checked sheet.now.bytes }
+    requires holds { Holds sheet.now.bytes others last }
     ensures also_value { result.also ≡ also }
-    ensures holds_2 { Holds sheet.now others result }
+    ensures holds_2 { Holds sheet.now.bytes others result }
 {
     if last.also == also {
         return last;
@@ -65,14 +66,14 @@ fn lasting(marks: Marks, t: usize, k: usize) -> bool
 }
 
 // What is found for t and k, and the height.
-fn found_at(last: Found, marks: Marks, others: Others, sheet: &[u8], t: usize, k: usize) -> Found
-    requires checked { Checked sheet.now }
-    requires holds { Holds sheet.now others last }
+fn found_at(last: Found, marks: Marks, others: Others, sheet: &Sheet, t: usize, k: usize) -> Found
+    requires checked { Checked sheet.now.bytes }
+    requires holds { Holds sheet.now.bytes others last }
     requires sound { Sound marks }
     requires t_bound { t < 32 }
     requires k_lt_count { k < marks.count }
-    ensures holds_2 { Holds sheet.now others result }
-    ensures lasts { Lasts sheet.now marks others t k result.height }
+    ensures holds_2 { Holds sheet.now.bytes others result }
+    ensures lasts { Lasts sheet.now.bytes marks others t k result.height }
 {
     let found = find_again(last, others, sheet, marks.above[t] | marks.above[k]);
     let come = rival::comers(marks, found.can, found.elsewhere, k);
@@ -86,14 +87,14 @@ fn found_at(last: Found, marks: Marks, others: Others, sheet: &[u8], t: usize, k
 }
 
 // The same, with no height where k cannot last.
-fn next(last: Found, marks: Marks, others: Others, sheet: &[u8], t: usize, k: usize) -> Found
-    requires checked { Checked sheet.now }
-    requires holds { Holds sheet.now others last }
+fn next(last: Found, marks: Marks, others: Others, sheet: &Sheet, t: usize, k: usize) -> Found
+    requires checked { Checked sheet.now.bytes }
+    requires holds { Holds sheet.now.bytes others last }
     requires sound { Sound marks }
     requires t_bound { t < 32 }
     requires k_bound { k < 32 }
-    ensures holds_2 { Holds sheet.now others result }
-    ensures lasts { Lasts sheet.now marks others t k result.height }
+    ensures holds_2 { Holds sheet.now.bytes others result }
+    ensures lasts { Lasts sheet.now.bytes marks others t k result.height }
 {
     if lasting(marks, t, k) {
         return found_at(last, marks, others, sheet, t, k);
@@ -107,10 +108,10 @@ fn next(last: Found, marks: Marks, others: Others, sheet: &[u8], t: usize, k: us
 }
 
 // The heights for all pairs.
-pub fn until(marks: Marks, others: Others, sheet: &[u8]) -> [u32; 1024]
-    requires checked { Checked sheet.now }
+pub fn until(marks: Marks, others: Others, sheet: &Sheet) -> [u32; 1024]
+    requires checked { Checked sheet.now.bytes }
     requires sound { Sound marks }
-    ensures { Cells (Lasts sheet.now marks others) (32 * marks.count) result }
+    ensures { Cells (Lasts sheet.now.bytes marks others) (32 * marks.count) result }
 {
     let mut found = find(others, sheet, 0);
     let mut table = [0u32; 1024];

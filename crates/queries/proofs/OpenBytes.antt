@@ -4,7 +4,7 @@ use Rattle.laws.proofs.Prelude.{ℕ, zero, suc, ◌+◌, ◌*◌, ◌/◌, ◌%�
 use Rattle.laws.proofs.Prelude.{eqb, length, get_or, replicate, lt-ltb, le-ltb, arith, eq-or-lt_of_le, le_of_suc-le-suc, ap₂, flat_map, split, either, clash, and_parts}
 use Rattle.laws.proofs.Prelude.{rewritten, gather, gather_empty, gather_same, set_bit}
 use Rattle.position.proofs.Rules.{accepted, Step, Share, Give, SendToPool, HandToMiner, Include, Mine, Bump, alice, bob, carol, miner, destinations, parties, party_at}
-use Rattle.position.proofs.Rules.{Decoded, Read, Refused, no_transaction, fields_right, decode, step_bytes, slot_count, step_refusal, actor_at, kinds, if_accepted}
+use Rattle.position.proofs.Rules.{Option, Some, None, no_transaction, fields_right, decode, step_bytes, slot_count, step_refusal, actor_at, kinds, if_accepted}
 use Rattle.position.specs.declared.Position.{Position}
 use Rattle.position.proofs.Rules.{open_at, open_of, actor_steps, open_steps, list_bytes}
 use native.Mathlib.Numerals.{add-one}
@@ -39,14 +39,14 @@ module _ (s u : List ℕ) (p : Position) where
   list_length = rw (length_flat step_bytes 4 length_step (open_steps s u p)) (omega arith)
 
   -- ---- one step
-  read_bytes : (kind actor t d : ℕ) (y : Decoded) → decode s u kind actor t d ≡ y
+  read_bytes : (kind actor t d : ℕ) (y : Option Step) → decode s u kind actor t d ≡ y
       → flat_map step_bytes (if_accepted s u p y) ≡ emitted (is_open_read s u p y) kind actor t d
   unfolding if_accepted is_open_read emitted flat_map
-  read_bytes kind actor t d (Read x) e =
+  read_bytes kind actor t d (Some x) e =
       split (eqb (step_refusal s u p x) accepted)
       (λ y. rw (y, (decodes s u kind actor t d x e).bytes))
       (λ y. rw y)
-  read_bytes kind actor t d Refused e = refl
+  read_bytes kind actor t d None e = refl
 
   one_bytes : (kind actor t d : ℕ) → flat_map step_bytes (if_accepted s u p (decode s u kind actor t d)) ≡ emitted (is_open_step s u p kind actor t d) kind actor t d
   unfolding is_open_step
@@ -100,10 +100,10 @@ module _ (s u : List ℕ) (p : Position) where
     never (Mine b i to) k t d e f = let q : b ≡ a = ap (λ l. get_or l 1 0) e in clash (and_parts (eqb b miner) _ f).0 (rw q m)
     never (Bump b i to) k t d e f = let q : b ≡ a = ap (λ l. get_or l 1 0) e in clash (and_parts (eqb b miner) _ f).0 (rw q m)
 
-    none_read : (k t d : ℕ) (y : Decoded) → decode s u k a t d ≡ y → if_accepted s u p y ≡ []
+    none_read : (k t d : ℕ) (y : Option Step) → decode s u k a t d ≡ y → if_accepted s u p y ≡ []
     unfolding if_accepted
-    none_read k t d (Read x) e = let w = decodes s u k a t d x e in absurd (never x k t d w.bytes w.fields)
-    none_read k t d Refused e = refl
+    none_read k t d (Some x) e = let w = decodes s u k a t d x e in absurd (never x k t d w.bytes w.fields)
+    none_read k t d None e = refl
 
     none_at : (k t : ℕ) → open_at s u p a k t ≡ []
     unfolding open_at

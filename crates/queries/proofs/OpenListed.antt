@@ -3,7 +3,7 @@
 use Rattle.laws.proofs.Prelude.{ℕ, ◌<◌, ◌≡◌, refl, sym, ◌∙◌, true, false, ◌&&◌, ◌||◌, and-false, List, eqb, leb, eqb-true, eqb-false, ne_eqb, lt-ltb, arith, or-false}
 use Rattle.laws.proofs.Prelude.{split, clash, and_parts, no_bit}
 use Rattle.position.proofs.Rules.{count, signatures, place, parent, payees, accepted, Slot, Destination, Alice, Bob, Contract, Carol, Step, Share, Give, SendToPool}
-use Rattle.position.proofs.Rules.{HandToMiner, Include, Bump, miner, contract, destinations, destination_number, is_party, is_payee, is_contract, Read, no_transaction}
+use Rattle.position.proofs.Rules.{HandToMiner, Include, Bump, miner, contract, destinations, destination_number, is_party, is_payee, is_contract, Some, no_transaction}
 use Rattle.position.proofs.Rules.{sends_to, shares_to, is_other, first_share_fields, fields_right, of_kind, spelled, range_checked, decode, Context, share_new_in, refusal_in}
 use Rattle.position.proofs.Rules.{party_may, may_stand, gives_in, slot, block_of, Fit}
 use Rattle.position.specs.declared.Position.{Position}
@@ -68,12 +68,12 @@ module _ (s u : List ℕ) (p : Position) (fit : Fit s u) (a t : ℕ) (x : Slot) 
   spelled_to k Contract = refl
   spelled_to k Carol = refl
 
-  checked_open : (g : Context) (y : Step) → is_open_in s u g x since (range_checked s u (Read y)) ≡ (fields_right s u y && eqb (refusal_in s u g x since y) accepted)
+  checked_open : (g : Context) (y : Step) → is_open_in s u g x since (range_checked s u (Some y)) ≡ (fields_right s u y && eqb (refusal_in s u g x since y) accepted)
   unfolding range_checked is_open_in
   checked_open g y = split (fields_right s u y) (λ e. rw e) (λ e. rw e)
 
   pub kind_open : (k : ℕ) (to : Destination) (y : Step) → ((k ≡ 2 → ⊥) → t < count s → (x ≡ slot p t) × (since ≡ block_of p (parent s t)))
-      → of_kind k a t to ≡ Read y
+      → of_kind k a t to ≡ Some y
       → is_open_step s u p k a t (destination_number to) ≡ (fields_right s u y && eqb (refusal_in s u (context_of s u p a) x since y) accepted)
   unfolding decode
   kind_open k to y place e =

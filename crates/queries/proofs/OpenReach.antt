@@ -4,7 +4,7 @@ use Rattle.laws.proofs.Prelude.{ℕ, zero, suc, ◌+◌, ◌*◌, ◌/◌, ◌%�
 use Rattle.laws.proofs.Prelude.{ltb, get_or, eqb-true, ltb-true, ne_eqb, lt-ltb, le-ltb, not-true, not-false, arith, eq-or-lt_of_le, le_of_suc-le-suc, and-true, split}
 use Rattle.laws.proofs.Prelude.{either, clash, and_parts, or_parts, or_right, joined, set_below, set_same}
 use Rattle.position.proofs.Rules.{count, signatures, parent, conduct, Contract, Step, Share, Give, SendToPool, HandToMiner, Include, Mine, Bump, empty_slot, miner}
-use Rattle.position.proofs.Rules.{contract, destinations, destination_number, is_party, is_contract, Decoded, Read, Refused, Context, no_transaction, sends_to, shares_to}
+use Rattle.position.proofs.Rules.{contract, destinations, destination_number, is_party, is_contract, Option, Some, None, Context, no_transaction, sends_to, shares_to}
 use Rattle.position.proofs.Rules.{first_share_fields, fields_right, of_kind, decode, step_bytes, share_new_in, refusal_in, party_may, may_stand, gives_in, slot_count, slot}
 use Rattle.position.specs.declared.Position.{Position}
 use Rattle.position.proofs.Rules.{block_of, Fit}
@@ -104,10 +104,10 @@ module _ (s u : List ℕ) (k a t d : ℕ) (low : t < slot_count) where
       miner_reach 7 (ap (λ l. get_or l 0 0) e) w.0 refl (rw q at (and_parts (ltb t (count s)) _ w.1).1) refl
       (bump_listed s u a t to (Bump a t to) refl r)
 
-  read_closed : (p : Position) (y : Decoded) → decode s u k a t d ≡ y → (may_stand s k a d && ltb t (limit s k)) ≡ false → is_open_read s u p y ≡ false
+  read_closed : (p : Position) (y : Option Step) → decode s u k a t d ≡ y → (may_stand s k a d && ltb t (limit s k)) ≡ false → is_open_read s u p y ≡ false
   unfolding is_open_read
-  read_closed p (Read y) e h = let w = decodes s u k a t d y e in clash (in_reach y w.bytes w.fields) h
-  read_closed p Refused e h = refl
+  read_closed p (Some y) e h = let w = decodes s u k a t d y e in clash (in_reach y w.bytes w.fields) h
+  read_closed p None e h = refl
 
   -- out of reach, nothing is open
   pub out_closed : (p : Position) → (may_stand s k a d && ltb t (limit s k)) ≡ false → is_open_step s u p k a t d ≡ false
@@ -186,10 +186,10 @@ module _ (s u : List ℕ) (p : Position) (fit : Fit s u) (few : signatures s ≤
       (sym q ∙ eqb-true (destination_number to) contract (and_parts (eqb i no_transaction) _ w.1).1)
   top_never (Bump b i to) e h = beyond i (count s) (ap (λ l. get_or l 2 0) e) (bump_listed s u b i to (Bump b i to) refl h) fit.checked.sized.few
 
-  top_read : (y : Decoded) → decode s u k a no_transaction d ≡ y → is_open_read s u p y ≡ false
+  top_read : (y : Option Step) → decode s u k a no_transaction d ≡ y → is_open_read s u p y ≡ false
   unfolding is_open_read
-  top_read (Read y) e = let w = decodes s u k a no_transaction d y e in absurd (top_never y w.bytes w.fields)
-  top_read Refused e = refl
+  top_read (Some y) e = let w = decodes s u k a no_transaction d y e in absurd (top_never y w.bytes w.fields)
+  top_read None e = refl
 
   top_closed : is_open_step s u p k a no_transaction d ≡ false
   unfolding is_open_step

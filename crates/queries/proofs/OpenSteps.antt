@@ -3,7 +3,7 @@
 use Rattle.laws.proofs.Prelude.{ℕ, ◌<◌, ◌≡◌, refl, sym, ap, ◌∙◌, Bool, true, false, not, ◌&&◌, and-false, List, [], ◌∷◌, eqb, get_or, eqb-true, eqb-false, not-true}
 use Rattle.laws.proofs.Prelude.{not-false, arith, split, and_parts, any_all_false, first_failing}
 use Rattle.position.proofs.Rules.{count, parent, conduct, stealth, Slot, Destination, Step, Share, Give, SendToPool, HandToMiner, Include, Mine, Bump, alice, bob}
-use Rattle.position.proofs.Rules.{destination_number, is_party, is_payee, Decoded, Read, Refused, View, Guards, no_transaction, fields_right, decode, step_bytes, may_send}
+use Rattle.position.proofs.Rules.{destination_number, is_party, is_payee, Option, Some, None, View, Guards, no_transaction, fields_right, decode, step_bytes, may_send}
 use Rattle.position.proofs.Rules.{keys_in, share_new_in, refusal_in, slot, block_of, keys, holds, marked, view_below, share_met, share_tests, give_met, give_tests}
 use Rattle.position.specs.declared.Position.{Position}
 use Rattle.position.proofs.Rules.{send_tests, pool_tests, miner_tests, bump_tests, is_open, is_careful, phase, can_pay, send_allowed, paying_passes, paying_first, conduct_allows}
@@ -115,10 +115,10 @@ module _ (s u : List ℕ) (p : Position) (fit : Fit s u) (kind actor t d : ℕ) 
       let n : b ≡ t = ap (λ l. get_or l 2 0) e in
       rw (m, n) (bump_seen s u p fit actor t x since (place (λ z. omega (arith, k, z))) to (rw (m, n) at h))
 
-  read_seen : (y : Decoded) → decode s u kind actor t d ≡ y → is_open_in s u (context_of s u p actor) x since y ≡ is_open_read s u p y
+  read_seen : (y : Option Step) → decode s u kind actor t d ≡ y → is_open_in s u (context_of s u p actor) x since y ≡ is_open_read s u p y
   unfolding is_open_in is_open_read
-  read_seen (Read y) e = let w = decodes s u kind actor t d y e in rw (step_seen y w.bytes w.fields)
-  read_seen Refused e = refl
+  read_seen (Some y) e = let w = decodes s u kind actor t d y e in rw (step_seen y w.bytes w.fields)
+  read_seen None e = refl
 
   pub open_seen : is_open_in s u (context_of s u p actor) x since (decode s u kind actor t d) ≡ is_open_step s u p kind actor t d
   unfolding is_open_step

@@ -5,11 +5,12 @@ ghost use Rattle.position.specs.Holder.{holder_in};
 
 use position::Position;
 use readings::{holder, report};
+use sheet::field::Sheet;
 
 // The holder of a coin, 255 for nobody.
-pub fn holder_in(position: Position, sheet: &[u8], coin: usize) -> u8
-    requires { Checked sheet.now }
-    ensures { result ≡ holder_in sheet.now position coin }
+pub fn holder_in(position: Position, sheet: &Sheet, coin: usize) -> u8
+    requires { Checked sheet.now.bytes }
+    ensures { result ≡ holder_in sheet.now.bytes position coin }
 {
     let view = position.view(sheet);
     let t = holder::coin_end(sheet, view.confirmed, coin);

@@ -12,6 +12,7 @@ ghost use Rattle.queries.specs.Forms.OpenSets.{is_open_step, open_set, below_set
 use crate::OpenSets;
 use position::Position;
 use readings::{Context, DestinationSets, open};
+use sheet::field::Sheet;
 use sheet::{set, table};
 use slots::next;
 use steps::{Guards, View, parent};
@@ -19,18 +20,18 @@ use steps::{Guards, View, parent};
 // Whether the actor is a careful party that can send a transaction that pays it. In phase 0 nobody sends.
 fn is_paying(
     position: Position,
-    sheet: &[u8],
+    sheet: &Sheet,
     setup: &[u8],
     view: View,
     o: Guards,
     actor: u8,
 ) -> bool
-    requires fit { Fit sheet.now setup.now }
-    requires view_value { view ≡ view_below sheet.now (count sheet.now) position }
-    requires o_value { o ≡ guards sheet.now setup.now position }
-    ensures { result ≡ is_paying sheet.now setup.now position actor }
+    requires fit { Fit sheet.now.bytes setup.now }
+    requires view_value { view ≡ view_below sheet.now.bytes (count sheet.now.bytes) position }
+    requires o_value { o ≡ guards sheet.now.bytes setup.now position }
+    ensures { result ≡ is_paying sheet.now.bytes setup.now position actor }
 {
-    if !sheet::field::is_party(sheet, actor) {
+    if !sheet.is_party(actor) {
         return false;
     }
     if !o.careful {
@@ -45,18 +46,18 @@ fn is_paying(
 // What is the same for all steps of the actor.
 fn context(
     position: Position,
-    sheet: &[u8],
+    sheet: &Sheet,
     setup: &[u8],
     view: View,
     o: Guards,
     owed: bool,
     actor: u8,
 ) -> Context
-    requires fit { Fit sheet.now setup.now }
-    requires view_value { view ≡ view_below sheet.now (count sheet.now) position }
-    requires o_value { o ≡ guards sheet.now setup.now position }
-    requires owed_value { owed ≡ any_owed sheet.now setup.now position }
-    ensures { result ≡ context_of sheet.now setup.now position actor }
+    requires fit { Fit sheet.now.bytes setup.now }
+    requires view_value { view ≡ view_below sheet.now.bytes (count sheet.now.bytes) position }
+    requires o_value { o ≡ guards sheet.now.bytes setup.now position }
+    requires owed_value { owed ≡ any_owed sheet.now.bytes setup.now position }
+    ensures { result ≡ context_of sheet.now.bytes setup.now position actor }
 {
     let paying = is_paying(position, sheet, setup, view, o, actor);
     let made = position.first_shares_made(actor);
@@ -72,7 +73,7 @@ fn context(
 // Of the numbers below n, those with which a step of this kind and this destination is open.
 fn sheet_set(
     position: Position,
-    sheet: &[u8],
+    sheet: &Sheet,
     setup: &[u8],
     context: Context,
     dests: DestinationSets,
@@ -80,15 +81,15 @@ fn sheet_set(
     kind: u8,
     to: u8,
 ) -> u32
-    requires fit { Fit sheet.now setup.now }
-    requires context_value { context ≡ context_of sheet.now setup.now position actor }
-    requires dests_value { dests ≡ destination_sets sheet.now actor }
-    requires to_value { may_stand sheet.now kind actor to ≡ true }
+    requires fit { Fit sheet.now.bytes setup.now }
+    requires context_value { context ≡ context_of sheet.now.bytes setup.now position actor }
+    requires dests_value { dests ≡ destination_sets sheet.now.bytes actor }
+    requires to_value { may_stand sheet.now.bytes kind actor to ≡ true }
     requires fact { kind ≡ 2 → ⊥ }
     requires to_bound { to < 4 }
-    ensures { result ≡ set_below (count sheet.now) (λ t. is_open_step sheet.now setup.now position kind actor t to) }
+    ensures { result ≡ set_below (count sheet.now.bytes) (λ t. is_open_step sheet.now.bytes setup.now position kind actor t to) }
 {
-    let n = sheet::field::count(sheet);
+    let n = sheet.count();
     let c = open::candidates(setup, context, dests, kind, actor, to);
     let mut found: u32 = 0;
     for t in next::members(c, n) {
@@ -105,7 +106,7 @@ fn sheet_set(
 // The transaction bytes below 32 with which a step of this kind and this destination is open.
 fn open_set(
     position: Position,
-    sheet: &[u8],
+    sheet: &Sheet,
     setup: &[u8],
     context: Context,
     dests: DestinationSets,
@@ -113,11 +114,11 @@ fn open_set(
     kind: u8,
     destination: u8,
 ) -> u32
-    requires fit { Fit sheet.now setup.now }
-    requires context_value { context ≡ context_of sheet.now setup.now position actor }
-    requires dests_value { dests ≡ destination_sets sheet.now actor }
+    requires fit { Fit sheet.now.bytes setup.now }
+    requires context_value { context ≡ context_of sheet.now.bytes setup.now position actor }
+    requires dests_value { dests ≡ destination_sets sheet.now.bytes actor }
     requires destination_bound { destination < 4 }
-    ensures { result ≡ open_set sheet.now setup.now position actor kind destination }
+    ensures { result ≡ open_set sheet.now.bytes setup.now position actor kind destination }
 {
     if !open::may_stand(sheet, kind, actor, destination) {
         return 0;
@@ -144,16 +145,16 @@ fn open_set(
 // These sets, for each kind and destination.
 fn below_sets(
     position: Position,
-    sheet: &[u8],
+    sheet: &Sheet,
     setup: &[u8],
     context: Context,
     dests: DestinationSets,
     actor: u8,
 ) -> [u32; 28]
-    requires fit { Fit sheet.now setup.now }
-    requires context_value { context ≡ context_of sheet.now setup.now position actor }
-    requires dests_value { dests ≡ destination_sets sheet.now actor }
-    ensures { result ≡ below_sets sheet.now setup.now position actor }
+    requires fit { Fit sheet.now.bytes setup.now }
+    requires context_value { context ≡ context_of sheet.now.bytes setup.now position actor }
+    requires dests_value { dests ≡ destination_sets sheet.now.bytes actor }
+    ensures { result ≡ below_sets sheet.now.bytes setup.now position actor }
 {
     table::filled(28, 0, |i| {
         let kind = (i / 4 + 1) as u8;
@@ -172,11 +173,10 @@ fn below_sets(
 
 // Whether none of an actor's steps with a transaction byte other than 255 is open: a party's in phase 0, the miner's while the
 // pool is empty.
-fn is_idle(sheet: &[u8], view: View, o: Guards, actor: u8) -> bool
-    requires { Sized sheet.now }
-    ensures { result ≡ is_idle sheet.now view o actor }
+fn is_idle(sheet: &Sheet, view: View, o: Guards, actor: u8) -> bool
+    ensures { result ≡ is_idle sheet.now.bytes view o actor }
 {
-    if !sheet::field::is_party(sheet, actor) {
+    if !sheet.is_party(actor) {
         return view.pool == 0;
     }
     if o.free {
@@ -188,18 +188,18 @@ fn is_idle(sheet: &[u8], view: View, o: Guards, actor: u8) -> bool
 // The open steps of an actor.
 pub fn open_sets(
     position: Position,
-    sheet: &[u8],
+    sheet: &Sheet,
     setup: &[u8],
     view: View,
     o: Guards,
     owed: bool,
     actor: u8,
 ) -> OpenSets
-    requires fit { Fit sheet.now setup.now }
-    requires view_value { view ≡ view_below sheet.now (count sheet.now) position }
-    requires o_value { o ≡ guards sheet.now setup.now position }
-    requires owed_value { owed ≡ any_owed sheet.now setup.now position }
-    ensures { result ≡ open_sets sheet.now setup.now position actor }
+    requires fit { Fit sheet.now.bytes setup.now }
+    requires view_value { view ≡ view_below sheet.now.bytes (count sheet.now.bytes) position }
+    requires o_value { o ≡ guards sheet.now.bytes setup.now position }
+    requires owed_value { owed ≡ any_owed sheet.now.bytes setup.now position }
+    ensures { result ≡ open_sets sheet.now.bytes setup.now position actor }
 {
     let context = context(position, sheet, setup, view, o, owed, actor);
     let last = open::last_set(sheet, setup, context, actor);

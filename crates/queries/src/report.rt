@@ -10,6 +10,7 @@ ghost use Rattle.position.specs.Report.{report_bytes};
 use output::row;
 use position::Position;
 use readings::{report, reported};
+use sheet::field::Sheet;
 use slots::conflict;
 use steps::{View, parent};
 
@@ -18,16 +19,16 @@ pub fn write_report(
     position: Position,
     view: View,
     opened: [u32; 32],
-    sheet: &[u8],
+    sheet: &Sheet,
     setup: &[u8],
     out: &mut [u8],
 )
-    requires fit { Fit sheet.now setup.now }
-    requires view_value { view ≡ view_below sheet.now (count sheet.now) position }
-    requires sheet_in_bounds { row_width * count sheet.now ≤ length out.old }
-    ensures { out.new ≡ over (report_bytes sheet.now setup.now position opened) out.old }
+    requires fit { Fit sheet.now.bytes setup.now }
+    requires view_value { view ≡ view_below sheet.now.bytes (count sheet.now.bytes) position }
+    requires sheet_in_bounds { row_width * count sheet.now.bytes ≤ length out.old }
+    ensures { out.new ≡ over (report_bytes sheet.now.bytes setup.now position opened) out.old }
 {
-    let n = sheet::field::count(sheet);
+    let n = sheet.count();
     let per_day = sheet::setup::per_day(setup);
     let conflicted = conflict::conflicts_of(sheet, view.confirmed, true);
     let mut at: usize = 0;

@@ -3,6 +3,7 @@ ghost use Rattle.std.specs.Prelude.{◌<◌, ◌≡◌, ◌||◌, eqb, length};
 ghost use Rattle.laws.specs.Booleans.{pick};
 ghost use Rattle.laws.specs.Failing.{first_failing};
 ghost use Rattle.laws.specs.Sets.{set_below};
+ghost use Rattle.sheet.specs.Refusal.{refused};
 ghost use Rattle.sheet.specs.Field.{count, signatures, Sized};
 ghost use Rattle.sheet.specs.Setup.{per_day, stealth};
 ghost use Rattle.sheet.specs.Checked.{Checked, Fit};
@@ -15,6 +16,8 @@ ghost use Rattle.steps.specs.Forms.Mining.{owed_in};
 ghost use Rattle.readings.specs.Forms.Context.{party_may, may_stand, goes_to, goes_set, destination_sets, destination_set, sharers, senders, turns_in, candidates_in, refusal_as, gives_in, shares_first, mines_in, last_in};
 
 use crate::{Context, DestinationSets};
+use sheet::field::Sheet;
+use sheet::refusal::Refusal;
 use sheet::set;
 use slots::{Slot, party};
 use steps::names::NO_TRANSACTION;
@@ -31,9 +34,8 @@ fn to_sender(actor: u8, destination: u8) -> bool
 }
 
 // Whether a party's step of a kind may go to a destination.
-fn party_may(sheet: &[u8], kind: u8, actor: u8, destination: u8) -> bool
-    requires { Sized sheet.now }
-    ensures { result ≡ party_may sheet.now kind actor destination }
+fn party_may(sheet: &Sheet, kind: u8, actor: u8, destination: u8) -> bool
+    ensures { result ≡ party_may sheet.now.bytes kind actor destination }
 {
     match kind {
         1 => true,
@@ -45,11 +47,10 @@ fn party_may(sheet: &[u8], kind: u8, actor: u8, destination: u8) -> bool
 }
 
 // Whether some step of a kind, an actor and a destination may have right fields with a transaction byte other than 255.
-pub fn may_stand(sheet: &[u8], kind: u8, actor: u8, destination: u8) -> bool
-    requires { Sized sheet.now }
-    ensures { result ≡ may_stand sheet.now kind actor destination }
+pub fn may_stand(sheet: &Sheet, kind: u8, actor: u8, destination: u8) -> bool
+    ensures { result ≡ may_stand sheet.now.bytes kind actor destination }
 {
-    if sheet::field::is_party(sheet, actor) {
+    if sheet.is_party(actor) {
         return party_may(sheet, kind, actor, destination);
     }
     if actor != 2 {
@@ -65,10 +66,9 @@ pub fn may_stand(sheet: &[u8], kind: u8, actor: u8, destination: u8) -> bool
 }
 
 // Whether t goes to a destination: a contract transaction to the contract, a paying one to its payees.
-fn goes_to(sheet: &[u8], t: usize, destination: u8) -> bool
-    requires sized { Sized sheet.now }
-    requires t_bound { t < count sheet.now }
-    ensures { result ≡ goes_to sheet.now t destination }
+fn goes_to(sheet: &Sheet, t: usize, destination: u8) -> bool
+    requires t_bound { t < count sheet.now.bytes }
+    ensures { result ≡ goes_to sheet.now.bytes t destination }
 {
     if destination == 2 {
         return party::is_contract(sheet, t);
@@ -77,20 +77,18 @@ fn goes_to(sheet: &[u8], t: usize, destination: u8) -> bool
 }
 
 // The transactions that go to a destination.
-fn goes_set(sheet: &[u8], destination: u8) -> u32
-    requires { Sized sheet.now }
-    ensures { result ≡ goes_set sheet.now destination }
+fn goes_set(sheet: &Sheet, destination: u8) -> u32
+    ensures { result ≡ goes_set sheet.now.bytes destination }
 {
-    let n = sheet::field::count(sheet);
+    let n = sheet.count();
     set::below(n, |t| goes_to(sheet, t, destination))
 }
 
 // These, by destination; none for the miner, whose steps all go to the contract.
-pub fn destination_sets(sheet: &[u8], actor: u8) -> DestinationSets
-    requires { Sized sheet.now }
-    ensures { result ≡ destination_sets sheet.now actor }
+pub fn destination_sets(sheet: &Sheet, actor: u8) -> DestinationSets
+    ensures { result ≡ destination_sets sheet.now.bytes actor }
 {
-    if !sheet::field::is_party(sheet, actor) {
+    if !sheet.is_party(actor) {
         return DestinationSets {
             alice: 0,
             bob: 0,
@@ -198,17 +196,16 @@ pub fn candidates(
 
 // Kind 1.
 fn share_refusal(
-    sheet: &[u8],
+    sheet: &Sheet,
     context: Context,
     x: Slot,
     actor: u8,
     t: usize,
     destination: u8,
-) -> u32
-    requires sized { Sized sheet.now }
-    requires t_bound { t < count sheet.now }
+) -> Result<(), Refusal>
+    requires t_bound { t < count sheet.now.bytes }
     requires destination_bound { destination < 4 }
-    ensures { result ≡ first_failing (conduct_rule (share_allowed_in context.guards actor t) (share_met_in sheet.now (keys_in context.view actor) x actor t destination)) }
+    ensures { refused result ≡ first_failing (conduct_rule (share_allowed_in context.guards actor t) (share_met_in sheet.now.bytes (keys_in context.view actor) x actor t destination)) }
 {
     let allowed = context.guards.share_allowed(actor, t as u8);
     let met = sharing::share_met(sheet, context.view.keys(actor), x, actor, t, destination);
@@ -217,7 +214,7 @@ fn share_refusal(
 
 // Kind 3. The parent is tested first: most that are not open lack it.
 fn pool_accepted(
-    sheet: &[u8],
+    sheet: &Sheet,
     setup: &[u8],
     context: Context,
     x: Slot,
@@ -226,9 +223,9 @@ fn pool_accepted(
     t: usize,
     destination: u8,
 ) -> bool
-    requires fit { Fit sheet.now setup.now }
-    requires t_bound { t < count sheet.now }
-    ensures { result ≡ eqb (first_failing (pool_tests_in (send_held_in sheet.now context.guards context.paying actor t) sheet.now setup.now context.view x since actor t destination)) 0 }
+    requires fit { Fit sheet.now.bytes setup.now }
+    requires t_bound { t < count sheet.now.bytes }
+    ensures { result ≡ eqb (first_failing (pool_tests_in (send_held_in sheet.now.bytes context.guards context.paying actor t) sheet.now.bytes setup.now context.view x since actor t destination)) 0 }
 {
     if !parent::parent_there(sheet, context.view.sent(), t) {
         return false;
@@ -244,12 +241,13 @@ fn pool_accepted(
         actor,
         t,
         destination,
-    ) == 0
+    )
+    .is_ok()
 }
 
 // Kind 4, in the same way.
 fn miner_accepted(
-    sheet: &[u8],
+    sheet: &Sheet,
     setup: &[u8],
     context: Context,
     x: Slot,
@@ -258,9 +256,9 @@ fn miner_accepted(
     t: usize,
     destination: u8,
 ) -> bool
-    requires fit { Fit sheet.now setup.now }
-    requires t_bound { t < count sheet.now }
-    ensures { result ≡ eqb (first_failing (miner_tests_in (send_held_in sheet.now context.guards context.paying actor t) sheet.now setup.now context.view x since actor t destination)) 0 }
+    requires fit { Fit sheet.now.bytes setup.now }
+    requires t_bound { t < count sheet.now.bytes }
+    ensures { result ≡ eqb (first_failing (miner_tests_in (send_held_in sheet.now.bytes context.guards context.paying actor t) sheet.now.bytes setup.now context.view x since actor t destination)) 0 }
 {
     if !parent::parent_there(sheet, context.view.placed(), t) {
         return false;
@@ -276,14 +274,21 @@ fn miner_accepted(
         actor,
         t,
         destination,
-    ) == 0
+    )
+    .is_ok()
 }
 
 // Kind 7.
-fn bump_refusal(sheet: &[u8], setup: &[u8], context: Context, since: u16, t: usize) -> u32
-    requires fit { Fit sheet.now setup.now }
-    requires t_bound { t < count sheet.now }
-    ensures { result ≡ first_failing (bump_rule (owed_in sheet.now (per_day setup.now) context.view since t)) }
+fn bump_refusal(
+    sheet: &Sheet,
+    setup: &[u8],
+    context: Context,
+    since: u16,
+    t: usize,
+) -> Result<(), Refusal>
+    requires fit { Fit sheet.now.bytes setup.now }
+    requires t_bound { t < count sheet.now.bytes }
+    ensures { refused result ≡ first_failing (bump_rule (owed_in sheet.now.bytes (per_day setup.now) context.view since t)) }
 {
     let per_day = sheet::setup::per_day(setup);
     mining::bump_refusal(owed::owed_at(sheet, per_day, context.view, since, t))
@@ -291,7 +296,7 @@ fn bump_refusal(sheet: &[u8], setup: &[u8], context: Context, since: u16, t: usi
 
 // Whether a step of any kind but 2 and 6, with right fields, is accepted.
 pub fn accepted_as(
-    sheet: &[u8],
+    sheet: &Sheet,
     setup: &[u8],
     context: Context,
     x: Slot,
@@ -301,17 +306,17 @@ pub fn accepted_as(
     t: usize,
     destination: u8,
 ) -> bool
-    requires fit { Fit sheet.now setup.now }
-    requires t_bound { t < count sheet.now }
+    requires fit { Fit sheet.now.bytes setup.now }
+    requires t_bound { t < count sheet.now.bytes }
     requires destination_bound { destination < 4 }
-    ensures { result ≡ eqb (refusal_as sheet.now setup.now context x since kind actor t destination) 0 }
+    ensures { result ≡ eqb (refusal_as sheet.now.bytes setup.now context x since kind actor t destination) 0 }
 {
     match kind {
-        1 => share_refusal(sheet, context, x, actor, t, destination) == 0,
+        1 => share_refusal(sheet, context, x, actor, t, destination).is_ok(),
         3 => pool_accepted(sheet, setup, context, x, since, actor, t, destination),
         4 => miner_accepted(sheet, setup, context, x, since, actor, t, destination),
-        5 => mining::include_refusal(sheet, context.view, context.owed, t) == 0,
-        _ => bump_refusal(sheet, setup, context, since, t) == 0,
+        5 => mining::include_refusal(sheet, context.view, context.owed, t).is_ok(),
+        _ => bump_refusal(sheet, setup, context, since, t).is_ok(),
     }
 }
 
@@ -323,15 +328,15 @@ fn gives(context: Context, actor: u8, i: u8, destination: u8) -> bool
     let allowed = context.guards.give_allowed(actor, i);
     let receiver = context.view.keys(destination);
     let met = sharing::give_met(context.view.keys(actor), receiver, i);
-    conduct::conduct_refusal(allowed, met) == 0
+    conduct::conduct_refusal(allowed, met).is_ok()
 }
 
 // The signatures that a party can give to the other.
-pub fn give_set(sheet: &[u8], context: Context, actor: u8, destination: u8) -> u32
-    requires { Checked sheet.now }
-    ensures { result ≡ set_below (signatures sheet.now) (λ i. gives_in context actor i destination) }
+pub fn give_set(sheet: &Sheet, context: Context, actor: u8, destination: u8) -> u32
+    requires { Checked sheet.now.bytes }
+    ensures { result ≡ set_below (signatures sheet.now.bytes) (λ i. gives_in context actor i destination) }
 {
-    let n = sheet::field::wide(sheet::field::signatures(sheet));
+    let n = sheet::field::wide(sheet.signatures());
     set::below(n, |i| gives(context, actor, i as u8, destination))
 }
 
@@ -344,7 +349,7 @@ fn shares_first(setup: &[u8], context: Context, actor: u8) -> bool
         return false;
     }
     let allowed = context.guards.share_allowed(actor, NO_TRANSACTION);
-    conduct::conduct_refusal(allowed, !context.made) == 0
+    conduct::conduct_refusal(allowed, !context.made).is_ok()
 }
 
 // Whether a block may be mined: kind 6, whose transaction byte is 255.
@@ -354,16 +359,15 @@ fn mines(context: Context, actor: u8) -> bool
     if actor != 2 {
         return false;
     }
-    mining::mine_refusal(context.view, context.owed) == 0
+    mining::mine_refusal(context.view, context.owed).is_ok()
 }
 
 // The kinds and destinations with which the step with transaction byte 255 is open: bit 4 * k + d for kind k + 1 and destination d.
-pub fn last_set(sheet: &[u8], setup: &[u8], context: Context, actor: u8) -> u32
-    requires sized { Sized sheet.now }
+pub fn last_set(sheet: &Sheet, setup: &[u8], context: Context, actor: u8) -> u32
     requires setup_len { length setup.now ≡ 4 }
-    ensures { result ≡ last_in sheet.now setup.now context actor }
+    ensures { result ≡ last_in sheet.now.bytes setup.now context actor }
 {
-    if sheet::field::is_party(sheet, actor) {
+    if sheet.is_party(actor) {
         return set::join(0, shares_first(setup, context, actor), 2);
     }
     set::join(0, mines(context, actor), 22)

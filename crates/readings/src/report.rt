@@ -6,6 +6,7 @@ ghost use Rattle.slots.specs.Slot.{entry_to};
 ghost use Rattle.readings.specs.Forms.Report.{dead_in, status_in, payee_in, row_in};
 
 use crate::Row;
+use sheet::field::Sheet;
 use sheet::set;
 use slots::{Slot, ancestry, deadline, lock_height};
 use steps::View;
@@ -18,10 +19,9 @@ fn part(on: bool, value: u8) -> u8
 }
 
 // Whether t is dead, where `conflicted` has those whose other rival is confirmed.
-pub fn dead_in(sheet: &[u8], confirmed: u32, conflicted: u32, t: usize) -> bool
-    requires sized { Sized sheet.now }
-    requires t_bound { t < count sheet.now }
-    ensures { result ≡ dead_in sheet.now confirmed conflicted t }
+pub fn dead_in(sheet: &Sheet, confirmed: u32, conflicted: u32, t: usize) -> bool
+    requires t_bound { t < count sheet.now.bytes }
+    ensures { result ≡ dead_in sheet.now.bytes confirmed conflicted t }
 {
     if set::has(confirmed, t) {
         return false;
@@ -30,10 +30,9 @@ pub fn dead_in(sheet: &[u8], confirmed: u32, conflicted: u32, t: usize) -> bool
 }
 
 // The status of t.
-pub fn status_in(sheet: &[u8], view: View, conflicted: u32, t: usize) -> u8
-    requires sized { Sized sheet.now }
-    requires t_bound { t < count sheet.now }
-    ensures { result ≡ status_in sheet.now view conflicted t }
+pub fn status_in(sheet: &Sheet, view: View, conflicted: u32, t: usize) -> u8
+    requires t_bound { t < count sheet.now.bytes }
+    ensures { result ≡ status_in sheet.now.bytes view conflicted t }
 {
     let pool = part(set::has(view.pool, t), 1);
     let block = part(set::has(view.block, t), 2);
@@ -64,7 +63,7 @@ pub fn payee_of(x: Slot) -> u8
 
 // The row of t, where x is its slot and `since` its parent's block.
 pub fn row(
-    sheet: &[u8],
+    sheet: &Sheet,
     per_day: u16,
     view: View,
     conflicted: u32,
@@ -72,9 +71,8 @@ pub fn row(
     since: u16,
     t: usize,
 ) -> Row
-    requires sized { Sized sheet.now }
-    requires t_bound { t < count sheet.now }
-    ensures { result ≡ row_in sheet.now per_day view conflicted x since t }
+    requires t_bound { t < count sheet.now.bytes }
+    ensures { result ≡ row_in sheet.now.bytes per_day view conflicted x since t }
 {
     Row {
         block: lock_height::wide(x.height),

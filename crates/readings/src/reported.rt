@@ -5,6 +5,7 @@ ghost use Rattle.sheet.specs.Field.{count, Sized};
 ghost use Rattle.readings.specs.Reported.{row_width, reported_confirmed, reported_holder};
 
 use crate::holder;
+use sheet::field::Sheet;
 use sheet::set;
 use slots::signatures;
 
@@ -23,19 +24,17 @@ fn confirmed(report: &[u8], t: usize) -> bool
 }
 
 // The confirmed transactions.
-fn confirmed_set(sheet: &[u8], report: &[u8]) -> u32
-    requires sized { Sized sheet.now }
-    requires sheet_in_bounds { row_width * count sheet.now ≤ length report.now }
-    ensures { result ≡ set_below (count sheet.now) (reported_confirmed report.now) }
+fn confirmed_set(sheet: &Sheet, report: &[u8]) -> u32
+    requires sheet_in_bounds { row_width * count sheet.now.bytes ≤ length report.now }
+    ensures { result ≡ set_below (count sheet.now.bytes) (reported_confirmed report.now) }
 {
-    set::below(sheet::field::count(sheet), |t| confirmed(report, t))
+    set::below(sheet.count(), |t| confirmed(report, t))
 }
 
 // The holder of a coin, 255 for nobody.
-pub fn reported_holder(sheet: &[u8], report: &[u8], coin: usize) -> u8
-    requires sized { Sized sheet.now }
-    requires sheet_in_bounds { row_width * count sheet.now ≤ length report.now }
-    ensures { result ≡ reported_holder sheet.now report.now coin }
+pub fn reported_holder(sheet: &Sheet, report: &[u8], coin: usize) -> u8
+    requires sheet_in_bounds { row_width * count sheet.now.bytes ≤ length report.now }
+    ensures { result ≡ reported_holder sheet.now.bytes report.now coin }
 {
     let t = holder::coin_end(sheet, confirmed_set(sheet, report), coin);
     if t < 32 {

@@ -8,18 +8,19 @@ ghost use Rattle.sheet.specs.Check.{sheet_refusal};
 ghost use Rattle.sheet.specs.Setup.{setup_refusal};
 
 use sheet::check::sheet_refusal;
+use sheet::refusal::number_of;
 use sheet::setup::setup_refusal;
 
 fn sheet_gives(sheet: &[u8], number: u32)
     requires { sheet_refusal sheet.now ≡ number }
 {
-    check::expect(sheet_refusal(sheet) == number);
+    check::expect(number_of(sheet_refusal(sheet)) == number);
 }
 
 fn setup_gives(sheet: &[u8], setup: &[u8], number: u32)
     requires { setup_refusal sheet.now setup.now ≡ number }
 {
-    check::expect(setup_refusal(sheet, setup) == number);
+    check::expect(number_of(setup_refusal(sheet, setup)) == number);
 }
 
 fn sheets() {

@@ -5,12 +5,12 @@ ghost use Rattle.sheet.specs.Field.{count, Sized};
 ghost use Rattle.position.specs.Position.{in_block};
 
 use position::Position;
+use sheet::field::Sheet;
 use sheet::set;
 
 // The entries.
-pub fn entries(position: Position, sheet: &[u8]) -> u32
-    requires { Sized sheet.now }
-    ensures { result ≡ set_below (count sheet.now) (in_block position) }
+pub fn entries(position: Position, sheet: &Sheet) -> u32
+    ensures { result ≡ set_below (count sheet.now.bytes) (in_block position) }
 {
-    set::below(sheet::field::count(sheet), |t| 0 < position.slots[t].block)
+    set::below(sheet.count(), |t| 0 < position.slots[t].block)
 }

@@ -6,14 +6,15 @@ ghost use Rattle.sheet.specs.Checked.{Fit};
 ghost use Rattle.settle.specs.Forms.Thrown.{is_due};
 
 use position::Position;
+use sheet::field::Sheet;
 use sheet::set;
 use slots::lock_height;
 
 // Whether t is of the set `can` and its deadline is the next block.
-fn is_due(position: Position, sheet: &[u8], setup: &[u8], can: u32, t: usize) -> bool
-    requires fit { Fit sheet.now setup.now }
-    requires t_bound { t < count sheet.now }
-    ensures { result ≡ is_due sheet.now setup.now position can t }
+fn is_due(position: Position, sheet: &Sheet, setup: &[u8], can: u32, t: usize) -> bool
+    requires fit { Fit sheet.now.bytes setup.now }
+    requires t_bound { t < count sheet.now.bytes }
+    ensures { result ≡ is_due sheet.now.bytes setup.now position can t }
 {
     if set::has(can, t) {
         return position.deadline_in(sheet, setup, t) == lock_height::wide(position.mined) + 1;
@@ -22,12 +23,9 @@ fn is_due(position: Position, sheet: &[u8], setup: &[u8], can: u32, t: usize) ->
 }
 
 // Those that are.
-pub fn due(position: Position, sheet: &[u8], setup: &[u8], can: u32) -> u32
-    requires { Fit sheet.now setup.now }
-    ensures { result ≡ set_below (count sheet.now) (is_due sheet.now setup.now position can) }
+pub fn due(position: Position, sheet: &Sheet, setup: &[u8], can: u32) -> u32
+    requires { Fit sheet.now.bytes setup.now }
+    ensures { result ≡ set_below (count sheet.now.bytes) (is_due sheet.now.bytes setup.now position can) }
 {
-    set::below(
-        sheet::field::count(sheet),
-        |t| is_due(position, sheet, setup, can, t),
-    )
+    set::below(sheet.count(), |t| is_due(position, sheet, setup, can, t))
 }

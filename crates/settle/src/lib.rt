@@ -16,11 +16,12 @@ ghost use Rattle.slack.specs.Settled.{settles, settled};
 
 use attainable::{read, round};
 use position::Position;
+use sheet::field::Sheet;
 
 // The entries of the block that nothing can throw out.
-pub fn settling(position: Position, sheet: &[u8], setup: &[u8], party: u8) -> u32
-    requires { Fit sheet.now setup.now }
-    ensures { result ≡ set_below (count sheet.now) (settles sheet.now setup.now position party) }
+pub fn settling(position: Position, sheet: &Sheet, setup: &[u8], party: u8) -> u32
+    requires { Fit sheet.now.bytes setup.now }
+    ensures { result ≡ set_below (count sheet.now.bytes) (settles sheet.now.bytes setup.now position party) }
 {
     let entries = block::entries(position, sheet);
     if entries == 0 {
@@ -33,10 +34,10 @@ pub fn settling(position: Position, sheet: &[u8], setup: &[u8], party: u8) -> u3
 }
 
 // The position with these confirmed.
-pub fn settled(position: Position, sheet: &[u8], setup: &[u8], party: u8) -> Position
-    requires fit { Fit sheet.now setup.now }
+pub fn settled(position: Position, sheet: &Sheet, setup: &[u8], party: u8) -> Position
+    requires fit { Fit sheet.now.bytes setup.now }
     requires mined_bound { position.mined < 65535 }
-    ensures { result ≡ settled sheet.now setup.now position party }
+    ensures { result ≡ settled sheet.now.bytes setup.now position party }
 {
     let members = settling(position, sheet, setup, party);
     if members == 0 {

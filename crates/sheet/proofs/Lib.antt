@@ -5,6 +5,7 @@ pub mod Passed
 pub mod PassedEntry
 pub mod PassedSheet
 pub mod PassedSetup
+pub mod Refusing
 pub mod SaswapLength
 pub mod Offset
 pub mod SaswapFits

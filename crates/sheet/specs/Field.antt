@@ -92,3 +92,8 @@ pub record Sized (s : List ℕ) : Type 0 where
   pub few : count s ≤ 32
   pub head : 5 ≤ arrays s
   pub size : length s ≡ arrays s + 6 * count s
+
+-- a sheet's bytes, as many as its head says
+pub record Whole : Type 0 where
+  pub bytes : List ℕ
+  pub sized : Sized bytes

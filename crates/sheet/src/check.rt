@@ -5,9 +5,11 @@ ghost use Rattle.laws.specs.Failing.{first_failing};
 ghost use Rattle.sheet.specs.Field.{parties, count, arrays, signatures, start_mask, Sized};
 ghost use Rattle.sheet.specs.Forms.Parents.{Parents};
 ghost use Rattle.sheet.specs.Check.{head_right, count_right, within, masks_right, signatures_right, length_right, parent_right, entry_right, days_right, lock_right, children_right, array_tests, sheet_refusal};
-ghost use Rattle.sheet.specs.Forms.Check.{array_rule};
+ghost use Rattle.sheet.specs.Refusal.{refused};
 
-use crate::{field, parents, refusal, set};
+use crate::field::Sheet;
+use crate::refusal::{Refusal, require};
+use crate::{field, parents, set};
 
 // Two to the number of bits.
 fn limit(bits: usize) -> usize
@@ -94,57 +96,53 @@ fn length_right(sheet: &[u8]) -> bool
 }
 
 // 5: the parent is none or lower.
-fn parent_right(sheet: &[u8], t: usize) -> bool
-    requires sized { Sized sheet.now }
-    requires t_bound { t < count sheet.now }
-    ensures { result ≡ parent_right sheet.now t }
+fn parent_right(sheet: &Sheet, t: usize) -> bool
+    requires t_bound { t < count sheet.now.bytes }
+    ensures { result ≡ parent_right sheet.now.bytes t }
 {
-    if field::opening(sheet, t) {
+    if sheet.opening(t) {
         return true;
     }
-    field::parent(sheet, t) < t
+    sheet.parent(t) < t
 }
 
 // 6: payees, required signatures and veil are in range.
-fn entry_right(sheet: &[u8], t: usize) -> bool
-    requires sized { Sized sheet.now }
-    requires sheet_bound { signatures sheet.now ≤ 8 }
-    requires t_bound { t < count sheet.now }
-    ensures { result ≡ entry_right sheet.now t }
+fn entry_right(sheet: &Sheet, t: usize) -> bool
+    requires sheet_bound { signatures sheet.now.bytes ≤ 8 }
+    requires t_bound { t < count sheet.now.bytes }
+    ensures { result ≡ entry_right sheet.now.bytes t }
 {
-    if limit(field::parties(sheet)) <= field::wide(field::payees(sheet, t)) {
+    if limit(sheet.parties()) <= field::wide(sheet.payees(t)) {
         return false;
     }
-    let required = field::required(sheet, t);
+    let required = sheet.required(t);
     if required < 1 {
         return false;
     }
-    if !within(sheet, required) {
+    if !within(sheet.bytes(), required) {
         return false;
     }
-    field::veil(sheet, t) <= 1
+    sheet.veil(t) <= 1
 }
 
 // The days of a lock: 0 for type 0, else 1 to 255.
-fn days_right(sheet: &[u8], t: usize) -> bool
-    requires sized { Sized sheet.now }
-    requires t_bound { t < count sheet.now }
-    ensures { result ≡ days_right sheet.now t }
+fn days_right(sheet: &Sheet, t: usize) -> bool
+    requires t_bound { t < count sheet.now.bytes }
+    ensures { result ≡ days_right sheet.now.bytes t }
 {
-    let days = field::days(sheet, t);
-    if field::lock_type(sheet, t) == 0 {
+    let days = sheet.days(t);
+    if sheet.lock_type(t) == 0 {
         return days == 0;
     }
     1 <= days
 }
 
 // 7: the lock pair is in range, and type 2 has a parent.
-fn lock_right(sheet: &[u8], t: usize) -> bool
-    requires sized { Sized sheet.now }
-    requires t_bound { t < count sheet.now }
-    ensures { result ≡ lock_right sheet.now t }
+fn lock_right(sheet: &Sheet, t: usize) -> bool
+    requires t_bound { t < count sheet.now.bytes }
+    ensures { result ≡ lock_right sheet.now.bytes t }
 {
-    let lock = field::lock_type(sheet, t);
+    let lock = sheet.lock_type(t);
     if 2 < lock {
         return false;
     }
@@ -152,89 +150,44 @@ fn lock_right(sheet: &[u8], t: usize) -> bool
         return false;
     }
     if lock == 2 {
-        return !field::opening(sheet, t);
+        return !sheet.opening(t);
     }
     true
 }
 
 // 8: a contract transaction has a child, and a paying one has none, where `parents` are those of all transactions.
-fn children_right(sheet: &[u8], parents: u32, t: usize) -> bool
-    requires sized { Sized sheet.now }
-    requires t_bound { t < count sheet.now }
-    requires parents { Parents sheet.now (λ k. true) (count sheet.now) parents }
-    ensures { result ≡ children_right sheet.now t }
+fn children_right(sheet: &Sheet, parents: u32, t: usize) -> bool
+    requires t_bound { t < count sheet.now.bytes }
+    requires parents { Parents sheet.now.bytes (λ k. true) (count sheet.now.bytes) parents }
+    ensures { result ≡ children_right sheet.now.bytes t }
 {
-    let contract = field::payees(sheet, t) == 0;
+    let contract = sheet.payees(t) == 0;
     contract == set::has(parents, t)
 }
 
-// A rule of 5 to 8, by its number, at one transaction.
-fn array_rule(sheet: &[u8], parents: u32, rule: u32, t: usize) -> bool
-    requires sized { Sized sheet.now }
-    requires sheet_bound { signatures sheet.now ≤ 8 }
-    requires t_bound { t < count sheet.now }
-    requires parents { Parents sheet.now (λ k. true) (count sheet.now) parents }
-    ensures { result ≡ array_rule sheet.now rule t }
-{
-    if rule == refusal::SHEET_PARENT {
-        return parent_right(sheet, t);
-    }
-    if rule == refusal::SHEET_ENTRY {
-        return entry_right(sheet, t);
-    }
-    if rule == refusal::SHEET_LOCK {
-        return lock_right(sheet, t);
-    }
-    children_right(sheet, parents, t)
-}
-
-// A rule of 5 to 8 for all transactions.
-fn all_right(sheet: &[u8], parents: u32, rule: u32) -> bool
-    requires sized { Sized sheet.now }
-    requires sheet_bound { signatures sheet.now ≤ 8 }
-    requires parents { Parents sheet.now (λ k. true) (count sheet.now) parents }
-    ensures { result ≡ all_below (count sheet.now) (array_rule sheet.now rule) }
-{
-    (0..field::count(sheet)).all(|t| array_rule(sheet, parents, rule, t))
-}
-
 // The first of 5 to 8 that fails.
-fn array_refusal(sheet: &[u8]) -> u32
-    requires sized { Sized sheet.now }
-    requires sheet_bound { signatures sheet.now ≤ 8 }
-    ensures { result ≡ first_failing (array_tests sheet.now) }
+fn array_refusal(sheet: &Sheet) -> Result<(), Refusal>
+    requires sheet_bound { signatures sheet.now.bytes ≤ 8 }
+    ensures { refused result ≡ first_failing (array_tests sheet.now.bytes) }
 {
+    let n = sheet.count();
     let parents = parents::all_parents(sheet);
-    if !all_right(sheet, parents, refusal::SHEET_PARENT) {
-        return refusal::SHEET_PARENT;
-    }
-    if !all_right(sheet, parents, refusal::SHEET_ENTRY) {
-        return refusal::SHEET_ENTRY;
-    }
-    if !all_right(sheet, parents, refusal::SHEET_LOCK) {
-        return refusal::SHEET_LOCK;
-    }
-    if !all_right(sheet, parents, refusal::SHEET_CHILDREN) {
-        return refusal::SHEET_CHILDREN;
-    }
-    refusal::ACCEPTED
+    require((0..n).all(|t| parent_right(sheet, t)), Refusal::SheetParent)?;
+    require((0..n).all(|t| entry_right(sheet, t)), Refusal::SheetEntry)?;
+    require((0..n).all(|t| lock_right(sheet, t)), Refusal::SheetLock)?;
+    require(
+        (0..n).all(|t| children_right(sheet, parents, t)),
+        Refusal::SheetChildren,
+    )
 }
 
-// The first of the checks 1 to 8 that fails, 0 where none does.
-pub fn sheet_refusal(sheet: &[u8]) -> u32
-    ensures { result ≡ sheet_refusal sheet.now }
+// The first of the checks 1 to 8 that fails.
+pub fn sheet_refusal(sheet: &[u8]) -> Result<(), Refusal>
+    ensures { refused result ≡ sheet_refusal sheet.now }
 {
-    if !head_right(sheet) {
-        return refusal::SHEET_SHORT;
-    }
-    if !count_right(sheet) {
-        return refusal::SHEET_COUNT;
-    }
-    if !signatures_right(sheet) {
-        return refusal::SHEET_SIGNATURES;
-    }
-    if !length_right(sheet) {
-        return refusal::SHEET_LENGTH;
-    }
-    array_refusal(sheet)
+    require(head_right(sheet), Refusal::SheetShort)?;
+    require(count_right(sheet), Refusal::SheetCount)?;
+    require(signatures_right(sheet), Refusal::SheetSignatures)?;
+    require(length_right(sheet), Refusal::SheetLength)?;
+    array_refusal(&Sheet::of(sheet))
 }

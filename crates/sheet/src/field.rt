@@ -1,7 +1,9 @@
 // The fields of a sheet.
 ghost use Rattle.std.specs.Prelude.{◌<◌, ◌≤◌, ◌+◌, ◌*◌, ◌≡◌, length};
-ghost use Rattle.sheet.specs.Field.{byte, parties, count, arrays, is_party, place, party_at, signatures, secrets, start_mask, start_keys, entry, lock_pair, parent, payees, required, veil, lock_type, days, opening, Sized};
+ghost use Rattle.sheet.specs.Field.{byte, parties, count, arrays, is_party, place, party_at, signatures, secrets, start_mask, start_keys, entry, lock_pair, parent, payees, required, veil, lock_type, days, opening, Sized, Whole};
 ghost use Rattle.sheet.specs.Forms.Field.{Wide, Few, Start};
+
+use std::marker::Model;
 
 // A byte as a size.
 pub fn wide(x: u8) -> usize
@@ -117,88 +119,144 @@ pub fn start_keys(sheet: &[u8], party: u8) -> u8
     0
 }
 
-// Byte k of a transaction's four in the first array.
-fn entry(sheet: &[u8], t: usize, k: usize) -> u8
-    requires sized { Sized sheet.now }
-    requires t_bound { t < count sheet.now }
-    requires k_bound { k < 4 }
-    ensures { result ≡ entry sheet.now t k }
-{
-    let start = arrays(sheet);
-    sheet[start + 4 * t + k]
+// A sheet as long as its head says: its bytes, where every field of every transaction is.
+#[derive(Drop)]
+pub struct Sheet<'a> {
+    bytes: &'a [u8],
+    ghost sized: { Sized bytes.now },
 }
 
-// Byte k of a transaction's two in the second array.
-fn lock_pair(sheet: &[u8], t: usize, k: usize) -> u8
-    requires sized { Sized sheet.now }
-    requires t_bound { t < count sheet.now }
-    requires k_bound { k < 2 }
-    ensures { result ≡ lock_pair sheet.now t k }
-{
-    let start = arrays(sheet);
-    let n = count(sheet);
-    sheet[start + 4 * n + 2 * t + k]
+impl<'a> Model for Sheet<'a> {
+    ghost Value = { Whole };
+
+    ghost view = { λ s. record { bytes = s.bytes.now; sized = s.sized } };
 }
 
-// The parent: a lower number, or 255 for a coin's opening.
-pub fn parent(sheet: &[u8], t: usize) -> usize
-    requires sized { Sized sheet.now }
-    requires t_bound { t < count sheet.now }
-    ensures { Wide (parent sheet.now t) result }
-{
-    wide(entry(sheet, t, 0))
-}
+impl<'a> Sheet<'a> {
+    // The sheet of these bytes.
+    pub fn of(bytes: &'a [u8]) -> Sheet<'a>
+        requires { Sized bytes.now }
+        ensures { result.bytes ≡ bytes.now }
+    {
+        Sheet { bytes }
+    }
 
-// The payees: a bit for each party, in its place; 0 for a contract transaction.
-pub fn payees(sheet: &[u8], t: usize) -> u8
-    requires sized { Sized sheet.now }
-    requires t_bound { t < count sheet.now }
-    ensures { result ≡ payees sheet.now t }
-{
-    entry(sheet, t, 1)
-}
+    // The bytes of the sheet.
+    pub fn bytes(&self) -> &'a [u8]
+        ensures { result.now ≡ self.now.bytes }
+    {
+        self.bytes
+    }
 
-// The mask of required signatures.
-pub fn required(sheet: &[u8], t: usize) -> u8
-    requires sized { Sized sheet.now }
-    requires t_bound { t < count sheet.now }
-    ensures { result ≡ required sheet.now t }
-{
-    entry(sheet, t, 2)
-}
+    // The number of transactions.
+    pub fn count(&self) -> usize
+        ensures { Wide (count self.now.bytes) result }
+    {
+        count(self.bytes)
+    }
 
-// 1 where sending exposes no signature.
-pub fn veil(sheet: &[u8], t: usize) -> u8
-    requires sized { Sized sheet.now }
-    requires t_bound { t < count sheet.now }
-    ensures { result ≡ veil sheet.now t }
-{
-    entry(sheet, t, 3)
-}
+    // The number of parties.
+    pub fn parties(&self) -> usize
+        ensures { Few (parties self.now.bytes) result }
+    {
+        parties(self.bytes)
+    }
 
-// The lock type: 0 none, 1 absolute, 2 since the parent.
-pub fn lock_type(sheet: &[u8], t: usize) -> u8
-    requires sized { Sized sheet.now }
-    requires t_bound { t < count sheet.now }
-    ensures { result ≡ lock_type sheet.now t }
-{
-    lock_pair(sheet, t, 0)
-}
+    // Whether a number is a party's: not the miner's, and in a place of the sheet.
+    pub fn is_party(&self, party: u8) -> bool
+        ensures { result ≡ is_party self.now.bytes party }
+    {
+        is_party(self.bytes, party)
+    }
 
-// The lock's days.
-pub fn days(sheet: &[u8], t: usize) -> u8
-    requires sized { Sized sheet.now }
-    requires t_bound { t < count sheet.now }
-    ensures { result ≡ days sheet.now t }
-{
-    lock_pair(sheet, t, 1)
-}
+    // The number of signatures.
+    pub fn signatures(&self) -> u8
+        ensures { result ≡ signatures self.now.bytes }
+    {
+        signatures(self.bytes)
+    }
 
-// Whether a transaction is a coin's opening.
-pub fn opening(sheet: &[u8], t: usize) -> bool
-    requires sized { Sized sheet.now }
-    requires t_bound { t < count sheet.now }
-    ensures { result ≡ opening sheet.now t }
-{
-    entry(sheet, t, 0) == 255
+    // The mask of the signatures that are secrets.
+    pub fn secrets(&self) -> u8
+        ensures { result ≡ secrets self.now.bytes }
+    {
+        secrets(self.bytes)
+    }
+
+    // Byte k of a transaction's four in the first array.
+    fn entry(&self, t: usize, k: usize) -> u8
+        requires t_bound { t < count self.now.bytes }
+        requires k_bound { k < 4 }
+        ensures { result ≡ entry self.now.bytes t k }
+    {
+        let start = arrays(self.bytes);
+        self.bytes[start + 4 * t + k]
+    }
+
+    // Byte k of a transaction's two in the second array.
+    fn lock_pair(&self, t: usize, k: usize) -> u8
+        requires t_bound { t < count self.now.bytes }
+        requires k_bound { k < 2 }
+        ensures { result ≡ lock_pair self.now.bytes t k }
+    {
+        let start = arrays(self.bytes);
+        let n = self.count();
+        self.bytes[start + 4 * n + 2 * t + k]
+    }
+
+    // The parent: a lower number, or 255 for a coin's opening.
+    pub fn parent(&self, t: usize) -> usize
+        requires t_bound { t < count self.now.bytes }
+        ensures { Wide (parent self.now.bytes t) result }
+    {
+        wide(self.entry(t, 0))
+    }
+
+    // The payees: a bit for each party, in its place; 0 for a contract transaction.
+    pub fn payees(&self, t: usize) -> u8
+        requires t_bound { t < count self.now.bytes }
+        ensures { result ≡ payees self.now.bytes t }
+    {
+        self.entry(t, 1)
+    }
+
+    // The mask of required signatures.
+    pub fn required(&self, t: usize) -> u8
+        requires t_bound { t < count self.now.bytes }
+        ensures { result ≡ required self.now.bytes t }
+    {
+        self.entry(t, 2)
+    }
+
+    // 1 where sending exposes no signature.
+    pub fn veil(&self, t: usize) -> u8
+        requires t_bound { t < count self.now.bytes }
+        ensures { result ≡ veil self.now.bytes t }
+    {
+        self.entry(t, 3)
+    }
+
+    // The lock type: 0 none, 1 absolute, 2 since the parent.
+    pub fn lock_type(&self, t: usize) -> u8
+        requires t_bound { t < count self.now.bytes }
+        ensures { result ≡ lock_type self.now.bytes t }
+    {
+        self.lock_pair(t, 0)
+    }
+
+    // The lock's days.
+    pub fn days(&self, t: usize) -> u8
+        requires t_bound { t < count self.now.bytes }
+        ensures { result ≡ days self.now.bytes t }
+    {
+        self.lock_pair(t, 1)
+    }
+
+    // Whether a transaction is a coin's opening.
+    pub fn opening(&self, t: usize) -> bool
+        requires t_bound { t < count self.now.bytes }
+        ensures { result ≡ opening self.now.bytes t }
+    {
+        self.entry(t, 0) == 255
+    }
 }

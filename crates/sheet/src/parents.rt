@@ -4,21 +4,21 @@ ghost use Rattle.laws.specs.Mask.{bit};
 ghost use Rattle.sheet.specs.Field.{count, Sized};
 ghost use Rattle.sheet.specs.Forms.Parents.{Parents, ParentAdded};
 
+use crate::field::Sheet;
 use crate::{field, set};
 
 // All 32 transactions.
 const ALL: u32 = 4294967295;
 
 // The set `parents`, with k's parent too where k is in the set `members`.
-fn with_parent(sheet: &[u8], members: u32, parents: u32, k: usize) -> u32
-    requires sized { Sized sheet.now }
-    requires k_bound { k < count sheet.now }
-    ensures { ParentAdded sheet.now (bit members) k parents result }
+fn with_parent(sheet: &Sheet, members: u32, parents: u32, k: usize) -> u32
+    requires k_bound { k < count sheet.now.bytes }
+    ensures { ParentAdded sheet.now.bytes (bit members) k parents result }
 {
     if !set::has(members, k) {
         return parents;
     }
-    let up = field::parent(sheet, k);
+    let up = sheet.parent(k);
     if 32 <= up {
         return parents;
     }
@@ -26,21 +26,19 @@ fn with_parent(sheet: &[u8], members: u32, parents: u32, k: usize) -> u32
 }
 
 // The parents of the set's members.
-pub fn parents_of(sheet: &[u8], members: u32) -> u32
-    requires { Sized sheet.now }
-    ensures { Parents sheet.now (bit members) (count sheet.now) result }
+pub fn parents_of(sheet: &Sheet, members: u32) -> u32
+    ensures { Parents sheet.now.bytes (bit members) (count sheet.now.bytes) result }
 {
     let mut parents: u32 = 0;
-    for k in 0..field::count(sheet) {
+    for k in 0..sheet.count() {
         parents = with_parent(sheet, members, parents, k);
     }
     parents
 }
 
 // The parents of all transactions.
-pub fn all_parents(sheet: &[u8]) -> u32
-    requires { Sized sheet.now }
-    ensures { Parents sheet.now (λ k. true) (count sheet.now) result }
+pub fn all_parents(sheet: &Sheet) -> u32
+    ensures { Parents sheet.now.bytes (λ k. true) (count sheet.now.bytes) result }
 {
     parents_of(sheet, ALL)
 }

@@ -1,9 +1,11 @@
 // The setup: its fields, and the checks 9, 32 and 10.
 ghost use Rattle.std.specs.Prelude.{◌<◌, ◌≡◌, length, eqb};
 ghost use Rattle.sheet.specs.Field.{parties};
+ghost use Rattle.sheet.specs.Refusal.{refused};
 ghost use Rattle.sheet.specs.Setup.{per_day, conduct, stealth, blocks_right, parties_right, conduct_right, setup_refusal};
 
-use crate::{field, little, refusal, saswap};
+use crate::refusal::{Refusal, require};
+use crate::{field, little, saswap};
 
 // The blocks per day.
 pub fn per_day(setup: &[u8]) -> u16
@@ -83,18 +85,11 @@ fn conduct_right(sheet: &[u8], setup: &[u8]) -> bool
     saswap::is_saswap(sheet, per_day(setup))
 }
 
-// The first of the checks 9, 32 and 10 that fails, 0 where none does.
-pub fn setup_refusal(sheet: &[u8], setup: &[u8]) -> u32
-    ensures { result ≡ setup_refusal sheet.now setup.now }
+// The first of the checks 9, 32 and 10 that fails.
+pub fn setup_refusal(sheet: &[u8], setup: &[u8]) -> Result<(), Refusal>
+    ensures { refused result ≡ setup_refusal sheet.now setup.now }
 {
-    if !blocks_right(setup) {
-        return refusal::SETUP_BLOCKS;
-    }
-    if !parties_right(sheet, setup) {
-        return refusal::SETUP_PARTIES;
-    }
-    if !conduct_right(sheet, setup) {
-        return refusal::SETUP_CONDUCT;
-    }
-    refusal::ACCEPTED
+    require(blocks_right(setup), Refusal::SetupBlocks)?;
+    require(parties_right(sheet, setup), Refusal::SetupParties)?;
+    require(conduct_right(sheet, setup), Refusal::SetupConduct)
 }

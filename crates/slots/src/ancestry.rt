@@ -5,13 +5,13 @@ ghost use Rattle.sheet.specs.Field.{count, Sized};
 ghost use Rattle.slots.specs.Ancestry.{in_ancestry};
 ghost use Rattle.slots.specs.Forms.Line.{line_set};
 
+use sheet::field::Sheet;
 use sheet::set;
 
 // Whether a transaction of t's line is in the set.
-pub fn in_ancestry(sheet: &[u8], members: u32, t: usize) -> bool
-    requires sized { Sized sheet.now }
-    requires t_bound { t < count sheet.now }
-    ensures { result ≡ in_ancestry sheet.now (bit members) t }
+pub fn in_ancestry(sheet: &Sheet, members: u32, t: usize) -> bool
+    requires t_bound { t < count sheet.now.bytes }
+    ensures { result ≡ in_ancestry sheet.now.bytes (bit members) t }
 {
     if members == 0 {
         return false;
@@ -19,7 +19,7 @@ pub fn in_ancestry(sheet: &[u8], members: u32, t: usize) -> bool
     if set::has(members, t) {
         return true;
     }
-    let up = sheet::field::parent(sheet, t);
+    let up = sheet.parent(t);
     if up < t {
         in_ancestry(sheet, members, up)
     } else {
@@ -28,12 +28,11 @@ pub fn in_ancestry(sheet: &[u8], members: u32, t: usize) -> bool
 }
 
 // The line of t: itself and the line of its parent.
-pub fn line_of(sheet: &[u8], t: usize) -> u32
-    requires sized { Sized sheet.now }
-    requires t_bound { t < count sheet.now }
-    ensures { result ≡ line_set sheet.now t }
+pub fn line_of(sheet: &Sheet, t: usize) -> u32
+    requires t_bound { t < count sheet.now.bytes }
+    ensures { result ≡ line_set sheet.now.bytes t }
 {
-    let above = sheet::field::parent(sheet, t);
+    let above = sheet.parent(t);
     if above < t {
         return set::join(line_of(sheet, above), true, t);
     }

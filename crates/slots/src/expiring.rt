@@ -7,32 +7,28 @@ ghost use Rattle.slots.specs.Forms.Height.{Height};
 ghost use Rattle.slots.specs.Forms.Expiring.{has_lock, expiring_set, deadline_by};
 
 use crate::{conflict, deadline, lock_height};
+use sheet::field::Sheet;
 use sheet::set;
 
 // The transactions that have a lock.
-fn locked(sheet: &[u8]) -> u32
-    requires { Sized sheet.now }
-    ensures { result ≡ set_below (count sheet.now) (has_lock sheet.now) }
+fn locked(sheet: &Sheet) -> u32
+    ensures { result ≡ set_below (count sheet.now.bytes) (has_lock sheet.now.bytes) }
 {
-    set::below(
-        sheet::field::count(sheet),
-        |k| sheet::field::lock_type(sheet, k) != 0,
-    )
+    set::below(sheet.count(), |k| sheet.lock_type(k) != 0)
 }
 
 // The transactions that can have a deadline: those of which some other rival has a lock.
-pub fn expiring(sheet: &[u8]) -> u32
-    requires { Checked sheet.now }
-    ensures { result ≡ expiring_set sheet.now }
+pub fn expiring(sheet: &Sheet) -> u32
+    requires { Checked sheet.now.bytes }
+    ensures { result ≡ expiring_set sheet.now.bytes }
 {
     conflict::conflicts_of(sheet, locked(sheet), true)
 }
 
 // The deadline of t, where `since` is its parent's block and `expiring` are those that can have one.
-pub fn deadline_by(sheet: &[u8], per_day: u16, expiring: u32, since: u16, t: usize) -> u32
-    requires sized { Sized sheet.now }
-    requires t_bound { t < count sheet.now }
-    ensures { Height (deadline_by sheet.now per_day expiring since t) result }
+pub fn deadline_by(sheet: &Sheet, per_day: u16, expiring: u32, since: u16, t: usize) -> u32
+    requires t_bound { t < count sheet.now.bytes }
+    ensures { Height (deadline_by sheet.now.bytes per_day expiring since t) result }
 {
     if !set::has(expiring, t) {
         return lock_height::NEVER;

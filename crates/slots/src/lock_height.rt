@@ -4,6 +4,8 @@ ghost use Rattle.sheet.specs.Field.{count, Sized};
 ghost use Rattle.sheet.specs.LockHeight.{lock_blocks, since_parent, lock_height};
 ghost use Rattle.slots.specs.Forms.Height.{Blocks, Height};
 
+use sheet::field::Sheet;
+
 // "Never": above every height that is reached.
 pub const NEVER: u32 = 2147483647;
 
@@ -15,12 +17,11 @@ pub fn wide(x: u16) -> u32
 }
 
 // The blocks of a transaction's lock: days times blocks per day.
-pub fn lock_blocks(sheet: &[u8], per_day: u16, t: usize) -> u32
-    requires sized { Sized sheet.now }
-    requires t_bound { t < count sheet.now }
-    ensures { Blocks (lock_blocks sheet.now per_day t) result }
+pub fn lock_blocks(sheet: &Sheet, per_day: u16, t: usize) -> u32
+    requires t_bound { t < count sheet.now.bytes }
+    ensures { Blocks (lock_blocks sheet.now.bytes per_day t) result }
 {
-    let days = sheet::field::days(sheet, t);
+    let days = sheet.days(t);
     (days as u32) * wide(per_day)
 }
 
@@ -36,12 +37,11 @@ fn since_parent(block: u16, blocks: u32) -> u32
 }
 
 // The lock height of t, where `since` is its parent's block.
-pub fn lock_height(sheet: &[u8], per_day: u16, since: u16, t: usize) -> u32
-    requires sized { Sized sheet.now }
-    requires t_bound { t < count sheet.now }
-    ensures { Height (lock_height sheet.now per_day (λ k. since) t) result }
+pub fn lock_height(sheet: &Sheet, per_day: u16, since: u16, t: usize) -> u32
+    requires t_bound { t < count sheet.now.bytes }
+    ensures { Height (lock_height sheet.now.bytes per_day (λ k. since) t) result }
 {
-    let lock = sheet::field::lock_type(sheet, t);
+    let lock = sheet.lock_type(t);
     if lock == 0 {
         return 0;
     }

@@ -5,6 +5,8 @@ ghost use Rattle.sheet.specs.Field.{count, Sized};
 ghost use Rattle.sheet.specs.Checked.{Checked};
 ghost use Rattle.slots.specs.Signatures.{sender_mask, signed, share_mask, exposed_mask};
 
+use sheet::field::Sheet;
+
 // Whether a mask has signature i.
 pub fn has(mask: u8, i: u8) -> bool
     requires { i < 8 }
@@ -41,12 +43,12 @@ fn all_at_hand(need: u8, have: u8) -> bool
 }
 
 // Whether what a sender has is enough for t.
-pub fn signed(sheet: &[u8], have: u8, t: usize) -> bool
-    requires checked { Checked sheet.now }
-    requires t_bound { t < count sheet.now }
-    ensures { result ≡ signed sheet.now have t }
+pub fn signed(sheet: &Sheet, have: u8, t: usize) -> bool
+    requires checked { Checked sheet.now.bytes }
+    requires t_bound { t < count sheet.now.bytes }
+    ensures { result ≡ signed sheet.now.bytes have t }
 {
-    all_at_hand(sheet::field::required(sheet, t), have)
+    all_at_hand(sheet.required(t), have)
 }
 
 // Keys held, shared secrets, and what is shared for the same transaction and destination.
@@ -57,22 +59,20 @@ pub fn sender_mask(held: u8, secrets: u8, shared: u8) -> u8
 }
 
 // The held, required, non-secret signatures on t.
-pub fn share_mask(sheet: &[u8], held: u8, t: usize) -> u8
-    requires sized { Sized sheet.now }
-    requires t_bound { t < count sheet.now }
-    ensures { result ≡ share_mask sheet.now held t }
+pub fn share_mask(sheet: &Sheet, held: u8, t: usize) -> u8
+    requires t_bound { t < count sheet.now.bytes }
+    ensures { result ≡ share_mask sheet.now.bytes held t }
 {
-    (held & sheet::field::required(sheet, t)) & !sheet::field::secrets(sheet)
+    (held & sheet.required(t)) & !sheet.secrets()
 }
 
 // What sending t exposes: its required signatures, none if it is veiled.
-pub fn exposed_mask(sheet: &[u8], t: usize) -> u8
-    requires sized { Sized sheet.now }
-    requires t_bound { t < count sheet.now }
-    ensures { result ≡ exposed_mask sheet.now t }
+pub fn exposed_mask(sheet: &Sheet, t: usize) -> u8
+    requires t_bound { t < count sheet.now.bytes }
+    ensures { result ≡ exposed_mask sheet.now.bytes t }
 {
-    if sheet::field::veil(sheet, t) == 1 {
+    if sheet.veil(t) == 1 {
         return 0;
     }
-    sheet::field::required(sheet, t)
+    sheet.required(t)
 }

@@ -8,6 +8,7 @@ ghost use Rattle.soonest.specs.Forms.Table.{Filled};
 
 use crate::{lock, table};
 use position::Position;
+use sheet::field::Sheet;
 
 // The greater of two numbers.
 fn greater(a: u32, b: u32) -> u32
@@ -20,11 +21,10 @@ fn greater(a: u32, b: u32) -> u32
 }
 
 // The soonest block of t, whose own block is `block`, where e is its parent's soonest one, 0 for an opening.
-fn soonest_over(sheet: &[u8], per_day: u16, block: u16, mined: u16, t: usize, e: u32) -> u32
-    requires sized { Sized sheet.now }
-    requires t_bound { t < count sheet.now }
+fn soonest_over(sheet: &Sheet, per_day: u16, block: u16, mined: u16, t: usize, e: u32) -> u32
+    requires t_bound { t < count sheet.now.bytes }
     requires below { Below t e }
-    ensures { Soon (soonest_over sheet.now per_day block mined t e) t result }
+    ensures { Soon (soonest_over sheet.now.bytes per_day block mined t e) t result }
 {
     if 0 < block {
         return block as u32;
@@ -35,11 +35,10 @@ fn soonest_over(sheet: &[u8], per_day: u16, block: u16, mined: u16, t: usize, e:
 }
 
 // The soonest blocks of all transactions, in a table.
-pub fn soonest_blocks(position: Position, sheet: &[u8], per_day: u16) -> [u32; 32]
-    requires { Sized sheet.now }
-    ensures { Filled (λ k x. Soon (soonest_block sheet.now per_day (block_of position) position.mined k) k x) (count sheet.now) result }
+pub fn soonest_blocks(position: Position, sheet: &Sheet, per_day: u16) -> [u32; 32]
+    ensures { Filled (λ k x. Soon (soonest_block sheet.now.bytes per_day (block_of position) position.mined k) k x) (count sheet.now.bytes) result }
 {
-    let n = sheet::field::count(sheet);
+    let n = sheet.count();
     let mut soonest = [0u32; 32];
     for t in 0..n {
         let x = position.slots[t];

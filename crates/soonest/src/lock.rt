@@ -5,6 +5,7 @@ ghost use Rattle.sheet.specs.LockHeight.{since_parent};
 ghost use Rattle.soonest.specs.Soonest.{lock_at};
 ghost use Rattle.soonest.specs.Forms.Bounds.{Lock};
 
+use sheet::field::Sheet;
 use slots::lock_height;
 
 // The parent's block plus the product, or never where the parent has no block.
@@ -20,13 +21,12 @@ fn since_parent(block: u32, blocks: u32) -> u32
 }
 
 // The lock height of t with its parent in block e.
-pub fn lock_at(sheet: &[u8], per_day: u16, e: u32, t: usize) -> u32
-    requires sized { Sized sheet.now }
-    requires t_bound { t < count sheet.now }
+pub fn lock_at(sheet: &Sheet, per_day: u16, e: u32, t: usize) -> u32
+    requires t_bound { t < count sheet.now.bytes }
     requires e_bound { e < 3000000000 }
-    ensures { Lock (lock_at sheet.now per_day e t) e result }
+    ensures { Lock (lock_at sheet.now.bytes per_day e t) e result }
 {
-    let lock = sheet::field::lock_type(sheet, t);
+    let lock = sheet.lock_type(t);
     if lock == 0 {
         return 0;
     }

@@ -7,7 +7,7 @@ use Rattle.laws.proofs.Prelude.{eqb-false, ltb-true, ne_eqb, lt-ltb, le-ltb, ari
 use Rattle.laws.proofs.Prelude.{passed, gather, sum_below, sum_bound, sum_both, sum_same, sum_swap, length_gathered}
 use Rattle.position.proofs.Rules.{accepted, parties, party_at, count, signatures, per_day, conduct, Checked, SetupChecked, Destination, Alice, Bob, Contract, Carol, Step}
 use Rattle.position.proofs.Rules.{Share, Give, SendToPool, HandToMiner, Include, Mine, Bump, miner, contract, destinations, destination_number, is_party, is_payee}
-use Rattle.position.proofs.Rules.{is_contract, Read, slot_count, in_pool, sent, holds, no_transaction, sends_to, shares_to, is_other, first_share_fields, fields_right}
+use Rattle.position.proofs.Rules.{is_contract, Some, slot_count, in_pool, sent, holds, no_transaction, sends_to, shares_to, is_other, first_share_fields, fields_right}
 use Rattle.position.specs.declared.Position.{Position}
 use Rattle.position.proofs.Rules.{of_kind, spelled, range_checked, decode, waiting, owed, give_met, give_tests, send_tests, pool_tests, include_tests, bump_tests, conduct_allows}
 use Rattle.position.proofs.Rules.{step_refusal, actor_at, actors, kinds, if_accepted, open_at, open_of, actor_steps, open_steps}
@@ -42,7 +42,7 @@ seven f = omega arith
 module _ (s u : List ℕ) (p : Position) where
   -- 1 for a step that is open, else 0
   unfoldable one : Step → ℕ
-  one x = length (if_accepted s u p (range_checked s u (Read x)))
+  one x = length (if_accepted s u p (range_checked s u (Some x)))
 
   one_if : (x : Step) (b : Bool) → (fields_right s u x ≡ true → step_refusal s u p x ≡ accepted → b ≡ true) → one x ≤ pick b 1 0
   unfolding one range_checked if_accepted
@@ -58,7 +58,7 @@ module _ (s u : List ℕ) (p : Position) where
   abbrev at : ℕ → ℕ → ℕ → ℕ
   at a k t = length (open_at s u p a k t)
 
-  module _ (a k t : ℕ) (step : Destination → Step) (reads : (to : Destination) → of_kind k a t to ≡ Read (step to)) where
+  module _ (a k t : ℕ) (step : Destination → Step) (reads : (to : Destination) → of_kind k a t to ≡ Some (step to)) where
     counted : at a k t ≡ sum_below destinations (λ d. one (step (toward d)))
     unfolding open_at gather decode spelled one sum_below toward
     counted = rw (reads Alice, reads Bob, reads Contract, reads Carol, length-append, length-append, length-append) (omega arith)
@@ -125,7 +125,7 @@ module _ (s u : List ℕ) (p : Position) where
       (rw w.0 v.0, rw (and_parts (is_party s d) _ v.1).0 z.1))
 
   -- 3 to 7: to one destination
-  one_at : (a k t : ℕ) (step : Destination → Step) → ((to : Destination) → of_kind k a t to ≡ Read (step to))
+  one_at : (a k t : ℕ) (step : Destination → Step) → ((to : Destination) → of_kind k a t to ≡ Some (step to))
       → (who y x : Bool) (right : ℕ → Bool) (only : ℕ)
       → ((to : Destination) → fields_right s u (step to) ≡ (who && (y && right (destination_number to))))
       → ((d : ℕ) → right d ≡ true → eqb d only ≡ true)

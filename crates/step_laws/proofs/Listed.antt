@@ -2,7 +2,7 @@
 -- Assumes nothing.
 use Rattle.laws.proofs.Prelude.{ℕ, ◌+◌, ◌-◌, ◌≤◌, ◌<◌, ◌≡◌, refl, sym, ap, true, List, ◌⊎◌, eqb, eqb-true, eq-eqb, lt-ltb, le-ltb, arith, List-as-Memᴰ, List·Memᴰ·head}
 use Rattle.laws.proofs.Prelude.{List·Memᴰ·not-nil, split, either, gather}
-use Rattle.position.proofs.Rules.{accepted, parties, place, count, signatures, Step, miner, destinations, Decoded, Read, Refused, slot_count, no_transaction}
+use Rattle.position.proofs.Rules.{accepted, parties, place, count, signatures, Step, miner, destinations, Option, Some, None, slot_count, no_transaction}
 use Rattle.position.specs.declared.Position.{Position}
 use Rattle.position.proofs.Rules.{decode, step_refusal, actor_at, actors, kinds, if_accepted, open_at, open_of, actor_steps, open_steps}
 use mathlib.Core.List.Memᴰ
@@ -14,22 +14,22 @@ use Rattle.position.proofs.Decoding.{decodes, ranges}
 module _ (s u : List ℕ) (p : Position) where
   -- x is open, and its bytes are these
   pub record IsOpen (k a t d : ℕ) (x : Step) : Type 0 where
-    pub reads : decode s u k a t d ≡ Read x
+    pub reads : decode s u k a t d ≡ Some x
     pub passes : step_refusal s u p x ≡ accepted
 
-  open_alone : (x : Step) → step_refusal s u p x ≡ accepted → List-as-Memᴰ x (if_accepted s u p (Read x))
+  open_alone : (x : Step) → step_refusal s u p x ≡ accepted → List-as-Memᴰ x (if_accepted s u p (Some x))
   unfolding if_accepted
   open_alone x h = rw (eq-eqb (step_refusal s u p x) accepted h) (List·Memᴰ·head refl)
 
-  alone_open : (y : Decoded) (x : Step) → List-as-Memᴰ x (if_accepted s u p y) → (y ≡ Read x) × (step_refusal s u p x ≡ accepted)
+  alone_open : (y : Option Step) (x : Step) → List-as-Memᴰ x (if_accepted s u p y) → (y ≡ Some x) × (step_refusal s u p x ≡ accepted)
   unfolding if_accepted
-  alone_open (Read y) x m =
+  alone_open (Some y) x m =
       split (eqb (step_refusal s u p y) accepted)
       (λ e.
       let q : x ≡ y = Memᴰ.eq_of_singleton (rw e at m) in
-      (ap Read (sym q), rw q (eqb-true (step_refusal s u p y) accepted e)))
+      (ap Some (sym q), rw q (eqb-true (step_refusal s u p y) accepted e)))
       (λ e. absurd (List·Memᴰ·not-nil (rw e at m)))
-  alone_open Refused x m = absurd (List·Memᴰ·not-nil m)
+  alone_open None x m = absurd (List·Memᴰ·not-nil m)
 
   -- ---- what is open stands in the list
   at_destination : (k a t d : ℕ) (x : Step) → IsOpen k a t d x → d < destinations → List-as-Memᴰ x (open_at s u p a k t)

@@ -1,7 +1,7 @@
 -- The list's bytes, read as steps, are the bytes of the open steps.
 -- Assumes nothing.
 use Rattle.laws.proofs.Prelude.{ℕ, ◌≡◌, refl, ap, ◌∙◌, List, [], ◌∷◌, ◌++◌, eqb, eqb-true, eq-eqb, arith, map, flat_map, List-as-Memᴰ, split}
-use Rattle.position.proofs.Rules.{accepted, Checked, Step, Share, Give, SendToPool, HandToMiner, Include, Mine, Bump, Decoded, Read, Refused, step_bytes}
+use Rattle.position.proofs.Rules.{accepted, Checked, Step, Share, Give, SendToPool, HandToMiner, Include, Mine, Bump, Option, Some, None, step_bytes}
 use Rattle.position.specs.declared.Position.{Position}
 use Rattle.position.proofs.Rules.{step_refusal, FourBytes, journal_steps, decode_bytes, take_step, take_decoded, step, open_steps, list_bytes, listed_before}
 use mathlib.Core.List.Memᴰ
@@ -40,12 +40,12 @@ accepted_take : (s u : List ℕ) (p : Position) (x : Step) → step_refusal s u 
 unfolding take_step
 accepted_take s u p x h = rw (eq-eqb (step_refusal s u p x) accepted h, take_step)
 
-decoded_accepted : (s u : List ℕ) (p : Position) (y : Decoded) → (take_decoded s u p y).refusal ≡ accepted → (x : Step) × (y ≡ Read x) × (step_refusal s u p x ≡ accepted)
+decoded_accepted : (s u : List ℕ) (p : Position) (y : Option Step) → (take_decoded s u p y).refusal ≡ accepted → (x : Step) × (y ≡ Some x) × (step_refusal s u p x ≡ accepted)
 unfolding take_decoded
-decoded_accepted s u p (Read x) h = (x, refl, take_accepted s u p x h)
-decoded_accepted s u p Refused h = absurd (omega (arith, h))
+decoded_accepted s u p (Some x) h = (x, refl, take_accepted s u p x h)
+decoded_accepted s u p None h = absurd (omega (arith, h))
 
-bytes_of : (s u : List ℕ) (b : FourBytes) (x : Step) → decode_bytes s u b ≡ Read x → b ≡ four_of x
+bytes_of : (s u : List ℕ) (b : FourBytes) (x : Step) → decode_bytes s u b ≡ Some x → b ≡ four_of x
 unfolding decode_bytes four_of
 bytes_of s u b x e = rw (decodes s u b.kind b.party b.transaction b.destination x e).bytes
 

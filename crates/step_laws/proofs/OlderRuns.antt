@@ -1,7 +1,7 @@
 -- Slip 3 over a journal: by the older order as many steps were accepted, to the same position, and the refused one got the same number or 16 for 17.
 -- Assumes nothing.
 use Rattle.laws.proofs.Prelude.{ℕ, ◌+◌, ◌≡◌, refl, ap, true, false, List, [], ◌∷◌, ◌⊎◌, inl, inr, eqb, split, either, first_failing}
-use Rattle.position.proofs.Rules.{accepted, step_signatures, step_lock, Step, Decoded, Read, Refused, start, effect, FourBytes, journal_steps}
+use Rattle.position.proofs.Rules.{accepted, step_signatures, step_lock, Step, Option, Some, None, start, effect, FourBytes, journal_steps}
 use Rattle.position.specs.declared.Position.{Position}
 use Rattle.position.specs.declared.Stepped.{Stepped}
 use Rattle.position.proofs.Rules.{decode_bytes, take_step, take_decoded, step, run_from, call_tests, run}
@@ -26,14 +26,14 @@ module _ (s u : List ℕ) where
   Outcomes p older now =
       (older ≡ now) ⊎ ((older ≡ record { refusal = step_signatures; position = p }) × (now ≡ record { refusal = step_lock; position = p }))
 
-  outcomes : (p : Position) (y : Decoded) → Outcomes p (older_take s u p y) (take_decoded s u p y)
+  outcomes : (p : Position) (y : Option Step) → Outcomes p (older_take s u p y) (take_decoded s u p y)
   unfolding older_take take_decoded take_step
-  outcomes p (Read x) =
+  outcomes p (Some x) =
       let w = same_but_both s u p x in
       split (meets_both (tests s u p x))
       (λ e. inr (ap (outcome p x) (w.both e).got, ap (outcome p x) (w.both e).gets))
       (λ e. inl (ap (outcome p x) (w.others e)))
-  outcomes p Refused = inl refl
+  outcomes p None = inl refl
 
   run_from_lem : (bs : List FourBytes) (c : ℕ) (p : Position) → SameRun (older_run_from s u bs c p) (run_from s u bs c p)
   unfolding older_run_from run_from step

@@ -1,7 +1,7 @@
 -- The open steps rise by actor, kind, transaction and destination.
 -- Assumes nothing.
 use Rattle.laws.proofs.Prelude.{ℕ, ◌+◌, ◌<◌, ◌≡◌, refl, Bool, true, List, [], ◌∷◌, eqb, ltb, get_or, lt-ltb, arith, List-as-Memᴰ, List·Memᴰ·not-nil, split, gather}
-use Rattle.position.proofs.Rules.{accepted, parties, party_at, Step, miner, destinations, Decoded, Read, Refused, slot_count, no_transaction, decode, step_bytes}
+use Rattle.position.proofs.Rules.{accepted, parties, party_at, Step, miner, destinations, Option, Some, None, slot_count, no_transaction, decode, step_bytes}
 use Rattle.position.specs.declared.Position.{Position}
 use Rattle.position.proofs.Rules.{step_refusal, FourBytes, actor_at, actors, kinds, if_accepted, open_at, open_of, actor_steps, open_steps, listed_before}
 use Rattle.laws.specs.Members.{member_gather, Rising, rising_append, rising_gather}
@@ -35,11 +35,11 @@ module _ (s u : List ℕ) (p : Position) where
   unfolding step_before listed_before
   before k a t d k' a' t' d' x y o q h = rw (place_is k a t d x o, place_is k' a' t' d' y q) h
 
-  alone_rises : (y : Decoded) → Rising (step_before s) (if_accepted s u p y)
+  alone_rises : (y : Option Step) → Rising (step_before s) (if_accepted s u p y)
   unfolding if_accepted Rising
-  alone_rises (Read x) =
+  alone_rises (Some x) =
       split (eqb (step_refusal s u p x) accepted) (λ e. rw e ((λ y m. absurd (List·Memᴰ·not-nil m)), tt)) (λ e. rw e tt)
-  alone_rises Refused = tt
+  alone_rises None = tt
 
   at_rises : (k a t : ℕ) → Rising (step_before s) (open_at s u p a k t)
   unfolding open_at

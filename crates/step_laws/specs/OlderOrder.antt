@@ -1,6 +1,6 @@
 -- Slip 3, "Lock before signature.": document 01's order of the tests of a send, and what the slip says of the answers by it and now.
 -- Assumes nothing.
-use Rattle.std.specs.Prelude.{ℕ, ◌+◌, ◌≡◌, Bool, true, false, not, ◌&&◌, ◌||◌, ◌⊎◌, List, [], ◌∷◌, ◌++◌, eqb, ltb, leb}
+use Rattle.std.specs.Prelude.{ℕ, ◌+◌, ◌≡◌, Bool, true, false, not, ◌&&◌, ◌||◌, ◌⊎◌, List, [], ◌∷◌, ◌++◌, eqb, ltb, leb, Option, Some, None}
 use Rattle.laws.specs.Below.{any_below}
 use Rattle.laws.specs.Failing.{first_failing, test_of}
 use Rattle.laws.specs.Gather.{every}
@@ -13,8 +13,6 @@ use Rattle.slots.specs.Destination.{destination_number, is_payee, is_contract}
 use Rattle.slots.specs.Conflict.{no_conflict}
 use Rattle.slots.specs.Ancestry.{has_parent}
 use Rattle.slots.specs.Signatures.{signed}
-use Rattle.steps.specs.declared.Decoded.{Decoded}
-use Rattle.steps.specs.declared.Decoded.TheVariants.{Read, Refused}
 use Rattle.position.specs.declared.Position.{Position}
 use Rattle.position.specs.declared.Stepped.{Stepped}
 use Rattle.position.specs.declared.Ran.{Ran}
@@ -124,14 +122,14 @@ pub record SameButBoth (s u : List ℕ) (p : Position) (x : Step) : Type 0 where
 -- ---- a journal
 
 -- one step of four bytes by the older order
-unfoldable pub older_take : List ℕ → List ℕ → Position → Decoded → Stepped
-older_take s u p (Read x) =
+unfoldable pub older_take : List ℕ → List ℕ → Position → Option Step → Stepped
+older_take s u p (Some x) =
     let number = older_refusal s u p x in
     elim (eqb number accepted) [
       | true ↦ record { refusal = accepted; position = effect s p x }
       | false ↦ record { refusal = number; position = p }
     ]
-older_take s u p Refused = record { refusal = step_field; position = p }
+older_take s u p None = record { refusal = step_field; position = p }
 
 -- the steps of a row up to the first refused one, after c accepted ones
 unfoldable pub older_run_from : List ℕ → List ℕ → List FourBytes → ℕ → Position → Ran

@@ -3,4 +3,5 @@ pub mod NoParent
 pub mod PoolTests
 pub mod Reached
 pub mod RightFields
+pub mod Spelled
 pub mod Unmoved

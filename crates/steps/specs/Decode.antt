@@ -1,7 +1,7 @@
 -- Four bytes as a step: "kind, party (0 Alice, 1 Bob, 2 miner), transaction, destination (0 Alice, 1 Bob, 2 contract)", or refusal 11.
 -- Document 02, Slip 10: "Carol is party 3 and destination 3".
 -- Assumes nothing.
-use Rattle.std.specs.Prelude.{ℕ, Bool, not, ◌&&◌, ◌||◌, List, [], ◌∷◌, eqb, ltb}
+use Rattle.std.specs.Prelude.{ℕ, Bool, not, ◌&&◌, ◌||◌, List, [], ◌∷◌, eqb, ltb, Option, Some, None}
 use Rattle.laws.specs.Booleans.{pick}
 use Rattle.sheet.specs.Field.{count, signatures}
 use Rattle.sheet.specs.Setup.{conduct}
@@ -10,8 +10,6 @@ use Rattle.slots.specs.declared.Destination.TheVariants.{Alice, Bob, Contract, C
 use Rattle.slots.specs.declared.Step.{Step}
 use Rattle.slots.specs.declared.Step.TheVariants.{Share, Give, SendToPool, HandToMiner, Include, Mine, Bump}
 use Rattle.slots.specs.Destination.{miner, contract, destination_number, is_party, is_payee, is_contract}
-use Rattle.steps.specs.declared.Decoded.{Decoded}
-use Rattle.steps.specs.declared.Decoded.TheVariants.{Read, Refused}
 
 -- "Mine (transaction 255)", "each as one step (transaction 255, destination 2)"
 abbrev pub no_transaction : ℕ
@@ -47,33 +45,33 @@ fields_right s u (Mine party t to) = eqb party miner && (eqb t no_transaction &&
 fields_right s u (Bump party t to) = eqb party miner && (ltb t (count s) && eqb (destination_number to) contract)
 
 -- "a step is one of seven kinds"
-unfoldable pub of_kind : ℕ → ℕ → ℕ → Destination → Decoded
+unfoldable pub of_kind : ℕ → ℕ → ℕ → Destination → Option Step
 of_kind kind party t to =
-    pick (eqb kind 1) (Read (Share party t to))
-    (pick (eqb kind 2) (Read (Give party t to))
-    (pick (eqb kind 3) (Read (SendToPool party t to))
-    (pick (eqb kind 4) (Read (HandToMiner party t to))
-    (pick (eqb kind 5) (Read (Include party t to))
-    (pick (eqb kind 6) (Read (Mine party t to))
-    (pick (eqb kind 7) (Read (Bump party t to))
-    Refused))))))
+    pick (eqb kind 1) (Some (Share party t to))
+    (pick (eqb kind 2) (Some (Give party t to))
+    (pick (eqb kind 3) (Some (SendToPool party t to))
+    (pick (eqb kind 4) (Some (HandToMiner party t to))
+    (pick (eqb kind 5) (Some (Include party t to))
+    (pick (eqb kind 6) (Some (Mine party t to))
+    (pick (eqb kind 7) (Some (Bump party t to))
+    None))))))
 
 -- "and its destination one of three"; Slip 10: "Carol is .. destination 3"
-unfoldable pub spelled : ℕ → ℕ → ℕ → ℕ → Decoded
+unfoldable pub spelled : ℕ → ℕ → ℕ → ℕ → Option Step
 spelled kind party t destination =
     pick (eqb destination 0) (of_kind kind party t Alice)
     (pick (eqb destination 1) (of_kind kind party t Bob)
     (pick (eqb destination 2) (of_kind kind party t Contract)
     (pick (eqb destination 3) (of_kind kind party t Carol)
-    Refused)))
+    None)))
 
 -- 11 "step field out of range for its kind"
-unfoldable pub range_checked : List ℕ → List ℕ → Decoded → Decoded
-range_checked s u (Read x) = pick (fields_right s u x) (Read x) Refused
-range_checked s u Refused = Refused
+unfoldable pub range_checked : List ℕ → List ℕ → Option Step → Option Step
+range_checked s u (Some x) = pick (fields_right s u x) (Some x) None
+range_checked s u None = None
 
 -- "decoded from four bytes": kind, party, transaction, destination, under a sheet and a setup
-unfoldable pub decode : List ℕ → List ℕ → ℕ → ℕ → ℕ → ℕ → Decoded
+unfoldable pub decode : List ℕ → List ℕ → ℕ → ℕ → ℕ → ℕ → Option Step
 decode s u kind party t destination = range_checked s u (spelled kind party t destination)
 
 -- "4 bytes a step"

@@ -7,14 +7,14 @@ ghost use Rattle.slots.specs.Forms.Line.{line_set};
 ghost use Rattle.steps.specs.Forms.Blocks.{displaced_in, bumped_slot, enters_in};
 
 use crate::View;
+use sheet::field::Sheet;
 use sheet::set;
 use slots::{Slot, ancestry, conflict};
 
 // What a bump makes of one slot: it enters the block, or leaves it, or stays as it is.
-pub fn bumped_slot(sheet: &[u8], entering: u32, leaving: u32, t: usize, x: Slot) -> Slot
-    requires sized { Sized sheet.now }
-    requires t_bound { t < count sheet.now }
-    ensures { result ≡ bumped_slot sheet.now entering leaving t x }
+pub fn bumped_slot(sheet: &Sheet, entering: u32, leaving: u32, t: usize, x: Slot) -> Slot
+    requires t_bound { t < count sheet.now.bytes }
+    ensures { result ≡ bumped_slot sheet.now.bytes entering leaving t x }
 {
     if set::has(entering, t) {
         return x.with_block(x.pool);
@@ -43,19 +43,18 @@ fn enters_in(view: View, line: u32, k: usize) -> bool
 }
 
 // Those of t's line that wait outside the block.
-pub fn entering(sheet: &[u8], view: View, t: usize) -> u32
-    requires sized { Sized sheet.now }
-    requires t_bound { t < count sheet.now }
-    ensures { result ≡ set_below (count sheet.now) (enters_in view (line_set sheet.now t)) }
+pub fn entering(sheet: &Sheet, view: View, t: usize) -> u32
+    requires t_bound { t < count sheet.now.bytes }
+    ensures { result ≡ set_below (count sheet.now.bytes) (enters_in view (line_set sheet.now.bytes t)) }
 {
     let line = ancestry::line_of(sheet, t);
-    set::below(sheet::field::count(sheet), |k| enters_in(view, line, k))
+    set::below(sheet.count(), |k| enters_in(view, line, k))
 }
 
 // Those with a rival among the entering. None is asked for while the block is empty, since there nobody leaves it.
-pub fn displaced(sheet: &[u8], view: View, entering: u32) -> u32
-    requires { Checked sheet.now }
-    ensures { result ≡ displaced_in sheet.now view entering }
+pub fn displaced(sheet: &Sheet, view: View, entering: u32) -> u32
+    requires { Checked sheet.now.bytes }
+    ensures { result ≡ displaced_in sheet.now.bytes view entering }
 {
     if view.block == 0 {
         return 0;

@@ -1,6 +1,7 @@
 // Conduct, over the guards of a position.
 ghost use Rattle.std.specs.Prelude.{◌<◌, ◌≡◌};
 ghost use Rattle.laws.specs.Failing.{first_failing};
+ghost use Rattle.sheet.specs.Refusal.{refused};
 ghost use Rattle.sheet.specs.Field.{count, Sized};
 ghost use Rattle.steps.specs.Conduct.{may_send, alice_shares_rule, alice_gives_rule, bob_gives_rule, secret_safe_rule, safe_to_send_rule};
 ghost use Rattle.steps.specs.Forms.Conduct.{share_allowed_in, give_allowed_in, send_allowed_in, send_held_in};
@@ -10,20 +11,15 @@ use crate::Guards;
 use crate::names::{
     LOCK_A, NO_TRANSACTION, REFUND_1, SECRET_ALICE, SECRET_BOB, SIG_ALICE, SPEND_B, SUCCESS_BYTE,
 };
-use sheet::refusal;
+use sheet::field::Sheet;
+use sheet::refusal::{Refusal, require};
 use slots::{party, signatures};
 
 // 13 unless conduct allows the step and its own conditions are met.
-pub fn conduct_refusal(allowed: bool, met: bool) -> u32
-    ensures { result ≡ first_failing (conduct_rule allowed met) }
+pub fn conduct_refusal(allowed: bool, met: bool) -> Result<(), Refusal>
+    ensures { refused result ≡ first_failing (conduct_rule allowed met) }
 {
-    if !allowed {
-        return refusal::STEP_CONDUCT;
-    }
-    if !met {
-        return refusal::STEP_CONDUCT;
-    }
-    refusal::ACCEPTED
+    require(allowed && met, Refusal::StepConduct)
 }
 
 // Who may send what in which phase: Alice lock_A in phase 1, both anything in phases 2 and 3.
@@ -121,12 +117,11 @@ impl Guards {
     }
 
     // Whether Alice sends t although it needs secret_alice.
-    fn secret_safe(self, sheet: &[u8], t: usize) -> bool
-        requires sized { Sized sheet.now }
-        requires t_bound { t < count sheet.now }
-        ensures { result ≡ secret_safe_rule sheet.now self.knows t }
+    fn secret_safe(self, sheet: &Sheet, t: usize) -> bool
+        requires t_bound { t < count sheet.now.bytes }
+        ensures { result ≡ secret_safe_rule sheet.now.bytes self.knows t }
     {
-        if !signatures::has(sheet::field::required(sheet, t), SECRET_ALICE) {
+        if !signatures::has(sheet.required(t), SECRET_ALICE) {
             return true;
         }
         if !self.knows {
@@ -136,10 +131,9 @@ impl Guards {
     }
 
     // Whether a careful party sends t.
-    fn safe_to_send(self, sheet: &[u8], party: u8, t: usize) -> bool
-        requires sized { Sized sheet.now }
-        requires t_bound { t < count sheet.now }
-        ensures { result ≡ safe_to_send_rule self.unshared (secret_safe_rule sheet.now self.knows t) party t }
+    fn safe_to_send(self, sheet: &Sheet, party: u8, t: usize) -> bool
+        requires t_bound { t < count sheet.now.bytes }
+        ensures { result ≡ safe_to_send_rule self.unshared (secret_safe_rule sheet.now.bytes self.knows t) party t }
     {
         if party != 0 {
             return true;
@@ -151,10 +145,9 @@ impl Guards {
     }
 
     // Whether a party may send t, but for paying first.
-    pub fn send_allowed(self, sheet: &[u8], party: u8, t: usize) -> bool
-        requires sized { Sized sheet.now }
-        requires t_bound { t < count sheet.now }
-        ensures { result ≡ send_allowed_in sheet.now self party t }
+    pub fn send_allowed(self, sheet: &Sheet, party: u8, t: usize) -> bool
+        requires t_bound { t < count sheet.now.bytes }
+        ensures { result ≡ send_allowed_in sheet.now.bytes self party t }
     {
         if self.free {
             return true;
@@ -169,10 +162,9 @@ impl Guards {
     }
 
     // Whether a party may send t, where `paying` says that it sends no contract transaction.
-    pub fn send_held(self, sheet: &[u8], paying: bool, party: u8, t: usize) -> bool
-        requires sized { Sized sheet.now }
-        requires t_bound { t < count sheet.now }
-        ensures { result ≡ send_held_in sheet.now self paying party t }
+    pub fn send_held(self, sheet: &Sheet, paying: bool, party: u8, t: usize) -> bool
+        requires t_bound { t < count sheet.now.bytes }
+        ensures { result ≡ send_held_in sheet.now.bytes self paying party t }
     {
         if !self.send_allowed(sheet, party, t) {
             return false;

@@ -16,14 +16,7 @@ pub mod parent;
 pub mod sending;
 pub mod sharing;
 
-use slots::{Slot, Step};
-
-// Four bytes read as a step, or refused as one: 11.
-#[derive(Clone, Copy)]
-pub enum Decoded {
-    Read(Step),
-    Refused,
-}
+use slots::Slot;
 
 // What the tests read off a position: the transactions in the pool, in the block being filled and
 // confirmed, as masks; the signatures shared of any; the blocks mined; the keys held. And off the sheet:

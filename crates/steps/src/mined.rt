@@ -6,13 +6,14 @@ ghost use Rattle.steps.specs.Mined.{confirm_entry};
 ghost use Rattle.steps.specs.Forms.Blocks.{conflicted_in, affected_in, mined_slot};
 
 use crate::View;
+use sheet::field::Sheet;
 use sheet::set;
 use slots::{Slot, ancestry, conflict, has_conflicts, signatures};
 
 // Those with another rival in the block. None is asked for where the whole pool is in the block, or no entry has a rival.
-pub fn conflicted(sheet: &[u8], view: View) -> u32
-    requires { Checked sheet.now }
-    ensures { result ≡ conflicted_in sheet.now view }
+pub fn conflicted(sheet: &Sheet, view: View) -> u32
+    requires { Checked sheet.now.bytes }
+    ensures { result ≡ conflicted_in sheet.now.bytes view }
 {
     if view.pool | view.block == view.block {
         return 0;
@@ -34,10 +35,9 @@ pub fn affected(view: View, leaving: u32) -> u32
 }
 
 // A block entry is confirmed, and what it exposes is shared.
-fn confirm_entry(sheet: &[u8], block: u16, t: usize, x: Slot) -> Slot
-    requires sized { Sized sheet.now }
-    requires t_bound { t < count sheet.now }
-    ensures { result ≡ confirm_entry sheet.now block t x }
+fn confirm_entry(sheet: &Sheet, block: u16, t: usize, x: Slot) -> Slot
+    requires t_bound { t < count sheet.now.bytes }
+    ensures { result ≡ confirm_entry sheet.now.bytes block t x }
 {
     let entry = x.block;
     if entry == 0 {
@@ -50,10 +50,9 @@ fn confirm_entry(sheet: &[u8], block: u16, t: usize, x: Slot) -> Slot
 }
 
 // What a mined block makes of one slot: who enters the chain leaves the pool, and so does who conflicts with another there.
-pub fn mined_slot(sheet: &[u8], block: u16, entering: u32, leaving: u32, t: usize, x: Slot) -> Slot
-    requires sized { Sized sheet.now }
-    requires t_bound { t < count sheet.now }
-    ensures { result ≡ mined_slot sheet.now block entering leaving t x }
+pub fn mined_slot(sheet: &Sheet, block: u16, entering: u32, leaving: u32, t: usize, x: Slot) -> Slot
+    requires t_bound { t < count sheet.now.bytes }
+    ensures { result ≡ mined_slot sheet.now.bytes block entering leaving t x }
 {
     let y = confirm_entry(sheet, block, t, x);
     if y.pool == 0 {

@@ -2,34 +2,34 @@
 ghost use Rattle.std.specs.Prelude.{◌<◌, ◌≡◌, not, eqb};
 ghost use Rattle.laws.specs.Mask.{bit};
 ghost use Rattle.laws.specs.Failing.{first_failing};
+ghost use Rattle.sheet.specs.Refusal.{refused};
 ghost use Rattle.sheet.specs.Field.{count};
 ghost use Rattle.sheet.specs.Checked.{Checked};
 ghost use Rattle.steps.specs.Tests.{block_met_rule, bump_rule};
 ghost use Rattle.steps.specs.Forms.Mining.{include_tests_in, mine_tests_in};
 
 use crate::{View, parent};
-use sheet::{refusal, set};
+use sheet::field::Sheet;
+use sheet::refusal::{Refusal, require};
+use sheet::set;
 use slots::conflict;
 
-// The first test of kind 5 that fails, 0 where none does.
-pub fn include_refusal(sheet: &[u8], view: View, any: bool, t: usize) -> u32
-    requires checked { Checked sheet.now }
-    requires t_bound { t < count sheet.now }
-    ensures { result ≡ first_failing (include_tests_in sheet.now view any t) }
+// The first test of kind 5 that fails.
+pub fn include_refusal(sheet: &Sheet, view: View, any: bool, t: usize) -> Result<(), Refusal>
+    requires checked { Checked sheet.now.bytes }
+    requires t_bound { t < count sheet.now.bytes }
+    ensures { refused result ≡ first_failing (include_tests_in sheet.now.bytes view any t) }
 {
-    if conflict::conflict_in(sheet, view.placed(), t) {
-        return refusal::STEP_CONFLICT;
-    }
-    if !parent::parent_there(sheet, view.placed(), t) {
-        return refusal::STEP_PARENT;
-    }
-    if !set::has(view.pool, t) {
-        return refusal::STEP_POOL;
-    }
-    if any {
-        return refusal::STEP_BUMP_OWED;
-    }
-    refusal::ACCEPTED
+    require(
+        !conflict::conflict_in(sheet, view.placed(), t),
+        Refusal::StepConflict,
+    )?;
+    require(
+        parent::parent_there(sheet, view.placed(), t),
+        Refusal::StepParent,
+    )?;
+    require(set::has(view.pool, t), Refusal::StepPool)?;
+    require(!any, Refusal::StepBumpOwed)
 }
 
 // Whether the block being filled has an entry, or transaction 0 is confirmed.
@@ -42,28 +42,18 @@ fn block_met(view: View) -> bool
     set::has(view.confirmed, 0)
 }
 
-// The first test of kind 6 that fails, 0 where none does.
-pub fn mine_refusal(view: View, any: bool) -> u32
-    ensures { result ≡ first_failing (mine_tests_in view any) }
+// The first test of kind 6 that fails.
+pub fn mine_refusal(view: View, any: bool) -> Result<(), Refusal>
+    ensures { refused result ≡ first_failing (mine_tests_in view any) }
 {
-    if any {
-        return refusal::STEP_BUMP_OWED;
-    }
-    if !block_met(view) {
-        return refusal::STEP_EMPTY_BLOCK;
-    }
-    if 10000 <= view.mined {
-        return refusal::STEP_BLOCKS;
-    }
-    refusal::ACCEPTED
+    require(!any, Refusal::StepBumpOwed)?;
+    require(block_met(view), Refusal::StepEmptyBlock)?;
+    require(view.mined < 10000, Refusal::StepBlocks)
 }
 
-// The test of kind 7: 0 where the bump is owed.
-pub fn bump_refusal(owed: bool) -> u32
-    ensures { result ≡ first_failing (bump_rule owed) }
+// The test of kind 7: that the bump is owed.
+pub fn bump_refusal(owed: bool) -> Result<(), Refusal>
+    ensures { refused result ≡ first_failing (bump_rule owed) }
 {
-    if !owed {
-        return refusal::STEP_NOT_OWED;
-    }
-    refusal::ACCEPTED
+    require(owed, Refusal::StepNotOwed)
 }

@@ -4,14 +4,14 @@ ghost use Rattle.sheet.specs.Field.{count, Sized};
 ghost use Rattle.steps.specs.Forms.Mining.{owed_in, still_due};
 
 use crate::View;
+use sheet::field::Sheet;
 use sheet::set;
 use slots::{deadline, lock_height};
 
 // Whether a bump of t is owed, where `since` is its parent's block.
-pub fn owed_at(sheet: &[u8], per_day: u16, view: View, since: u16, t: usize) -> bool
-    requires sized { Sized sheet.now }
-    requires t_bound { t < count sheet.now }
-    ensures { result ≡ owed_in sheet.now per_day view since t }
+pub fn owed_at(sheet: &Sheet, per_day: u16, view: View, since: u16, t: usize) -> bool
+    requires t_bound { t < count sheet.now.bytes }
+    ensures { result ≡ owed_in sheet.now.bytes per_day view since t }
 {
     if !set::has(view.pool, t) {
         return false;

@@ -1,6 +1,7 @@
 // The tests of kinds 3 and 4, over a view, the slot x of the transaction and `since`, its parent's block.
 ghost use Rattle.std.specs.Prelude.{◌<◌, ◌≡◌, ltb, leb};
 ghost use Rattle.laws.specs.Failing.{first_failing};
+ghost use Rattle.sheet.specs.Refusal.{refused};
 ghost use Rattle.sheet.specs.Field.{count, Sized};
 ghost use Rattle.sheet.specs.LockHeight.{lock_height};
 ghost use Rattle.sheet.specs.Checked.{Checked, Fit};
@@ -12,7 +13,8 @@ ghost use Rattle.steps.specs.Forms.Conduct.{send_allowed_in};
 ghost use Rattle.steps.specs.Forms.Sending.{send_tests_in, pool_tests_in, miner_tests_in, pays_in};
 
 use crate::{Guards, View, parent};
-use sheet::refusal;
+use sheet::field::Sheet;
+use sheet::refusal::{Refusal, require};
 use slots::{Slot, conflict, expiring, lock_height, party, signatures};
 
 impl View {
@@ -42,36 +44,33 @@ impl View {
     }
 
     // What a sender has of a transaction whose slot is x.
-    pub fn sender(self, sheet: &[u8], x: Slot, party: u8, destination: u8) -> u8
-        requires { Sized sheet.now }
-        ensures { result ≡ sender_in sheet.now self x party destination }
+    pub fn sender(self, sheet: &Sheet, x: Slot, party: u8, destination: u8) -> u8
+        ensures { result ≡ sender_in sheet.now.bytes self x party destination }
     {
-        let secrets = sheet::field::secrets(sheet) & self.shared;
+        let secrets = sheet.secrets() & self.shared;
         signatures::sender_mask(self.keys(party), secrets, x.shared_for(destination))
     }
 }
 
 // Whether the lock of t is reached: it lies below the next block.
-fn unlocked(sheet: &[u8], per_day: u16, since: u16, mined: u16, t: usize) -> bool
-    requires sized { Sized sheet.now }
-    requires t_bound { t < count sheet.now }
-    ensures { result ≡ leb (lock_height sheet.now per_day (λ k. since) t) mined }
+fn unlocked(sheet: &Sheet, per_day: u16, since: u16, mined: u16, t: usize) -> bool
+    requires t_bound { t < count sheet.now.bytes }
+    ensures { result ≡ leb (lock_height sheet.now.bytes per_day (λ k. since) t) mined }
 {
     lock_height::lock_height(sheet, per_day, since, t) < lock_height::wide(mined) + 1
 }
 
 // Whether the deadline of t is ahead, where `expiring` are those that can have one.
-fn in_time(sheet: &[u8], per_day: u16, expiring: u32, since: u16, mined: u16, t: usize) -> bool
-    requires sized { Sized sheet.now }
-    requires t_bound { t < count sheet.now }
-    ensures { result ≡ ltb mined (deadline_by sheet.now per_day expiring since t) }
+fn in_time(sheet: &Sheet, per_day: u16, expiring: u32, since: u16, mined: u16, t: usize) -> bool
+    requires t_bound { t < count sheet.now.bytes }
+    ensures { result ≡ ltb mined (deadline_by sheet.now.bytes per_day expiring since t) }
 {
     lock_height::wide(mined) < expiring::deadline_by(sheet, per_day, expiring, since, t)
 }
 
 // The first that fails of the tests that kinds 3 and 4 share, the lock before the signatures.
 fn send_refusal(
-    sheet: &[u8],
+    sheet: &Sheet,
     per_day: u16,
     allowed: bool,
     members: u32,
@@ -79,32 +78,24 @@ fn send_refusal(
     since: u16,
     mined: u16,
     t: usize,
-) -> u32
-    requires checked { Checked sheet.now }
-    requires t_bound { t < count sheet.now }
-    ensures { result ≡ first_failing (send_tests_in allowed sheet.now per_day members have since mined t) }
+) -> Result<(), Refusal>
+    requires checked { Checked sheet.now.bytes }
+    requires t_bound { t < count sheet.now.bytes }
+    ensures { refused result ≡ first_failing (send_tests_in allowed sheet.now.bytes per_day members have since mined t) }
 {
-    if !allowed {
-        return refusal::STEP_CONDUCT;
-    }
-    if conflict::conflict_in(sheet, members, t) {
-        return refusal::STEP_CONFLICT;
-    }
-    if !parent::parent_there(sheet, members, t) {
-        return refusal::STEP_PARENT;
-    }
-    if !unlocked(sheet, per_day, since, mined, t) {
-        return refusal::STEP_LOCK;
-    }
-    if !signatures::signed(sheet, have, t) {
-        return refusal::STEP_SIGNATURES;
-    }
-    refusal::ACCEPTED
+    require(allowed, Refusal::StepConduct)?;
+    require(
+        !conflict::conflict_in(sheet, members, t),
+        Refusal::StepConflict,
+    )?;
+    require(parent::parent_there(sheet, members, t), Refusal::StepParent)?;
+    require(unlocked(sheet, per_day, since, mined, t), Refusal::StepLock)?;
+    require(signatures::signed(sheet, have, t), Refusal::StepSignatures)
 }
 
-// The first test of kind 3 that fails, 0 where none does.
+// The first test of kind 3 that fails.
 pub fn pool_refusal(
-    sheet: &[u8],
+    sheet: &Sheet,
     setup: &[u8],
     view: View,
     allowed: bool,
@@ -113,14 +104,14 @@ pub fn pool_refusal(
     party: u8,
     t: usize,
     destination: u8,
-) -> u32
-    requires fit { Fit sheet.now setup.now }
-    requires t_bound { t < count sheet.now }
-    ensures { result ≡ first_failing (pool_tests_in allowed sheet.now setup.now view x since party t destination) }
+) -> Result<(), Refusal>
+    requires fit { Fit sheet.now.bytes setup.now }
+    requires t_bound { t < count sheet.now.bytes }
+    ensures { refused result ≡ first_failing (pool_tests_in allowed sheet.now.bytes setup.now view x since party t destination) }
 {
     let per_day = sheet::setup::per_day(setup);
     let have = view.sender(sheet, x, party, destination);
-    let first = send_refusal(
+    send_refusal(
         sheet,
         per_day,
         allowed,
@@ -129,19 +120,16 @@ pub fn pool_refusal(
         since,
         view.mined,
         t,
-    );
-    if first != 0 {
-        return first;
-    }
-    if !in_time(sheet, per_day, view.expiring, since, view.mined, t) {
-        return refusal::STEP_DEADLINE;
-    }
-    refusal::ACCEPTED
+    )?;
+    require(
+        in_time(sheet, per_day, view.expiring, since, view.mined, t),
+        Refusal::StepDeadline,
+    )
 }
 
-// The first test of kind 4 that fails, 0 where none does.
+// The first test of kind 4 that fails.
 pub fn miner_refusal(
-    sheet: &[u8],
+    sheet: &Sheet,
     setup: &[u8],
     view: View,
     allowed: bool,
@@ -150,14 +138,12 @@ pub fn miner_refusal(
     party: u8,
     t: usize,
     destination: u8,
-) -> u32
-    requires fit { Fit sheet.now setup.now }
-    requires t_bound { t < count sheet.now }
-    ensures { result ≡ first_failing (miner_tests_in allowed sheet.now setup.now view x since party t destination) }
+) -> Result<(), Refusal>
+    requires fit { Fit sheet.now.bytes setup.now }
+    requires t_bound { t < count sheet.now.bytes }
+    ensures { refused result ≡ first_failing (miner_tests_in allowed sheet.now.bytes setup.now view x since party t destination) }
 {
-    if sheet::setup::stealth(setup) != 1 {
-        return refusal::STEP_STEALTH;
-    }
+    require(sheet::setup::stealth(setup) == 1, Refusal::StepStealth)?;
     let have = view.sender(sheet, x, party, destination);
     send_refusal(
         sheet,
@@ -172,11 +158,10 @@ pub fn miner_refusal(
 }
 
 // The slot x of t after a send to the pool: it waits there, and what it exposes is shared.
-pub fn sent_slot(sheet: &[u8], t: usize, destination: u8, x: Slot) -> Slot
-    requires sized { Sized sheet.now }
-    requires t_bound { t < count sheet.now }
+pub fn sent_slot(sheet: &Sheet, t: usize, destination: u8, x: Slot) -> Slot
+    requires t_bound { t < count sheet.now.bytes }
     requires destination_bound { destination < 4 }
-    ensures { result ≡ with_pool (entry_for destination) (with_shared destination (exposed_mask sheet.now t) x) }
+    ensures { result ≡ with_pool (entry_for destination) (with_shared destination (exposed_mask sheet.now.bytes t) x) }
 {
     let mask = signatures::exposed_mask(sheet, t);
     let shared = x.with_shared(destination, mask);
@@ -185,7 +170,7 @@ pub fn sent_slot(sheet: &[u8], t: usize, destination: u8, x: Slot) -> Slot
 
 // Whether t pays the party and can be sent by it, by kind 3 or by kind 4. A parent that is nowhere rules out both.
 pub fn pays(
-    sheet: &[u8],
+    sheet: &Sheet,
     setup: &[u8],
     view: View,
     o: Guards,
@@ -194,9 +179,9 @@ pub fn pays(
     party: u8,
     t: usize,
 ) -> bool
-    requires fit { Fit sheet.now setup.now }
-    requires t_bound { t < count sheet.now }
-    ensures { result ≡ pays_in (send_allowed_in sheet.now o party t) sheet.now setup.now view x since party t }
+    requires fit { Fit sheet.now.bytes setup.now }
+    requires t_bound { t < count sheet.now.bytes }
+    ensures { result ≡ pays_in (send_allowed_in sheet.now.bytes o party t) sheet.now.bytes setup.now view x since party t }
 {
     if !party::is_payee(sheet, t, party) {
         return false;
@@ -205,8 +190,8 @@ pub fn pays(
         return false;
     }
     let allowed = o.send_allowed(sheet, party, t);
-    if pool_refusal(sheet, setup, view, allowed, x, since, party, t, party) == 0 {
+    if pool_refusal(sheet, setup, view, allowed, x, since, party, t, party).is_ok() {
         return true;
     }
-    miner_refusal(sheet, setup, view, allowed, x, since, party, t, party) == 0
+    miner_refusal(sheet, setup, view, allowed, x, since, party, t, party).is_ok()
 }

@@ -5,14 +5,14 @@ ghost use Rattle.laws.specs.Mask.{bit};
 ghost use Rattle.steps.specs.Tests.{give_met_rule};
 ghost use Rattle.steps.specs.Forms.Sharing.{share_met_in};
 
+use sheet::field::Sheet;
 use slots::{Slot, signatures};
 
 // Whether a share of t is new and not empty, for a party that holds `held`.
-pub fn share_met(sheet: &[u8], held: u8, x: Slot, party: u8, t: usize, destination: u8) -> bool
-    requires sized { Sized sheet.now }
-    requires t_bound { t < count sheet.now }
+pub fn share_met(sheet: &Sheet, held: u8, x: Slot, party: u8, t: usize, destination: u8) -> bool
+    requires t_bound { t < count sheet.now.bytes }
     requires destination_bound { destination < 4 }
-    ensures { result ≡ share_met_in sheet.now held x party t destination }
+    ensures { result ≡ share_met_in sheet.now.bytes held x party t destination }
 {
     if x.marked_for(party, destination) {
         return false;

@@ -33,6 +33,7 @@ use call_shrink::shrink;
 use call_slack::slack;
 use call_timelocks::timelocks;
 use sheet::check::sheet_refusal;
+use sheet::refusal::number_of;
 
 // The version of the library as one number.
 #[unsafe(no_mangle)]
@@ -47,7 +48,7 @@ pub extern "C" fn swap_version() -> u32
 pub extern "C" fn swap_check(sheet: &[u8]) -> u32
     ensures { result ≡ packed (sheet_refusal sheet.now) 0 }
 {
-    sheet_refusal(sheet) * 65536
+    number_of(sheet_refusal(sheet)) * 65536
 }
 
 // Runs a journal: refusal × 65,536 + the steps accepted. "the count telling where the part starts": the rest of the journal is what follows
@@ -139,7 +140,7 @@ pub extern "C" fn swap_desk(sheet: &[u8], bundle: &[u8], out: &mut [u8]) -> u32
 pub extern "C" fn swap_blocks(sheet: &[u8], setup: &[u8], list: &[u8]) -> u32
     ensures { result ≡ packed (blocks_refusal sheet.now setup.now list.now) 0 }
 {
-    blocks(sheet, setup, list) * 65536
+    number_of(blocks(sheet, setup, list)) * 65536
 }
 
 // Writes the earliest block list of an ending: refusal × 65,536 + the entries written.

@@ -1,12 +1,15 @@
 -- The sheet, then the bundle.
+use Rattle.std.proofs.lemmas.Result.{err_from_is_err_and}
+use Rattle.sheet.proofs.Refusing.{passed_on, some_refused, ends}
+use Rattle.laws.proofs.Prelude.{refl, ◌∙◌}
 use Rattle.call_desk.proofs.Desks.{by_sheet, by_bundle, by_none}
 use Rattle.call_desk.proofs.call_refusal.Goals as goal
 
-pub returns-then-of_sheet-ne0 : goal.returns-then-of_sheet-ne0
-returns-then-of_sheet-ne0 c = by_sheet _ _ _ c.sheet_refusal-of_sheet.ensures c.if-of_sheet-ne0.true
-
-pub returns-then-not-bundle_right : goal.returns-then-not-bundle_right
-returns-then-not-bundle_right c = by_bundle _ _ _ _ c.sheet_refusal-of_sheet.ensures c.if-of_sheet-ne0.false c.bundle_right.ensures c.if-not-bundle_right.true-raw
+pub returns-in_err-sheet_refusal : goal.returns-in_err-sheet_refusal
+returns-in_err-sheet_refusal c = passed_on _ (err_from_is_err_and _ c.from_residual.ensures.1) ∙ by_sheet _ _ _ c.in_err-sheet_refusal.ensures (some_refused _)
 
 pub returns : goal.returns
-returns c = by_none _ _ _ _ c.sheet_refusal-of_sheet.ensures c.if-of_sheet-ne0.false c.bundle_right.ensures c.if-not-bundle_right.false-raw
+returns c =
+    ends _ _ _ c.require.ensures
+    (λ y. by_none _ _ _ _ c.in_ok-sheet_refusal.ensures refl c.bundle_right.ensures y)
+    (λ y. by_bundle _ _ _ _ c.in_ok-sheet_refusal.ensures refl c.bundle_right.ensures y)

@@ -19,14 +19,17 @@ returns-then-out-n c =
     c.if-ran-ne0.false
     (omega (arith, c.if-out-n.true, c.parties-n.ensures.is))) (record { value = refl; out_after = refl })
 
+pub of-requires : goal.of-requires
+of-requires c = (ran_fit _ _ _ _ c.ran-ran.ensures c.if-ran-ne0.false).checked.sized
+
 pub write_rows-requires : goal.write_rows-requires
 write_rows-requires c =
     let h = ran_fit _ _ _ _ c.ran-ran.ensures c.if-ran-ne0.false in
-    record { fit = h; mined_bound = mined_few _ _ _ h.checked _ c.ran-ran.ensures; sheet_in_bounds = omega (arith, c.if-out-n.false, c.parties-n.ensures.is) }
+    record { fit = rw c.of.ensures h; mined_bound = mined_few _ _ _ h.checked _ c.ran-ran.ensures; sheet_in_bounds = rw c.of.ensures (omega (arith, c.if-out-n.false, c.parties-n.ensures.is)) }
 
 pub returns : goal.returns
 returns c =
     rw
     (slack_whole c.args.sheet.now c.args.setup.now c.args.journal.now _ c.ran-ran.ensures c.args.out.now
     c.if-ran-ne0.false
-    (omega (arith, c.if-out-n.false, c.parties-n.ensures.is))) (record { value = refl; out_after = c.write_rows.ensures })
+    (omega (arith, c.if-out-n.false, c.parties-n.ensures.is))) (record { value = refl; out_after = rw c.of.ensures at c.write_rows.ensures })

@@ -14,7 +14,7 @@ pub loop-t-preserved-then-stays : goal.loop-t-preserved-then-stays
 loop-t-preserved-then-stays c =
     let l : length c.args.position.slots ≡ 32 = search (length_of_map, c.well_formed) in
     let e =
-    count_stays c.args.sheet.now _ c.loop-t.t (get_or c.loop-t.counts c.loop-t.t 0) c.args.setup.now c.args.position _ c.requires.fit.checked (omega (arith, c.loop-t-test.true, c.count-n.ensures.is)) c.requires.view_value l
+    count_stays c.args.sheet.now.bytes _ c.loop-t.t (get_or c.loop-t.counts c.loop-t.t 0) c.args.setup.now c.args.position _ c.requires.fit.checked (omega (arith, c.loop-t-test.true, c.count-n.ensures.is)) c.requires.view_value l
     c.stays.ensures c.if-stays.true in
     rewrite_past _ _ _ _ 0 c.loop-t.invariant e
 
@@ -29,7 +29,7 @@ loop-t-preserved c =
     let l : length c.args.position.slots ≡ 32 = search (length_of_map, c.well_formed) in
     let w = may_open _ _ _ _ _ c.stays.ensures c.if-stays.false in
     let e =
-    first_open_view c.args.sheet.now c.args.setup.now c.args.position c.requires.fit.checked c.loop-t.t (omega (arith, c.loop-t-test.true, c.count-n.ensures.is)) _ _ _ c.block_above-since.result never l
+    first_open_view c.args.sheet.now.bytes c.args.setup.now c.args.position c.requires.fit.checked c.loop-t.t (omega (arith, c.loop-t-test.true, c.count-n.ensures.is)) _ _ _ c.block_above-since.result never l
     c.per_day-per_day.ensures c.requires.view_value refl (rw (← c.slot_above-up.ensures.0) c.block_above-since.ensures) in
     rewrite_again _ _ _ _ 0 _ c.loop-t.invariant (rw w.0 (c.first_open.ensures ∙ e))
 

@@ -4,4 +4,4 @@ use Rattle.laws.proofs.Prelude.{rewrite_first, ◌≡◌}
 use Rattle.dated.proofs.noted.Given as goal
 
 abbrev pub invariant-loop-t : goal.invariant-loop-t
-invariant-loop-t l = l.counts ≡ rewrite_first l.t (first_open l.sheet l.setup l.position) l.initial.counts
+invariant-loop-t l = l.counts ≡ rewrite_first l.t (first_open l.sheet.bytes l.setup l.position) l.initial.counts

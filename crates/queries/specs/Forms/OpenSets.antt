@@ -1,6 +1,6 @@
 -- An actor's open steps as sets: a mask for each kind and destination, and one mask for the steps with transaction byte 255.
 -- Assumes nothing.
-use Rattle.std.specs.Prelude.{ℕ, ◌+◌, ◌/◌, ◌%◌, ◌<◌, ◌≡◌, Bool, false, not, ◌&&◌, List, eqb, get_or, replicate}
+use Rattle.std.specs.Prelude.{ℕ, ◌+◌, ◌/◌, ◌%◌, ◌<◌, ◌≡◌, Bool, false, not, ◌&&◌, List, eqb, get_or, replicate, Option, Some, None}
 use Rattle.laws.specs.Booleans.{pick}
 use Rattle.laws.specs.Each.{rewrite_first}
 use Rattle.laws.specs.Mask.{bit}
@@ -8,12 +8,11 @@ use Rattle.laws.specs.Sets.{set_below}
 use Rattle.sheet.specs.Refusal.{accepted}
 use Rattle.sheet.specs.Field.{count}
 use Rattle.slots.specs.Destination.{destinations, place_of, is_party}
+use Rattle.slots.specs.declared.Step.{Step}
 use Rattle.output.specs.Forms.Emitted.{places}
 use Rattle.readings.specs.declared.Context.{Context}
 use Rattle.steps.specs.declared.View.{View}
 use Rattle.steps.specs.declared.Guards.{Guards}
-use Rattle.steps.specs.declared.Decoded.{Decoded}
-use Rattle.steps.specs.declared.Decoded.TheVariants.{Read, Refused}
 use Rattle.steps.specs.Decode.{no_transaction, decode}
 use Rattle.queries.specs.declared.OpenSets.{OpenSets}
 use Rattle.position.specs.declared.Position.{Position}
@@ -27,9 +26,9 @@ use Rattle.position.specs.StepRefusal.{step_refusal}
 use Rattle.position.specs.Open.{kinds}
 
 -- what four bytes decoded to is a step that is accepted
-unfoldable pub is_open_read : List ℕ → List ℕ → Position → Decoded → Bool
-is_open_read s u p (Read x) = eqb (step_refusal s u p x) accepted
-is_open_read s u p Refused = false
+unfoldable pub is_open_read : List ℕ → List ℕ → Position → Option Step → Bool
+is_open_read s u p (Some x) = eqb (step_refusal s u p x) accepted
+is_open_read s u p None = false
 
 -- four bytes are an open step
 unfoldable pub is_open_step : List ℕ → List ℕ → Position → ℕ → ℕ → ℕ → ℕ → Bool

@@ -1,6 +1,6 @@
 -- The refusal of any step over what is the same for all steps of an actor, the slot x of the step's transaction and `since`, its parent's block.
 -- Assumes nothing.
-use Rattle.std.specs.Prelude.{ℕ, Bool, true, false, not, ◌&&◌, ◌||◌, List, eqb, leb}
+use Rattle.std.specs.Prelude.{ℕ, Bool, true, false, not, ◌&&◌, ◌||◌, List, eqb, leb, Option, Some, None}
 use Rattle.std.specs.Int.Bits.{bit_and}
 use Rattle.laws.specs.Booleans.{pick}
 use Rattle.laws.specs.Failing.{first_failing}
@@ -16,8 +16,6 @@ use Rattle.slots.specs.Destination.{alice, bob, carol, miner, contract, place_of
 use Rattle.readings.specs.declared.Context.{Context}
 use Rattle.readings.specs.declared.DestinationSets.{DestinationSets}
 use Rattle.steps.specs.declared.Guards.{Guards}
-use Rattle.steps.specs.declared.Decoded.{Decoded}
-use Rattle.steps.specs.declared.Decoded.TheVariants.{Read, Refused}
 use Rattle.steps.specs.Decode.{no_transaction, is_other}
 use Rattle.steps.specs.Tests.{conduct_rule, share_new_rule, give_met_rule, bump_rule}
 use Rattle.steps.specs.Forms.View.{keys_in}
@@ -46,9 +44,9 @@ refusal_in s u g x since (Mine party t to) = first_failing (mine_tests_in g.view
 refusal_in s u g x since (Bump party t to) = first_failing (bump_rule (owed_in s (per_day u) g.view since t))
 
 -- what four bytes decoded to is a step that is accepted
-unfoldable pub is_open_in : List ℕ → List ℕ → Context → Slot → ℕ → Decoded → Bool
-is_open_in s u g x since (Read y) = eqb (refusal_in s u g x since y) accepted
-is_open_in s u g x since Refused = false
+unfoldable pub is_open_in : List ℕ → List ℕ → Context → Slot → ℕ → Option Step → Bool
+is_open_in s u g x since (Some y) = eqb (refusal_in s u g x since y) accepted
+is_open_in s u g x since None = false
 
 -- ---- the same by numbers, for a transaction of the sheet
 

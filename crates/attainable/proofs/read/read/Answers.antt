@@ -8,29 +8,8 @@ view-view-requires c = c.requires.checked
 pub conflicts_of-conflicted-requires : goal.conflicts_of-conflicted-requires
 conflicts_of-conflicted-requires c = c.requires.checked
 
-pub others_keys-requires : goal.others_keys-requires
-others_keys-requires c = c.requires.checked.sized
-
 pub unsent-unsent-requires : goal.unsent-unsent-requires
 unsent-unsent-requires c = c.requires
-
-pub gone-requires : goal.gone-requires
-gone-requires c = c.requires.checked.sized
-
-pub waits-requires : goal.waits-requires
-waits-requires c = c.requires.checked.sized
-
-pub waits-requires-2 : goal.waits-requires-2
-waits-requires-2 c = c.requires.checked.sized
-
-pub sends-requires : goal.sends-requires
-sends-requires c = c.requires.checked.sized
-
-pub sends-requires-2 : goal.sends-requires-2
-sends-requires-2 c = c.requires.checked.sized
-
-pub shows-requires : goal.shows-requires
-shows-requires c = c.requires.checked.sized
 
 pub lacks-requires : goal.lacks-requires
 lacks-requires c = c.requires.checked

@@ -5,7 +5,7 @@ use Rattle.attainable.proofs.round.attainable.Given as goal
 
 abbrev pub invariant-loop-secrets : goal.invariant-loop-secrets
 invariant-loop-secrets l =
-    Shown l.sheet l.others l.also l.secrets
+    Shown l.sheet.bytes l.others l.also l.secrets
 
 abbrev pub decreases-loop-secrets : goal.decreases-loop-secrets
 decreases-loop-secrets l =

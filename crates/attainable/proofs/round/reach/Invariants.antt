@@ -5,4 +5,4 @@ use Rattle.attainable.proofs.round.reach.Given as goal
 
 abbrev pub invariant-loop-t : goal.invariant-loop-t
 invariant-loop-t l =
-    l.found ≡ set_below l.t (reach_in l.sheet l.confirmed l.can)
+    l.found ≡ set_below l.t (reach_in l.sheet.bytes l.confirmed l.can)

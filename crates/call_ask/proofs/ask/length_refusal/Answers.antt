@@ -1,12 +1,15 @@
 -- Sheet, setup, or the length.
+use Rattle.std.proofs.lemmas.Result.{err_from_is_err_and}
+use Rattle.sheet.proofs.Refusing.{passed_on, some_refused}
+use Rattle.laws.proofs.Prelude.{refl, ◌∙◌}
 use Rattle.call_ask.proofs.Opens.{by_sheet, by_setup, by_length}
 use Rattle.call_ask.proofs.ask.length_refusal.Goals as goal
 
-pub returns-then-of_sheet-ne0 : goal.returns-then-of_sheet-ne0
-returns-then-of_sheet-ne0 c = by_sheet _ _ _ _ c.sheet_refusal-of_sheet.ensures c.if-of_sheet-ne0.true
+pub returns-in_err-sheet_refusal : goal.returns-in_err-sheet_refusal
+returns-in_err-sheet_refusal c = passed_on _ (err_from_is_err_and _ c.from_residual.ensures.1) ∙ by_sheet _ _ _ _ c.in_err-sheet_refusal.ensures (some_refused _)
 
-pub returns-then-of_setup-ne0 : goal.returns-then-of_setup-ne0
-returns-then-of_setup-ne0 c = by_setup _ _ _ _ _ c.sheet_refusal-of_sheet.ensures c.if-of_sheet-ne0.false c.setup_refusal-of_setup.ensures c.if-of_setup-ne0.true
+pub returns-in_err-setup_refusal : goal.returns-in_err-setup_refusal
+returns-in_err-setup_refusal c = passed_on _ (err_from_is_err_and _ c.from_residual-in_err-setup_refusal.ensures.1) ∙ by_setup _ _ _ _ _ c.in_ok-sheet_refusal.ensures refl c.in_err-setup_refusal.ensures (some_refused _)
 
 pub returns : goal.returns
-returns c = by_length _ _ _ _ c.sheet_refusal-of_sheet.ensures c.if-of_sheet-ne0.false c.setup_refusal-of_setup.ensures c.if-of_setup-ne0.false
+returns c = by_length _ _ _ _ c.in_ok-sheet_refusal.ensures refl c.in_ok-setup_refusal.ensures refl

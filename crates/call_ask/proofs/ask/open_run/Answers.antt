@@ -7,4 +7,4 @@ pub returns-then-right : goal.returns-then-right
 returns-then-right c = rw c.if-right.true (c.ran.ensures ∙ open_right _ _ _)
 
 pub returns : goal.returns
-returns c = rw (c.if-right.false, c.length_refusal.ensures, c.start.ensures) (open_wrong _ _ _)
+returns c = rw (c.if-right.false, c.number_of.ensures, c.length_refusal.ensures, c.start.ensures) (open_wrong _ _ _)

@@ -19,14 +19,18 @@ pub returns-then-count-ran : goal.returns-then-count-ran
 unfolding commit_run
 returns-then-count-ran c = by_count _ _ _ _ _ _ _ c.commit_run-ran.ensures c.if-ran-ne0.false c.if-count-ran.true
 
+pub of-requires : goal.of-requires
+unfolding commit_run
+of-requires c = (opened_fit _ _ _ _ _ c.commit_run-ran.ensures c.if-ran-ne0.false).checked.sized
+
 pub step_number-of_step-requires : goal.step_number-of_step-requires
 unfolding commit_run
-step_number-of_step-requires c = opened_fit _ _ _ _ _ c.commit_run-ran.ensures c.if-ran-ne0.false
+step_number-of_step-requires c = rw c.of.ensures (opened_fit _ _ _ _ _ c.commit_run-ran.ensures c.if-ran-ne0.false)
 
 pub returns-then-of_step-ne0 : goal.returns-then-of_step-ne0
 returns-then-of_step-ne0 c =
     by_step _ _ _ _ _ _ _ c.commit_run-ran.ensures
-    c.if-ran-ne0.false c.if-count-ran.false _ c.step_number-of_step.ensures
+    c.if-ran-ne0.false c.if-count-ran.false _ (rw c.of.ensures at c.step_number-of_step.ensures)
     c.if-of_step-ne0.true
 
 pub overflow_sub-buffer : goal.overflow_sub-buffer
@@ -37,10 +41,10 @@ pub returns-then-buffer-n-lt4 : goal.returns-then-buffer-n-lt4
 returns-then-buffer-n-lt4 c =
     by_room _ _ _ _ _ _ _ c.commit_run-ran.ensures
     c.if-ran-ne0.false c.if-count-ran.false _
-    c.step_number-of_step.ensures c.if-of_step-ne0.false (omega (arith, c.if-buffer-n-lt4.true, stands (goal.at.returns-then-buffer-n-lt4 c).After-step_number-of_step))
+    (rw c.of.ensures at c.step_number-of_step.ensures) c.if-of_step-ne0.false (omega (arith, c.if-buffer-n-lt4.true, stands (goal.at.returns-then-buffer-n-lt4 c).After-step_number-of_step))
 
 pub returns : goal.returns
 returns c =
     by_none _ _ _ _ _ _ _ c.commit_run-ran.ensures
     c.if-ran-ne0.false c.if-count-ran.false _
-    c.step_number-of_step.ensures c.if-of_step-ne0.false (omega (arith, c.if-buffer-n-lt4.false, stands (goal.at.returns c).After-step_number-of_step))
+    (rw c.of.ensures at c.step_number-of_step.ensures) c.if-of_step-ne0.false (omega (arith, c.if-buffer-n-lt4.false, stands (goal.at.returns c).After-step_number-of_step))

@@ -1,30 +1,27 @@
 -- 29, then 30, then 31.
-use Rattle.laws.proofs.Prelude.{held, fails, passes, none_left}
+use Rattle.std.proofs.lemmas.Result.{err_from_is_err_and}
 use Rattle.call_blocks.specs.BlockList.{list_tests}
 use Rattle.call_blocks.proofs.Tested.{ledger_by}
+use Rattle.sheet.proofs.Refusing.{stops, goes, there, last}
 use Rattle.call_blocks.proofs.block_list.list_refusal.Goals as goal
 
-pub returns-then-not-fields_named : goal.returns-then-not-fields_named
+pub returns-in_err-require : goal.returns-in_err-require
 unfolding list_tests
-returns-then-not-fields_named c = fails 29 _ _ _ c.fields_named.ensures c.if-not-fields_named.true-raw
+returns-in_err-require c =
+    stops _ _ _ _ _ c.in_err-require.ensures c.fields_named.ensures (err_from_is_err_and _ c.from_residual.ensures.1)
 
-pub returns-then-not-entries_rise : goal.returns-then-not-entries_rise
+pub returns-in_err-require-2 : goal.returns-in_err-require-2
 unfolding list_tests
-returns-then-not-entries_rise c = passes 29 _ _ _ _ c.fields_named.ensures c.if-not-fields_named.false-raw (fails 30 _ _ _ c.entries_rise.ensures c.if-not-entries_rise.true-raw)
+returns-in_err-require-2 c =
+    goes _ _ _ _ c.in_ok-require.ensures c.fields_named.ensures
+    (stops _ _ _ _ _ c.in_err-require-2.ensures c.entries_rise.ensures (err_from_is_err_and _ c.from_residual-in_err-require-2.ensures.1))
 
 pub ledger_accepts-requires : goal.ledger_accepts-requires
-unfolding list_tests
-ledger_accepts-requires c = record { checked = c.requires.checked; list_value = held _ _ c.fields_named.ensures c.if-not-fields_named.false-raw }
-
-pub returns-then-not-ledger_accepts : goal.returns-then-not-ledger_accepts
-unfolding list_tests
-returns-then-not-ledger_accepts c =
-    passes 29 _ _ _ _ c.fields_named.ensures c.if-not-fields_named.false-raw (passes 30 _ _ _ _ c.entries_rise.ensures c.if-not-entries_rise.false-raw
-    (fails 31 _ _ _ (ledger_by _ _ _ _ _ c.per_day.ensures c.ledger_accepts.ensures) c.if-not-ledger_accepts.true-raw))
+ledger_accepts-requires c = record { checked = c.requires.checked; list_value = there _ _ _ c.in_ok-require.ensures c.fields_named.ensures }
 
 pub returns : goal.returns
 unfolding list_tests
 returns c =
-    passes 29 _ _ _ _ c.fields_named.ensures c.if-not-fields_named.false-raw (passes 30 _ _ _ _ c.entries_rise.ensures c.if-not-entries_rise.false-raw
-    (passes 31 0 _ _ _ (ledger_by _ _ _ _ _ c.per_day.ensures c.ledger_accepts.ensures) c.if-not-ledger_accepts.false-raw
-    none_left))
+    goes _ _ _ _ c.in_ok-require.ensures c.fields_named.ensures
+    (goes _ _ _ _ c.in_ok-require-2.ensures c.entries_rise.ensures
+    (last _ _ _ _ c.require-3.ensures (ledger_by _ _ _ _ _ c.per_day.ensures c.ledger_accepts.ensures)))

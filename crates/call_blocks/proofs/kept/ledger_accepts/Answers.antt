@@ -9,7 +9,7 @@ pub loop-k-init : goal.loop-k-init
 loop-k-init c = (search rules, named_all _ _ c.requires.list_value, keeps_start _ _ _)
 
 pub coin_of-coin-requires : goal.coin_of-coin-requires
-coin_of-coin-requires c = record { sized = c.requires.checked.sized; t_bound = turn_low _ _ c.requires.checked _ _ c.loop-k.invariant.1 (omega (arith, c.loop-k-test.true)) c.listed_at-entry.ensures _ c.wide.ensures.is }
+coin_of-coin-requires c = record { t_bound = turn_low _ _ c.requires.checked _ _ c.loop-k.invariant.1 (omega (arith, c.loop-k-test.true)) c.listed_at-entry.ensures _ c.wide.ensures.is }
 
 pub offset_bounds-kept-coin : goal.offset_bounds-kept-coin
 offset_bounds-kept-coin c = let b = turn_coin _ _ c.requires.checked _ _ c.loop-k.invariant.1 (omega (arith, c.loop-k-test.true)) c.listed_at-entry.ensures _ c.wide.ensures.is _ c.coin_of-coin.ensures in search rules

@@ -10,4 +10,4 @@ use Rattle.call_blocks.proofs.kept.ledger_accepts.Given as goal
 
 abbrev pub invariant-loop-k : goal.invariant-loop-k
 invariant-loop-k l =
-    (length l.kept ≡ 32) × NamedFrom l.sheet l.list l.k × (left (right l.sheet l.per_day) (next l.sheet) l.list l.k (kept_in l.kept) ≡ (ledger l.sheet l.per_day (list_entries l.list)).accepts)
+    (length l.kept ≡ 32) × NamedFrom l.sheet.bytes l.list l.k × (left (right l.sheet.bytes l.per_day) (next l.sheet.bytes) l.list l.k (kept_in l.kept) ≡ (ledger l.sheet.bytes l.per_day (list_entries l.list)).accepts)

@@ -6,4 +6,4 @@ use Rattle.call_outage.proofs.payees.lines.Given as goal
 
 abbrev pub invariant-loop-t : goal.invariant-loop-t
 invariant-loop-t l =
-    Filled (λ k x. x ≡ line_set l.sheet k) l.t l.lines
+    Filled (λ k x. x ≡ line_set l.sheet.bytes k) l.t l.lines

@@ -5,4 +5,4 @@ use Rattle.call_outage.proofs.payees.payees_below.Given as goal
 
 abbrev pub invariant-loop-k : goal.invariant-loop-k
 invariant-loop-k l =
-    l.found ≡ union_below l.k (λ j. pick (bit (get_or l.lines j 0) l.t) (payees l.sheet j) 0)
+    l.found ≡ union_below l.k (λ j. pick (bit (get_or l.lines j 0) l.t) (payees l.sheet.bytes j) 0)

@@ -4,7 +4,7 @@ use Rattle.laws.proofs.Prelude.{arith}
 use Rattle.call_outage.proofs.rows.write_at.Goals as goal
 
 pub soonest_deadline-until-requires : goal.soonest_deadline-until-requires
-soonest_deadline-until-requires c = record { sized = c.requires.fit.checked.sized; t_bound = c.requires.t_bound; e_bound = omega (arith, c.above-e.ensures, c.requires.t_bound_2) }
+soonest_deadline-until-requires c = record { t_bound = c.requires.t_bound; e_bound = omega (arith, c.above-e.ensures, c.requires.t_bound_2) }
 
 pub returns : goal.returns
 unfolding row_in

@@ -6,4 +6,4 @@ use Rattle.call_outage.proofs.rows.write_rows.Given as goal
 
 abbrev pub invariant-loop-t : goal.invariant-loop-t
 invariant-loop-t l =
-    Turns (outage_row l.sheet l.setup l.position l.blocks) (count l.sheet) l.initial.out l.out (10 * l.t) l.t
+    Turns (outage_row l.sheet.bytes l.setup l.position l.blocks) (count l.sheet.bytes) l.initial.out l.out (10 * l.t) l.t

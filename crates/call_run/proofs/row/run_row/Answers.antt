@@ -14,22 +14,22 @@ use Rattle.call_run.proofs.row.run_row.Goals.{Joined-asked, Joined-remove-ne0, J
 use Rattle.call_run.proofs.row.run_row.Goals.{in-Share, in-Give, in-SendToPool, in-HandToMiner, in-Include, in-Mine, in-Bump, then-remove-ne0, else-remove-ne0, then-asked, else-asked}
 
 -- what came back, whichever the kind
-taken : (c : Joined-step) → ◌≡◌ {A = Stepped} (record { refusal = c.match-step.refused; position = c.match-step.position }) (step c.args.sheet.now c.args.setup.now c.loop-k.position (step_at c.args.journal.now (4 * c.loop-k.k)))
+taken : (c : Joined-step) → ◌≡◌ {A = Stepped} (record { refusal = c.match-step.refused; position = c.match-step.position }) (step c.args.sheet.now.bytes c.args.setup.now c.loop-k.position (step_at c.args.journal.now (4 * c.loop-k.k)))
 unfolding decode_bytes step_at
 taken c =
     elim c.match-step.branch [
-      | in-Share w ↦ matched _ _ _ _ _ c.decode.ensures _ _ _ _ _ c.in-Read.is w.in-Share.is w.share-stepped.ensures w.position-is w.refused-is
-      | in-Give w ↦ matched _ _ _ _ _ c.decode.ensures _ _ _ _ _ c.in-Read.is w.in-Give.is w.give-stepped.ensures w.position-is w.refused-is
-      | in-SendToPool w ↦ matched _ _ _ _ _ c.decode.ensures _ _ _ _ _ c.in-Read.is w.in-SendToPool.is w.send_to_pool-stepped.ensures w.position-is w.refused-is
-      | in-HandToMiner w ↦ matched _ _ _ _ _ c.decode.ensures _ _ _ _ _ c.in-Read.is w.in-HandToMiner.is w.hand_to_miner-stepped.ensures w.position-is w.refused-is
-      | in-Include w ↦ matched _ _ _ _ _ c.decode.ensures _ _ _ _ _ c.in-Read.is w.in-Include.is w.include-stepped.ensures w.position-is w.refused-is
-      | in-Mine w ↦ matched _ _ _ _ _ c.decode.ensures _ _ _ _ _ c.in-Read.is w.in-Mine.is w.mine-stepped.ensures w.position-is w.refused-is
-      | in-Bump w ↦ matched _ _ _ _ _ c.decode.ensures _ _ _ _ _ c.in-Read.is w.in-Bump.is w.bump-stepped.ensures w.position-is w.refused-is
+      | in-Share w ↦ matched _ _ _ _ _ c.decode.ensures _ _ _ _ _ c.in-Some.is w.in-Share.is w.share-stepped.ensures w.position-is w.refused-is
+      | in-Give w ↦ matched _ _ _ _ _ c.decode.ensures _ _ _ _ _ c.in-Some.is w.in-Give.is w.give-stepped.ensures w.position-is w.refused-is
+      | in-SendToPool w ↦ matched _ _ _ _ _ c.decode.ensures _ _ _ _ _ c.in-Some.is w.in-SendToPool.is w.send_to_pool-stepped.ensures w.position-is w.refused-is
+      | in-HandToMiner w ↦ matched _ _ _ _ _ c.decode.ensures _ _ _ _ _ c.in-Some.is w.in-HandToMiner.is w.hand_to_miner-stepped.ensures w.position-is w.refused-is
+      | in-Include w ↦ matched _ _ _ _ _ c.decode.ensures _ _ _ _ _ c.in-Some.is w.in-Include.is w.include-stepped.ensures w.position-is w.refused-is
+      | in-Mine w ↦ matched _ _ _ _ _ c.decode.ensures _ _ _ _ _ c.in-Some.is w.in-Mine.is w.mine-stepped.ensures w.position-is w.refused-is
+      | in-Bump w ↦ matched _ _ _ _ _ c.decode.ensures _ _ _ _ _ c.in-Some.is w.in-Bump.is w.bump-stepped.ensures w.position-is w.refused-is
     ]
 
 -- the view of the position after an accepted step
-seen : (c : Joined-remove-ne0) → ◌≡◌ {A = Stepped} (record { refusal = c.match-step.refused; position = c.match-step.position }) (step c.args.sheet.now c.args.setup.now c.loop-k.position (step_at c.args.journal.now (4 * c.loop-k.k)))
-    → c.if-remove-ne0.view ≡ view_below c.args.sheet.now (count c.args.sheet.now) c.match-step.position
+seen : (c : Joined-remove-ne0) → ◌≡◌ {A = Stepped} (record { refusal = c.match-step.refused; position = c.match-step.position }) (step c.args.sheet.now.bytes c.args.setup.now c.loop-k.position (step_at c.args.journal.now (4 * c.loop-k.k)))
+    → c.if-remove-ne0.view ≡ view_below c.args.sheet.now.bytes (count c.args.sheet.now.bytes) c.match-step.position
 unfolding slot step_at
 seen c came =
     elim c.if-remove-ne0.branch [
@@ -38,7 +38,7 @@ seen c came =
     ]
 
 -- the counts, where they are asked for
-counted : (c : Joined-asked) → c.if-asked.opened ≡ noted_if c.args.asked c.args.sheet.now c.args.setup.now c.match-step.position c.loop-k.opened
+counted : (c : Joined-asked) → c.if-asked.opened ≡ noted_if c.args.asked c.args.sheet.now.bytes c.args.setup.now c.match-step.position c.loop-k.opened
 unfolding noted_if
 counted c =
     elim c.if-asked.branch [
@@ -56,41 +56,38 @@ pub decode-requires : goal.decode-requires
 decode-requires c = c.requires.fit
 
 -- a step that is none
-pub returns-in-Refused : goal.returns-in-Refused
+pub returns-in_default : goal.returns-in_default
 unfolding decode_bytes step_at
-returns-in-Refused c =
+returns-in_default c =
     c.stopped.ensures
-    ∙ left_stopped _ _ _ _ _ _ _ _ c.loop-k.invariant.0 (omega (arith, c.loop-k-test.true)) _ (unread _ _ _ _ _ c.decode.ensures c.in-Refused.is) _ c.loop-k.invariant.1 (λ z. absurd (omega (arith, z)))
+    ∙ left_stopped _ _ _ _ _ _ _ _ c.loop-k.invariant.0 (omega (arith, c.loop-k-test.true)) _ (unread _ _ _ _ _ c.decode.ensures c.in_default.is) _ c.loop-k.invariant.1 (λ z. absurd (omega (arith, z)))
 
 -- what the methods ask for
 pub share-stepped-requires : goal.share-stepped-requires
-share-stepped-requires c = record { fit = c.requires.fit; view_value = c.loop-k.invariant.1; t_value = share_fields _ _ _ _ _ _ c.in-Share.is c.requires.fit (decodes _ _ _ _ _ _ _ (sym c.decode.ensures ∙ c.in-Read.is)).fields }
+share-stepped-requires c = record { fit = c.requires.fit; view_value = c.loop-k.invariant.1; t_value = share_fields _ _ _ _ _ _ c.in-Share.is c.requires.fit (decodes _ _ _ _ _ _ _ (sym c.decode.ensures ∙ c.in-Some.is)).fields }
 
 pub give-stepped-requires : goal.give-stepped-requires
-give-stepped-requires c = record { fit = c.requires.fit; view_value = c.loop-k.invariant.1; i_bound = give_listed _ _ _ _ _ _ c.in-Give.is c.requires.fit.checked.signatures_few (decodes _ _ _ _ _ _ _ (sym c.decode.ensures ∙ c.in-Read.is)).fields }
+give-stepped-requires c = record { fit = c.requires.fit; view_value = c.loop-k.invariant.1; i_bound = give_listed _ _ _ _ _ _ c.in-Give.is c.requires.fit.checked.signatures_few (decodes _ _ _ _ _ _ _ (sym c.decode.ensures ∙ c.in-Some.is)).fields }
 
 pub send_to_pool-stepped-requires : goal.send_to_pool-stepped-requires
-send_to_pool-stepped-requires c = record { fit = c.requires.fit; view_value = c.loop-k.invariant.1; t_bound = pool_listed _ _ _ _ _ _ c.in-SendToPool.is (decodes _ _ _ _ _ _ _ (sym c.decode.ensures ∙ c.in-Read.is)).fields }
+send_to_pool-stepped-requires c = record { fit = c.requires.fit; view_value = c.loop-k.invariant.1; t_bound = pool_listed _ _ _ _ _ _ c.in-SendToPool.is (decodes _ _ _ _ _ _ _ (sym c.decode.ensures ∙ c.in-Some.is)).fields }
 
 pub hand_to_miner-stepped-requires : goal.hand_to_miner-stepped-requires
-hand_to_miner-stepped-requires c = record { fit = c.requires.fit; view_value = c.loop-k.invariant.1; t_bound = miner_listed _ _ _ _ _ _ c.in-HandToMiner.is (decodes _ _ _ _ _ _ _ (sym c.decode.ensures ∙ c.in-Read.is)).fields }
+hand_to_miner-stepped-requires c = record { fit = c.requires.fit; view_value = c.loop-k.invariant.1; t_bound = miner_listed _ _ _ _ _ _ c.in-HandToMiner.is (decodes _ _ _ _ _ _ _ (sym c.decode.ensures ∙ c.in-Some.is)).fields }
 
 pub include-stepped-requires : goal.include-stepped-requires
-include-stepped-requires c = record { fit = c.requires.fit; view_value = c.loop-k.invariant.1; t_bound = include_listed _ _ _ _ _ _ c.in-Include.is (decodes _ _ _ _ _ _ _ (sym c.decode.ensures ∙ c.in-Read.is)).fields }
+include-stepped-requires c = record { fit = c.requires.fit; view_value = c.loop-k.invariant.1; t_bound = include_listed _ _ _ _ _ _ c.in-Include.is (decodes _ _ _ _ _ _ _ (sym c.decode.ensures ∙ c.in-Some.is)).fields }
 
 pub mine-stepped-requires : goal.mine-stepped-requires
-mine-stepped-requires c = record { fit = c.requires.fit; view_value = c.loop-k.invariant.1; due_value = mine_due _ _ _ _ _ _ _ _ _ _ _ _ c.in-Mine.is (decodes _ _ _ _ _ _ _ (sym c.decode.ensures ∙ c.in-Read.is)).bytes c.soonest_due-due.ensures }
+mine-stepped-requires c = record { fit = c.requires.fit; view_value = c.loop-k.invariant.1; due_value = mine_due _ _ _ _ _ _ _ _ _ _ _ _ c.in-Mine.is (decodes _ _ _ _ _ _ _ (sym c.decode.ensures ∙ c.in-Some.is)).bytes c.soonest_due-due.ensures }
 
 pub bump-stepped-requires : goal.bump-stepped-requires
-bump-stepped-requires c = record { fit = c.requires.fit; view_value = c.loop-k.invariant.1; t_bound = bump_listed _ _ _ _ _ _ c.in-Bump.is (decodes _ _ _ _ _ _ _ (sym c.decode.ensures ∙ c.in-Read.is)).fields }
+bump-stepped-requires c = record { fit = c.requires.fit; view_value = c.loop-k.invariant.1; t_bound = bump_listed _ _ _ _ _ _ c.in-Bump.is (decodes _ _ _ _ _ _ _ (sym c.decode.ensures ∙ c.in-Some.is)).fields }
 
 pub returns-then-refused-ne0 : goal.returns-then-refused-ne0
 returns-then-refused-ne0 c =
     c.stopped-then-refused-ne0.ensures
     ∙ left_stopped _ _ _ _ _ _ _ _ c.loop-k.invariant.0 (omega (arith, c.loop-k-test.true)) _ (taken (goal.at.returns-then-refused-ne0 c).Joined-step) _ c.loop-k.invariant.1 c.if-refused-ne0.true
-
-pub view_over-over-requires : goal.view_over-over-requires
-view_over-over-requires c = c.requires.fit.checked.sized
 
 pub seen_one-one-requires : goal.seen_one-one-requires
 seen_one-one-requires c = c.lowest-at.ensures.1

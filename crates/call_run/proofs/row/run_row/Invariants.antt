@@ -8,4 +8,4 @@ use Rattle.call_run.proofs.row.run_row.Given as goal
 
 abbrev pub invariant-loop-k : goal.invariant-loop-k
 invariant-loop-k l =
-    (left_from l.asked l.sheet l.setup l.journal l.k l.position l.opened ≡ run_row l.asked l.sheet l.setup (journal_steps l.journal) 0 l.initial.position l.initial.opened) × (l.view ≡ view_below l.sheet (count l.sheet) l.position) × DueKnown l.sheet l.setup l.position l.known
+    (left_from l.asked l.sheet.bytes l.setup l.journal l.k l.position l.opened ≡ run_row l.asked l.sheet.bytes l.setup (journal_steps l.journal) 0 l.initial.position l.initial.opened) × (l.view ≡ view_below l.sheet.bytes (count l.sheet.bytes) l.position) × DueKnown l.sheet.bytes l.setup l.position l.known

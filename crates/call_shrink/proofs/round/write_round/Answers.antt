@@ -1,5 +1,6 @@
 -- What is written and what is left to write come to the whole.
-use Rattle.laws.proofs.Prelude.{◌<◌, arith}
+use Rattle.laws.proofs.Prelude.{◌<◌, arith, ap, ◌∙◌}
+use Rattle.position.specs.Position.{start}
 use Rattle.output.proofs.Writing.{writing_start, writing_more, writing_done}
 use Rattle.call_shrink.proofs.Writing.{bytes_start, bytes_turn, bytes_none, all_room, turn_room, turn_end, round_written}
 use Rattle.call_shrink.proofs.Twins.{twins_start, twins_more}
@@ -12,7 +13,7 @@ few : (c : After-again-twin) → c.loop-k.k < 1024
 few c = omega (arith, c.loop-k-test.true, c.requires.steps_len_bound)
 
 pub loop-k-init : goal.loop-k-init
-loop-k-init c = (writing_start _ _ _ _ (bytes_start _ _ _ _ _ c.start-here.ensures c.requires.steps_value) (all_room _ _ _ _ _ c.requires.steps_in_bounds), twins_start _ _ _ _ _ c.start-here.ensures c.requires.steps_value, losing_start _ _ _ _ _)
+loop-k-init c = (writing_start _ _ _ _ (bytes_start _ _ _ _ _ (c.start-here.ensures ∙ ap start c.bytes.ensures) c.requires.steps_value) (all_room _ _ _ _ _ c.requires.steps_in_bounds), twins_start _ _ _ _ _ (c.start-here.ensures ∙ ap start c.bytes.ensures) c.requires.steps_value, losing_start _ _ _ _ _)
 
 pub again-twin-requires : goal.again-twin-requires
 again-twin-requires c = record { i_in_bounds = omega (arith, c.loop-k-test.true); le_i = c.loop-k.invariant.1.later }

@@ -5,7 +5,7 @@ use Rattle.call_slack.proofs.rows.write_found.Goals as goal
 pub returns-then-t-eq-NOBODY : goal.returns-then-t-eq-NOBODY
 returns-then-t-eq-NOBODY c =
     rw
-    (row_none c.args.sheet.now c.args.setup.now c.requires.fit.checked c.args.position c.args.party c.args.blocks c.args.t
+    (row_none c.args.sheet.now.bytes c.args.setup.now c.requires.fit.checked c.args.position c.args.party c.args.blocks c.args.t
     c.if-t-eq-NOBODY.true)
     c.write_row.ensures
 

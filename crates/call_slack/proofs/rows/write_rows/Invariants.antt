@@ -7,4 +7,4 @@ use Rattle.call_slack.proofs.rows.write_rows.Given as goal
 
 abbrev pub invariant-loop-k : goal.invariant-loop-k
 invariant-loop-k l =
-    Turns (row_at l.sheet l.setup l.position) (parties l.sheet) l.initial.out l.out (8 * l.k) l.k
+    Turns (row_at l.sheet.bytes l.setup l.position) (parties l.sheet.bytes) l.initial.out l.out (8 * l.k) l.k

@@ -6,4 +6,4 @@ use Rattle.call_timelocks.proofs.fields.write_fields.Given as goal
 
 abbrev pub invariant-loop-t : goal.invariant-loop-t
 invariant-loop-t l =
-    Turns (field_bytes l.sheet l.per_day l.base) (count l.sheet) l.initial.out l.out (8 * l.t) l.t
+    Turns (field_bytes l.sheet.bytes l.per_day l.base) (count l.sheet.bytes) l.initial.out l.out (8 * l.t) l.t

@@ -12,7 +12,7 @@ unfolding reported_holders
 slice_bounds-holders_by-end c = sym (length-take-le _ _ (omega (arith, c.count-size.ensures.is, c.requires.sheet_in_bounds)))
 
 pub holders_by-requires : goal.holders_by-requires
-holders_by-requires c = record { sized = c.requires.sized; sheet_in_bounds = omega (arith, c.count-size.ensures.is, length-take-le (18 * c.count-size.result) c.args.report.now (omega (arith, c.count-size.ensures.is, c.requires.sheet_in_bounds))) }
+holders_by-requires c = record { sheet_in_bounds = omega (arith, c.count-size.ensures.is, length-take-le (18 * c.count-size.result) c.args.report.now (omega (arith, c.count-size.ensures.is, c.requires.sheet_in_bounds))) }
 
 pub returns : goal.returns
 unfolding reported_holders

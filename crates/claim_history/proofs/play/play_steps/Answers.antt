@@ -1,10 +1,11 @@
 -- What is left to do from each group on comes to the whole.
-use Rattle.laws.proofs.Prelude.{arith}
+use Rattle.laws.proofs.Prelude.{arith, ap, ◌∙◌}
+use Rattle.position.specs.Position.{start}
 use Rattle.claim_history.proofs.Playing.{playing_start, playing_more, playing_done}
 use Rattle.claim_history.proofs.play.play_steps.Goals as goal
 
 pub loop-k-init : goal.loop-k-init
-loop-k-init c = playing_start _ _ _ _ c.start.ensures
+loop-k-init c = playing_start _ _ _ _ (c.start.ensures ∙ ap start c.bytes.ensures)
 
 pub play_one-played-requires : goal.play_one-played-requires
 play_one-played-requires c = record { fit = c.requires; i_in_bounds = omega (arith, c.loop-k-test.true); accepted_le_i = omega (arith, c.loop-k.invariant.low) }

@@ -4,4 +4,4 @@ use Rattle.claim_history.proofs.play.play_steps.Given as goal
 
 abbrev pub invariant-loop-k : goal.invariant-loop-k
 invariant-loop-k l =
-    Playing l.sheet l.setup l.steps l.played l.k
+    Playing l.sheet.bytes l.setup l.steps l.played l.k

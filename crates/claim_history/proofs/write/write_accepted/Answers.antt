@@ -1,11 +1,12 @@
 -- What is written and what is left to write come to the whole.
-use Rattle.laws.proofs.Prelude.{arith}
+use Rattle.laws.proofs.Prelude.{arith, ap, ◌∙◌}
+use Rattle.position.specs.Position.{start}
 use Rattle.output.proofs.Writing.{writing_start, writing_more, writing_done}
 use Rattle.claim_history.proofs.Writing.{bytes_start, bytes_turn, bytes_none, turn_room, turn_end}
 use Rattle.claim_history.proofs.write.write_accepted.Goals as goal
 
 pub loop-k-init : goal.loop-k-init
-loop-k-init c = writing_start _ _ _ _ (bytes_start _ _ _ _ c.start-here.ensures) c.requires.sheet_in_bounds
+loop-k-init c = writing_start _ _ _ _ (bytes_start _ _ _ _ (c.start-here.ensures ∙ ap start c.bytes.ensures)) c.requires.sheet_in_bounds
 
 pub step_at-stepped-requires : goal.step_at-stepped-requires
 step_at-stepped-requires c = record { fit = c.requires.fit; i_in_bounds = omega (arith, c.loop-k-test.true) }

@@ -5,4 +5,4 @@ use Rattle.claim_history.proofs.write.write_accepted.Given as goal
 
 abbrev pub invariant-loop-k : goal.invariant-loop-k
 invariant-loop-k l =
-    Writing (bytes_from l.sheet l.setup l.steps) (bytes_all l.sheet l.setup l.steps) l.initial.out l.out l.here l.at l.k
+    Writing (bytes_from l.sheet.bytes l.setup l.steps) (bytes_all l.sheet.bytes l.setup l.steps) l.initial.out l.out l.here l.at l.k

@@ -1,17 +1,17 @@
 -- 33, then 34.
-use Rattle.laws.proofs.Prelude.{fails, passes, none_left}
+use Rattle.std.proofs.lemmas.Result.{err_from_is_err_and}
 use Rattle.endings.specs.Ending.{ending_tests}
 use Rattle.endings.proofs.Naming.{possible_by}
+use Rattle.sheet.proofs.Refusing.{stops, goes, last}
 use Rattle.endings.proofs.ending.ending_refusal.Goals as goal
 
-pub returns-then-not-ending_right : goal.returns-then-not-ending_right
+pub returns-in_err-require : goal.returns-in_err-require
 unfolding ending_tests
-returns-then-not-ending_right c = fails 33 _ _ _ c.ending_right.ensures c.if-not-ending_right.true-raw
-
-pub returns-then-not-is_possible : goal.returns-then-not-is_possible
-unfolding ending_tests
-returns-then-not-is_possible c = passes 33 _ _ _ _ c.ending_right.ensures c.if-not-ending_right.false-raw (fails 34 _ _ _ (possible_by _ _ _ _ _ c.per_day.ensures c.is_possible.ensures) c.if-not-is_possible.true-raw)
+returns-in_err-require c =
+    stops _ _ _ _ _ c.in_err-require.ensures c.ending_right.ensures (err_from_is_err_and _ c.from_residual.ensures.1)
 
 pub returns : goal.returns
 unfolding ending_tests
-returns c = passes 33 _ _ _ _ c.ending_right.ensures c.if-not-ending_right.false-raw (passes 34 0 _ _ _ (possible_by _ _ _ _ _ c.per_day.ensures c.is_possible.ensures) c.if-not-is_possible.false-raw none_left)
+returns c =
+    goes _ _ _ _ c.in_ok-require.ensures c.ending_right.ensures
+    (last _ _ _ _ c.require-2.ensures (possible_by _ _ _ _ _ c.per_day.ensures c.is_possible.ensures))

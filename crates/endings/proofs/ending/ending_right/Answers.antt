@@ -9,7 +9,7 @@ pub returns-then-dests-ones_below : goal.returns-then-dests-ones_below
 returns-then-dests-ones_below c = right_short _ _ _ _ (mask_by _ _ _ _ c.count-n.ensures.is c.mask_within.ensures) _ (ones_by _ _ _ _ c.count-n.ensures.is c.ones_below.ensures.is) c.if-not-mask_within.false-raw c.if-dests-ones_below.true
 
 pub all_named-requires : goal.all_named-requires
-all_named-requires c = record { sized = c.requires; dests_len = size_by _ _ _ _ _ c.count-n.ensures.is c.ones_below.ensures.is c.if-dests-ones_below.false }
+all_named-requires c = record { dests_len = size_by _ _ _ _ _ c.count-n.ensures.is c.ones_below.ensures.is c.if-dests-ones_below.false }
 
 pub returns : goal.returns
 returns c =

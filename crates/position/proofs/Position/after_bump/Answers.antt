@@ -14,8 +14,8 @@ loop-k-init c =
     rw c.into_iter-k-iterator.ensures.into_iter_gives
     (rewritten_start _ _ _ _ (bumped_outside _ _ _ c.requires.checked.sized.few c.requires.view_value _ _ _ c.entering-entering.ensures) _ c.count-n.ensures.is _ (search rules) l c.members-k-items.ensures)
 
-pub bumped_slot-y-requires-clause-t_bound : goal.bumped_slot-y-requires-clause-t_bound
-bumped_slot-y-requires-clause-t_bound c = rw (← c.count-n.ensures.is) (walk_turn c.loop-k.invariant _ _ c.in-Some.ensures.steps).high
+pub bumped_slot-y-requires : goal.bumped_slot-y-requires
+bumped_slot-y-requires c = record { t_bound = rw (← c.count-n.ensures.is) (walk_turn c.loop-k.invariant _ _ c.in-Some.ensures.steps).high }
 
 pub loop-k-preserved : goal.loop-k-preserved
 unfolding with_slots slot
@@ -26,4 +26,4 @@ pub returns : goal.returns
 unfolding after_bump change_slots with_slots
 returns c =
     rewritten_done _ _ _ _ (bumped_outside _ _ _ c.requires.checked.sized.few c.requires.view_value _ _ _ c.entering-entering.ensures) _ c.count-n.ensures.is _ _ c.loop-k.invariant c.in-None.ensures.steps
-    ∙ rw (bumped_right c.args.sheet.now c.args.self c.args.view c.args.t c.entering-entering.result c.displaced-leaving.result c.requires.checked.sized.few c.requires.t_bound c.requires.view_value c.entering-entering.ensures c.displaced-leaving.ensures) refl
+    ∙ rw (bumped_right c.args.sheet.now.bytes c.args.self c.args.view c.args.t c.entering-entering.result c.displaced-leaving.result c.requires.checked.sized.few c.requires.t_bound c.requires.view_value c.entering-entering.ensures c.displaced-leaving.ensures) refl

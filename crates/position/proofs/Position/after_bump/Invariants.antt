@@ -6,4 +6,4 @@ use Rattle.position.proofs.Position.after_bump.Given as goal
 
 abbrev pub invariant-loop-k : goal.invariant-loop-k
 invariant-loop-k l =
-    Walked l.members l.n (λ k. Rewritten (bumped_slot l.sheet l.entering l.leaving) k l.initial.self l.self) l.k-iterator.left
+    Walked l.members l.n (λ k. Rewritten (bumped_slot l.sheet.bytes l.entering l.leaving) k l.initial.self l.self) l.k-iterator.left

@@ -14,8 +14,8 @@ loop-t-init c =
     rw c.into_iter-t-iterator.ensures.into_iter_gives
     (rewritten_start _ _ _ _ (mined_outside _ _ _ c.requires.checked.sized.few c.requires.view_value _ _ _ c.affected-members.ensures) _ c.count-n.ensures.is _ (search rules) l c.members-t-items.ensures)
 
-pub mined_slot-y-requires-clause-t_bound : goal.mined_slot-y-requires-clause-t_bound
-mined_slot-y-requires-clause-t_bound c = rw (← c.count-n.ensures.is) (walk_turn c.loop-t.invariant _ _ c.in-Some.ensures.steps).high
+pub mined_slot-y-requires : goal.mined_slot-y-requires
+mined_slot-y-requires c = record { t_bound = rw (← c.count-n.ensures.is) (walk_turn c.loop-t.invariant _ _ c.in-Some.ensures.steps).high }
 
 pub loop-t-preserved : goal.loop-t-preserved
 unfolding with_slots slot
@@ -27,4 +27,4 @@ unfolding after_mine with_mined change_slots with_slots
 returns c =
     let done = rewritten_done _ _ _ _ (mined_outside _ _ _ c.requires.checked.sized.few c.requires.view_value _ _ _ c.affected-members.ensures) _ c.count-n.ensures.is _ _ c.loop-t.invariant c.in-None.ensures.steps in
     ap (with_mined (c.args.self.mined + 1)) done
-    ∙ rw (mined_right c.args.sheet.now c.args.self c.args.view c.conflicted-leaving.result c.requires.checked.sized.few c.requires.view_value c.conflicted-leaving.ensures) refl
+    ∙ rw (mined_right c.args.sheet.now.bytes c.args.self c.args.view c.conflicted-leaving.result c.requires.checked.sized.few c.requires.view_value c.conflicted-leaving.ensures) refl

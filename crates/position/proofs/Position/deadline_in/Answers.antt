@@ -10,7 +10,7 @@ returns c =
     record {
       is = rw (
         ← c.per_day.ensures,
-        deadline_since c.args.sheet.now c.per_day.result
+        deadline_since c.args.sheet.now.bytes c.per_day.result
             (block_of c.args.self) c.block_of-since.result c.args.t
             (ap (block_of c.args.self) (sym c.parent.ensures.is) ∙ sym c.block_of-since.ensures),
       )

@@ -10,10 +10,10 @@ pub returns : goal.returns
 returns c =
     let held = keys_read _ _ _ _ _ c.requires.view_value c.keys-held.ensures in
     let giver = keys_read _ _ _ _ _ c.requires.view_value c.keys.ensures in
-    let allowed : c.if-conduct-eq0.allowed ≡ (is_open c.args.setup.now || may_give c.args.sheet.now c.args.setup.now c.args.self c.args.party c.args.i) =
+    let allowed : c.if-conduct-eq0.allowed ≡ (is_open c.args.setup.now || may_give c.args.sheet.now.bytes c.args.setup.now c.args.self c.args.party c.args.i) =
     elim c.if-conduct-eq0.branch [
       | then-conduct-eq0 w ↦ w.allowed-is ∙ eq-eqb _ _ w.if-conduct-eq0.true ∙ any_open _ _ (sym c.conduct.ensures ∙ w.if-conduct-eq0.true)
       | else-conduct-eq0 w ↦ w.allowed-is ∙ w.may_give-allowed.ensures
     ] in
-    give_outcome _ _ _ _ _ _ _ _ _ _ _ c.wide-k.ensures.is c.destination_number-receiver.ensures.0 held c.keys_after-after.ensures
-    (give_answer _ _ _ _ _ _ _ _ _ c.conduct_refusal-refusal.ensures allowed (c.give_met-met.ensures ∙ rw (giver, held) refl))
+    give_outcome _ _ _ _ _ _ _ _ _ _ _ c.wide-k.ensures.is c.from-receiver.ensures.0 held c.keys_after-after.ensures
+    (give_answer _ _ _ _ _ _ _ _ _ (c.number_of-refusal.ensures ∙ c.conduct_refusal.ensures) allowed (c.give_met-met.ensures ∙ rw (giver, held) refl))

@@ -3,7 +3,7 @@ use Rattle.position.proofs.Outcomes.{include_outcome}
 use Rattle.position.proofs.MineTests.{include_answer}
 use Rattle.position.specs.Position.{slot}
 use Rattle.position.specs.Effect.{with_slots}
-use Rattle.laws.proofs.Prelude.{◌<◌, rules, arith}
+use Rattle.laws.proofs.Prelude.{◌∙◌, ◌<◌, rules, arith}
 use Rattle.position.proofs.Position.include.Goals as goal
 
 pub bounds-self-k-2 : goal.bounds-self-k-2
@@ -13,5 +13,5 @@ pub returns : goal.returns
 unfolding slot with_slots
 returns c =
     include_outcome _ _ _ _ _ _ _ _ _ _ c.wide-k.ensures.is c.slot_after-after.ensures
-    (include_answer _ _ _ c.requires.fit.checked _ (rw c.wide-k.ensures.is c.requires.t_bound) _ _ _ c.requires.view_value c.any_owed-any.ensures c.include_refusal-refusal.ensures)
+    (include_answer _ _ _ c.requires.fit.checked _ (rw c.wide-k.ensures.is c.requires.t_bound) _ _ _ c.requires.view_value c.any_owed-any.ensures (c.number_of-refusal.ensures ∙ c.include_refusal.ensures))
     c.with_block-included.ensures

@@ -20,10 +20,10 @@ pub bounds-self-k : goal.bounds-self-k
 bounds-self-k c = let l = share_one_fits _ _ c.requires.fit.checked.sized.few c.requires.t_value c.if-t-eq-NO_TRANSACTION.false in search (rules, l)
 
 pub share_met-met-requires : goal.share_met-met-requires
-share_met-met-requires c = record { sized = c.requires.fit.checked.sized; t_bound = rw c.wide-k.ensures.is (share_one_fits _ _ c.requires.fit.checked.sized.few c.requires.t_value c.if-t-eq-NO_TRANSACTION.false); destination_bound = c.destination_number-destination.ensures.1 }
+share_met-met-requires c = record { t_bound = rw c.wide-k.ensures.is (share_one_fits _ _ c.requires.fit.checked.sized.few c.requires.t_value c.if-t-eq-NO_TRANSACTION.false); destination_bound = c.from-destination.ensures.1 }
 
 pub shared_slot-shared-requires : goal.shared_slot-shared-requires
-shared_slot-shared-requires c = record { sized = c.requires.fit.checked.sized; t_bound = rw c.wide-k.ensures.is (share_one_fits _ _ c.requires.fit.checked.sized.few c.requires.t_value c.if-t-eq-NO_TRANSACTION.false); destination_bound = c.destination_number-destination.ensures.1 }
+shared_slot-shared-requires c = record { t_bound = rw c.wide-k.ensures.is (share_one_fits _ _ c.requires.fit.checked.sized.few c.requires.t_value c.if-t-eq-NO_TRANSACTION.false); destination_bound = c.from-destination.ensures.1 }
 
 pub bounds-self-k-2 : goal.bounds-self-k-2
 bounds-self-k-2 c = let f = share_one_fits _ _ c.requires.fit.checked.sized.few c.requires.t_value c.if-t-eq-NO_TRANSACTION.false in let l : c.wide-k.result < 32 = omega (arith, c.wide-k.ensures.is, f, c.requires.fit.checked.sized.few) in search (rules, l)
@@ -32,11 +32,11 @@ pub returns : goal.returns
 unfolding slot with_slots
 returns c =
     let held = keys_read _ _ _ _ _ c.requires.view_value c.keys-held.ensures in
-    let allowed : c.if-conduct-eq0.allowed ≡ (is_open c.args.setup.now || may_share c.args.sheet.now c.args.setup.now c.args.self c.args.party c.args.t) =
+    let allowed : c.if-conduct-eq0.allowed ≡ (is_open c.args.setup.now || may_share c.args.sheet.now.bytes c.args.setup.now c.args.self c.args.party c.args.t) =
     elim c.if-conduct-eq0.branch [
       | then-conduct-eq0 w ↦ w.allowed-is ∙ eq-eqb _ _ w.if-conduct-eq0.true ∙ any_open _ _ (sym c.conduct.ensures ∙ w.if-conduct-eq0.true)
       | else-conduct-eq0 w ↦ w.allowed-is ∙ w.may_share-allowed.ensures
     ] in
-    share_outcome _ _ _ _ _ _ _ _ _ _ _ c.wide-k.ensures.is c.destination_number-destination.ensures.0 c.slot_after-after.ensures (λ z. c.if-t-eq-NO_TRANSACTION.false (sym c.wide-k.ensures.is ∙ z))
-    (share_answer _ _ _ _ _ _ _ _ _ c.conduct_refusal-refusal.ensures allowed ((c.share_met-met.ensures ∙ rw (held, c.wide-k.ensures.is) refl) ∙ one_met _ _ _ _ _ c.if-t-eq-NO_TRANSACTION.false))
+    share_outcome _ _ _ _ _ _ _ _ _ _ _ c.wide-k.ensures.is c.from-destination.ensures.0 c.slot_after-after.ensures (λ z. c.if-t-eq-NO_TRANSACTION.false (sym c.wide-k.ensures.is ∙ z))
+    (share_answer _ _ _ _ _ _ _ _ _ (c.number_of-refusal.ensures ∙ c.conduct_refusal.ensures) allowed ((c.share_met-met.ensures ∙ rw (held, c.wide-k.ensures.is) refl) ∙ one_met _ _ _ _ _ c.if-t-eq-NO_TRANSACTION.false))
     (c.shared_slot-shared.ensures ∙ rw held refl)

@@ -9,4 +9,4 @@ use Rattle.position.proofs.Position.share_first.Given as goal
 
 abbrev pub invariant-loop-t : goal.invariant-loop-t
 invariant-loop-t l =
-    Walked l.set 32 (λ t. (l.held ≡ keys l.self l.party) × (share_each l.sheet l.party (members_from l.set t) l.self ≡ share_each l.sheet l.party (first_shares l.party) l.initial.self)) l.t-iterator.left
+    Walked l.set 32 (λ t. (l.held ≡ keys l.self l.party) × (share_each l.sheet.bytes l.party (members_from l.set t) l.self ≡ share_each l.sheet.bytes l.party (first_shares l.party) l.initial.self)) l.t-iterator.left

@@ -6,4 +6,4 @@ use Rattle.position.proofs.Position.soonest_in.Given as goal
 
 abbrev pub invariant-loop-t : goal.invariant-loop-t
 invariant-loop-t l =
-    Walked l.among l.n (λ t. l.best ≡ soonest_below l.sheet l.per_day l.self l.mined l.among t) l.t-iterator.left
+    Walked l.among l.n (λ t. l.best ≡ soonest_below l.sheet.bytes l.per_day l.self l.mined l.among t) l.t-iterator.left

@@ -13,7 +13,7 @@ pub lock_at-requires : goal.lock_at-requires
 unfolding since_in slot
 lock_at-requires c =
     let h =
-    block_small c.args.sheet.now c.args.setup.now c.args.position c.requires.checked c.loop-t.t
+    block_small c.args.sheet.now.bytes c.args.setup.now c.args.position c.requires.checked c.loop-t.t
     (omega (arith, c.loop-t-test.true, c.count-t-end.ensures.is))
     _ c.per_day-per_day.ensures _ c.soonest_blocks-soonest.ensures c.block_above-since.result c.block_or-e.result
     (rw (← c.slot_above-up.ensures.0) c.block_above-since.ensures) (search rules) (rw (← c.above.ensures) c.block_or-e.ensures) in
@@ -23,7 +23,7 @@ pub loop-t-preserved : goal.loop-t-preserved
 unfolding since_in slot
 loop-t-preserved c =
     let h =
-    own_lock c.args.sheet.now c.args.setup.now c.args.position c.requires.checked c.loop-t.t
+    own_lock c.args.sheet.now.bytes c.args.setup.now c.args.position c.requires.checked c.loop-t.t
     (omega (arith, c.loop-t-test.true, c.count-t-end.ensures.is))
     _ c.per_day-per_day.ensures _ c.soonest_blocks-soonest.ensures c.block_above-since.result c.block_or-e.result
     (rw (← c.slot_above-up.ensures.0) c.block_above-since.ensures) (search rules) (rw (← c.above.ensures) c.block_or-e.ensures)

@@ -5,4 +5,4 @@ use Rattle.prospect.proofs.locks.locks.Given as goal
 
 abbrev pub invariant-loop-t : goal.invariant-loop-t
 invariant-loop-t l =
-    Filled (OwnLock l.sheet l.setup l.position) l.t l.table
+    Filled (OwnLock l.sheet.bytes l.setup l.position) l.t l.table

@@ -5,20 +5,8 @@ use Rattle.prospect.proofs.Meets.{fixed_is}
 use Rattle.prospect.proofs.Reading.{runs_is, signs_is, waits_is}
 use Rattle.prospect.proofs.marking.mark.Goals as goal
 
-pub running-requires : goal.running-requires
-running-requires c = c.requires.fit.checked.sized
-
-pub since_locked-requires : goal.since_locked-requires
-since_locked-requires c = c.requires.fit.checked.sized
-
 pub locks-requires : goal.locks-requires
 locks-requires c = c.requires.fit
-
-pub rivals-requires : goal.rivals-requires
-rivals-requires c = c.requires.fit.checked.sized
-
-pub foreign-requires : goal.foreign-requires
-foreign-requires c = c.requires.fit.checked.sized
 
 pub returns : goal.returns
 unfolding waits_apart

@@ -15,7 +15,7 @@ unfolding slot shared
 returns c =
     filled_of _ _ _ _ (rw c.count.ensures.is at c.filled.ensures)
     (λ k v l e.
-    lacks_tell c.args.sheet.now c.args.sheet.now c.args.position c.args.party c.requires.checked k l
-    (bit c.args.held k) (required c.args.sheet.now k) (shared c.args.position k (destination_of c.args.sheet.now c.args.party k))
-    (mark _ c.requires.checked _ (pooled c.args.sheet.now c.args.position c.args.party) c.requires.held_value k l)
+    lacks_tell c.args.sheet.now.bytes c.args.sheet.now.bytes c.args.position c.args.party c.requires.checked k l
+    (bit c.args.held k) (required c.args.sheet.now.bytes k) (shared c.args.position k (destination_of c.args.sheet.now.bytes c.args.party k))
+    (mark _ c.requires.checked _ (pooled c.args.sheet.now.bytes c.args.position c.args.party) c.requires.held_value k l)
     refl refl (search (rules, tests)) v (search (rules, tests)))

@@ -21,33 +21,6 @@ elsewhere-elsewhere-requires c = record { checked = c.requires.checked; filled =
 pub comers-come-requires : goal.comers-come-requires
 comers-come-requires c = (sound _ _ _ _ _ c.requires.checked c.mark-marks.ensures c.requires.setup.stealth_flag).few
 
-pub awaited-awaited-requires : goal.awaited-awaited-requires
-awaited-awaited-requires c = c.requires.checked.sized
-
-pub paid-requires : goal.paid-requires
-paid-requires c = c.requires.checked.sized
-
-pub parent_sets-requires : goal.parent_sets-requires
-parent_sets-requires c = c.requires.checked.sized
-
-pub lines-requires : goal.lines-requires
-lines-requires c = c.requires.checked.sized
-
-pub aims-requires : goal.aims-requires
-aims-requires c = c.requires.checked.sized
-
-pub paying-requires : goal.paying-requires
-paying-requires c = c.requires.checked.sized
-
-pub only-requires : goal.only-requires
-only-requires c = c.requires.checked.sized
-
-pub widened-requires : goal.widened-requires
-widened-requires c = c.requires.checked.sized
-
-pub widened-requires-2 : goal.widened-requires-2
-widened-requires-2 c = c.requires.checked.sized
-
 pub lacks-requires : goal.lacks-requires
 lacks-requires c = record { checked = c.requires.checked; held_value = c.mark-marks.ensures.pooled_is }
 

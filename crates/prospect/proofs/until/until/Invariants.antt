@@ -5,4 +5,4 @@ use Rattle.prospect.proofs.until.until.Given as goal
 
 abbrev pub invariant-loop-i : goal.invariant-loop-i
 invariant-loop-i l =
-    Holds l.sheet l.others l.found × Cells (Lasts l.sheet l.marks l.others) l.i l.table
+    Holds l.sheet.bytes l.others l.found × Cells (Lasts l.sheet.bytes l.marks l.others) l.i l.table

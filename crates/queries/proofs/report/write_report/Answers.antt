@@ -7,7 +7,7 @@ use Rattle.output.specs.Forms.Row.{row_bytes}
 use Rattle.queries.proofs.report.write_report.Goals as goal
 
 pub loop-t-init : goal.loop-t-init
-loop-t-init c = turns_start _ _ _ (rows_room c.args.sheet.now c.args.setup.now c.args.position c.args.opened c.count-n.result _ c.count-n.ensures.is c.requires.sheet_in_bounds)
+loop-t-init c = turns_start _ _ _ (rows_room c.args.sheet.now.bytes c.args.setup.now c.args.position c.args.opened c.count-n.result _ c.count-n.ensures.is c.requires.sheet_in_bounds)
 
 pub slice_bounds-write_row-count : goal.slice_bounds-write_row-count
 unfolding report_bytes
@@ -28,13 +28,13 @@ bounds-opened-t c =
 
 pub write_row-requires : goal.write_row-requires
 unfolding row_bytes bytes_of
-write_row-requires c = omega (arith, row_length c.args.sheet.now c.args.setup.now c.args.position c.args.opened c.loop-t.t, turn_room _ _ _ _ _ _ c.loop-t.invariant c.loop-t-test.true)
+write_row-requires c = omega (arith, row_length c.args.sheet.now.bytes c.args.setup.now c.args.position c.args.opened c.loop-t.t, turn_room _ _ _ _ _ _ c.loop-t.invariant c.loop-t-test.true)
 
 pub overflow_add-at : goal.overflow_add-at
 overflow_add-at c =
     omega (
       arith,
-      turn_end _ _ _ _ _ _ row_width c.loop-t.invariant c.loop-t-test.true (sym (row_length c.args.sheet.now c.args.setup.now c.args.position c.args.opened c.loop-t.t)),
+      turn_end _ _ _ _ _ _ row_width c.loop-t.invariant c.loop-t-test.true (sym (row_length c.args.sheet.now.bytes c.args.setup.now c.args.position c.args.opened c.loop-t.t)),
     )
 
 pub loop-t-preserved : goal.loop-t-preserved
@@ -43,12 +43,12 @@ loop-t-preserved c =
     let l : length c.args.position.slots ≡ 32 = search (length_of_map, c.well_formed) in
     let o : length c.args.opened ≡ 32 = search c.well_formed in
     let wrote =
-    row_written c.args.sheet.now c.args.setup.now c.args.position c.args.opened c.loop-t.t _ _ _ _ _ _ (get_or c.args.opened c.loop-t.t 0) c.requires.fit.checked.sized.few l (omega (arith, c.loop-t-test.true, c.count-n.ensures.is))
+    row_written c.args.sheet.now.bytes c.args.setup.now c.args.position c.args.opened c.loop-t.t _ _ _ _ _ _ (get_or c.args.opened c.loop-t.t 0) c.requires.fit.checked.sized.few l (omega (arith, c.loop-t-test.true, c.count-n.ensures.is))
     c.per_day-per_day.ensures c.requires.view_value
     c.conflicts_of-conflicted.ensures refl
     (rw (← c.slot_above-up.ensures.0)
     c.block_above-since.ensures) c.row-r.ensures refl o in
-    turn_more _ _ _ _ _ _ _ row_width c.loop-t.invariant c.loop-t-test.true (sym (row_length c.args.sheet.now c.args.setup.now c.args.position c.args.opened c.loop-t.t)) (rw wrote at c.write_row.ensures)
+    turn_more _ _ _ _ _ _ _ row_width c.loop-t.invariant c.loop-t-test.true (sym (row_length c.args.sheet.now.bytes c.args.setup.now c.args.position c.args.opened c.loop-t.t)) (rw wrote at c.write_row.ensures)
 
 pub shape_of-out : goal.shape_of-out
 unfolding report_bytes

@@ -4,4 +4,4 @@ use Rattle.laws.proofs.Prelude.{bit, ◌≡◌}
 use Rattle.readings.proofs.holder.coin_end.Given as goal
 
 abbrev pub invariant-loop-t : goal.invariant-loop-t
-invariant-loop-t l = l.found ≡ payee_below l.t (ends_coin l.sheet (bit l.confirmed) l.coin) (λ k. k)
+invariant-loop-t l = l.found ≡ payee_below l.t (ends_coin l.sheet.bytes (bit l.confirmed) l.coin) (λ k. k)

@@ -1,10 +1,11 @@
 -- The parent first, then all tests of the kind.
 use Rattle.steps.proofs.NoParent.{pool_orphan}
 use Rattle.laws.proofs.Prelude.{sym, ◌∙◌, not-true}
+use Rattle.sheet.proofs.Refusing.{ok_number}
 use Rattle.readings.proofs.open.pool_accepted.Goals as goal
 
 pub returns-then-not-parent_there : goal.returns-then-not-parent_there
 returns-then-not-parent_there c = sym (pool_orphan _ _ _ _ _ _ _ _ _ (rw (← c.sent.ensures) (sym c.parent_there.ensures ∙ not-true _ c.if-not-parent_there.true-raw)))
 
 pub returns : goal.returns
-returns c = rw (← c.send_held-held.ensures, c.pool_refusal.ensures)
+returns c = rw (← c.send_held-held.ensures, c.is_ok.ensures.value, ok_number c.pool_refusal.result, c.pool_refusal.ensures)

@@ -8,7 +8,7 @@ pub bounds-report-t : goal.bounds-report-t
 bounds-report-t c =
     search (
       rules,
-      held_in c.args.sheet.now (reported_confirmed c.args.report.now) (reported_payee c.args.report.now)
+      held_in c.args.sheet.now.bytes (reported_confirmed c.args.report.now) (reported_payee c.args.report.now)
           c.args.coin c.confirmed_set.result c.coin_end-t.result (search rules) c.confirmed_set.ensures
           c.coin_end-t.ensures c.if-t-lt32.true,
     )
@@ -16,13 +16,13 @@ bounds-report-t c =
 pub returns-then-t-lt32 : goal.returns-then-t-lt32
 unfolding reported_holder reported_payee
 returns-then-t-lt32 c =
-    held_by c.args.sheet.now (reported_confirmed c.args.report.now) (reported_payee c.args.report.now) c.args.coin
+    held_by c.args.sheet.now.bytes (reported_confirmed c.args.report.now) (reported_payee c.args.report.now) c.args.coin
     c.confirmed_set.result c.coin_end-t.result (search rules) c.confirmed_set.ensures
     c.coin_end-t.ensures c.if-t-lt32.true
 
 pub returns : goal.returns
 unfolding reported_holder
 returns c =
-    held_none c.args.sheet.now (reported_confirmed c.args.report.now) (reported_payee c.args.report.now)
+    held_none c.args.sheet.now.bytes (reported_confirmed c.args.report.now) (reported_payee c.args.report.now)
     c.args.coin c.confirmed_set.result c.coin_end-t.result (search rules)
     c.confirmed_set.ensures c.coin_end-t.ensures c.if-t-lt32.false

@@ -13,8 +13,8 @@ loop-t-init c =
     rw c.into_iter-t-iterator.ensures.into_iter_gives
     (rewritten_start _ _ _ _ (confirm_outside _ _ _ _) _ c.count-n.ensures.is _ (search rules) l c.members-t-items.ensures)
 
-pub confirm_slot-y-requires-clause-t_bound : goal.confirm_slot-y-requires-clause-t_bound
-confirm_slot-y-requires-clause-t_bound c = rw (← c.count-n.ensures.is) (walk_turn c.loop-t.invariant _ _ c.in-Some.ensures.steps).high
+pub confirm_slot-y-requires : goal.confirm_slot-y-requires
+confirm_slot-y-requires c = record { t_bound = rw (← c.count-n.ensures.is) (walk_turn c.loop-t.invariant _ _ c.in-Some.ensures.steps).high }
 
 pub loop-t-preserved : goal.loop-t-preserved
 unfolding with_slots slot

@@ -6,4 +6,4 @@ use Rattle.settle.proofs.confirm.confirm.Given as goal
 
 abbrev pub invariant-loop-t : goal.invariant-loop-t
 invariant-loop-t l =
-    Walked l.members l.n (λ t. Rewritten (confirm_in l.sheet l.block l.members) t l.initial.position l.position) l.t-iterator.left
+    Walked l.members l.n (λ t. Rewritten (confirm_in l.sheet.bytes l.block l.members) t l.initial.position l.position) l.t-iterator.left

@@ -1,39 +1,35 @@
 -- The first of the rules 5 to 8 that fails.
+use Rattle.std.proofs.Common.{rules, tests}
+use Rattle.std.proofs.lemmas.Iterator.{YieldsList-from_range}
+use Rattle.std.proofs.lemmas.Result.{err_from_is_err_and}
+use Rattle.laws.proofs.Prelude.{refl, arith}
+use Rattle.laws.proofs.Ranges.{all_of_range}
 use Rattle.sheet.specs.Check.{array_tests}
-use Rattle.sheet.specs.Forms.Check.{array_rule}
-use Rattle.laws.proofs.Prelude.{none_left, fails, passes}
+use Rattle.sheet.proofs.Refusing.{stops, goes, last}
 use Rattle.sheet.proofs.check.array_refusal.Goals as goal
 
-pub returns-then-not-all_right : goal.returns-then-not-all_right
-unfolding array_tests array_rule
-returns-then-not-all_right c = fails _ _ _ _ c.all_right.ensures c.if-not-all_right.true-raw
+pub returns-in_err-require : goal.returns-in_err-require
+unfolding array_tests
+returns-in_err-require c =
+    stops _ _ _ _ _ c.in_err-require.ensures (rw (← c.count-n.ensures.is) (all_of_range c.count-n.result _ _ _ _ c.all.ensures.ran (YieldsList-from_range 0 _ _ refl (omega arith)) (λ x b q k. search (rules, tests)))) (err_from_is_err_and _ c.from_residual.ensures.1)
 
-pub returns-then-not-all_right-2 : goal.returns-then-not-all_right-2
-unfolding array_tests array_rule
-returns-then-not-all_right-2 c =
-    passes _ _ _ _ _ c.all_right.ensures c.if-not-all_right.false-raw
-    (fails _ _ _ _ c.all_right-2.ensures c.if-not-all_right-2.true-raw)
+pub returns-in_err-require-2 : goal.returns-in_err-require-2
+unfolding array_tests
+returns-in_err-require-2 c =
+    goes _ _ _ _ c.in_ok-require.ensures (rw (← c.count-n.ensures.is) (all_of_range c.count-n.result _ _ _ _ c.all.ensures.ran (YieldsList-from_range 0 _ _ refl (omega arith)) (λ x b q k. search (rules, tests))))
+    (stops _ _ _ _ _ c.in_err-require-2.ensures (rw (← c.count-n.ensures.is) (all_of_range c.count-n.result _ _ _ _ c.all-2.ensures.ran (YieldsList-from_range 0 _ _ refl (omega arith)) (λ x b q k. search (rules, tests)))) (err_from_is_err_and _ c.from_residual-in_err-require-2.ensures.1))
 
-pub returns-then-not-all_right-3 : goal.returns-then-not-all_right-3
-unfolding array_tests array_rule
-returns-then-not-all_right-3 c =
-    passes _ _ _ _ _ c.all_right.ensures c.if-not-all_right.false-raw
-    (passes _ _ _ _ _ c.all_right-2.ensures c.if-not-all_right-2.false-raw
-    (fails _ _ _ _ c.all_right-3.ensures c.if-not-all_right-3.true-raw))
-
-pub returns-then-not-all_right-4 : goal.returns-then-not-all_right-4
-unfolding array_tests array_rule
-returns-then-not-all_right-4 c =
-    passes _ _ _ _ _ c.all_right.ensures c.if-not-all_right.false-raw
-    (passes _ _ _ _ _ c.all_right-2.ensures c.if-not-all_right-2.false-raw
-    (passes _ _ _ _ _ c.all_right-3.ensures c.if-not-all_right-3.false-raw
-    (fails _ _ _ _ c.all_right-4.ensures c.if-not-all_right-4.true-raw)))
+pub returns-in_err-require-3 : goal.returns-in_err-require-3
+unfolding array_tests
+returns-in_err-require-3 c =
+    goes _ _ _ _ c.in_ok-require.ensures (rw (← c.count-n.ensures.is) (all_of_range c.count-n.result _ _ _ _ c.all.ensures.ran (YieldsList-from_range 0 _ _ refl (omega arith)) (λ x b q k. search (rules, tests))))
+    (goes _ _ _ _ c.in_ok-require-2.ensures (rw (← c.count-n.ensures.is) (all_of_range c.count-n.result _ _ _ _ c.all-2.ensures.ran (YieldsList-from_range 0 _ _ refl (omega arith)) (λ x b q k. search (rules, tests))))
+    (stops _ _ _ _ _ c.in_err-require-3.ensures (rw (← c.count-n.ensures.is) (all_of_range c.count-n.result _ _ _ _ c.all-3.ensures.ran (YieldsList-from_range 0 _ _ refl (omega arith)) (λ x b q k. search (rules, tests)))) (err_from_is_err_and _ c.from_residual-in_err-require-3.ensures.1)))
 
 pub returns : goal.returns
-unfolding array_tests array_rule
+unfolding array_tests
 returns c =
-    passes _ _ _ _ _ c.all_right.ensures c.if-not-all_right.false-raw
-    (passes _ _ _ _ _ c.all_right-2.ensures c.if-not-all_right-2.false-raw
-    (passes _ _ _ _ _ c.all_right-3.ensures c.if-not-all_right-3.false-raw
-    (passes _ _ _ _ _ c.all_right-4.ensures c.if-not-all_right-4.false-raw
-    none_left)))
+    goes _ _ _ _ c.in_ok-require.ensures (rw (← c.count-n.ensures.is) (all_of_range c.count-n.result _ _ _ _ c.all.ensures.ran (YieldsList-from_range 0 _ _ refl (omega arith)) (λ x b q k. search (rules, tests))))
+    (goes _ _ _ _ c.in_ok-require-2.ensures (rw (← c.count-n.ensures.is) (all_of_range c.count-n.result _ _ _ _ c.all-2.ensures.ran (YieldsList-from_range 0 _ _ refl (omega arith)) (λ x b q k. search (rules, tests))))
+    (goes _ _ _ _ c.in_ok-require-3.ensures (rw (← c.count-n.ensures.is) (all_of_range c.count-n.result _ _ _ _ c.all-3.ensures.ran (YieldsList-from_range 0 _ _ refl (omega arith)) (λ x b q k. search (rules, tests))))
+    (last _ _ _ _ c.require-4.ensures (rw (← c.count-n.ensures.is) (all_of_range c.count-n.result _ _ _ _ c.all-4.ensures.ran (YieldsList-from_range 0 _ _ refl (omega arith)) (λ x b q k. search (rules, tests)))))))

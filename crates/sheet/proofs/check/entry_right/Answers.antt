@@ -1,6 +1,6 @@
 -- Payees, required signatures and veil are in range: check 6.
-use Rattle.laws.proofs.Prelude.{tests, not-true, not-false}
-use Rattle.sheet.specs.Check.{entry_right}
+use Rattle.laws.proofs.Prelude.{tests, not-true, not-false, ap, ◌∙◌}
+use Rattle.sheet.specs.Check.{entry_right, within}
 use Rattle.sheet.proofs.check.entry_right.Goals as goal
 
 pub returns-then-limit-wide : goal.returns-then-limit-wide
@@ -20,8 +20,7 @@ returns-then-not-within c =
       ← c.limit.ensures,
       ← c.payees.ensures,
       ← c.wide.ensures.is,
-      ←
-          c.within.ensures,
+      ← (c.within.ensures ∙ ap (λ b. within b c.required-required.result) c.bytes.ensures),
       not-true c.within.result c.if-not-within.true-raw,
       ← c.required-required.ensures,
       c.if-required-lt1.false,
@@ -39,7 +38,7 @@ returns c =
       ← c.wide.ensures.is,
       ←
           c.veil.ensures,
-      ← c.within.ensures,
+      ← (c.within.ensures ∙ ap (λ b. within b c.required-required.result) c.bytes.ensures),
       not-false c.within.result c.if-not-within.false-raw,
       ←
           c.required-required.ensures,

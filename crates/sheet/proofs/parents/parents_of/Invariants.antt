@@ -4,4 +4,4 @@ use Rattle.laws.proofs.Prelude.{bit}
 use Rattle.sheet.proofs.parents.parents_of.Given as goal
 
 abbrev pub invariant-loop-k : goal.invariant-loop-k
-invariant-loop-k l = Parents l.sheet (bit l.members) l.k l.parents
+invariant-loop-k l = Parents l.sheet.bytes (bit l.members) l.k l.parents

@@ -1,35 +1,29 @@
 -- The first of the checks 9, 32 and 10 that fails.
-use Rattle.laws.proofs.Prelude.{held, none_left, fails, passes}
+use Rattle.std.proofs.lemmas.Result.{err_from_is_err_and}
 use Rattle.sheet.specs.Setup.{setup_tests, setup_refusal}
 use Rattle.sheet.proofs.Passed.{setup_four}
+use Rattle.sheet.proofs.Refusing.{stops, goes, there, last}
 use Rattle.sheet.proofs.setup.setup_refusal.Goals as goal
 
-pub returns-then-not-blocks_right : goal.returns-then-not-blocks_right
+pub returns-in_err-require : goal.returns-in_err-require
 unfolding setup_refusal setup_tests
-returns-then-not-blocks_right c = fails _ _ _ _ c.blocks_right.ensures c.if-not-blocks_right.true-raw
+returns-in_err-require c = stops _ _ _ _ _ c.in_err-require.ensures c.blocks_right.ensures (err_from_is_err_and _ c.from_residual.ensures.1)
 
 pub parties_right-requires : goal.parties_right-requires
-parties_right-requires c = setup_four _ (held _ _ c.blocks_right.ensures c.if-not-blocks_right.false-raw)
+parties_right-requires c = setup_four _ (there _ _ _ c.in_ok-require.ensures c.blocks_right.ensures)
 
-pub returns-then-not-parties_right : goal.returns-then-not-parties_right
+pub returns-in_err-require-2 : goal.returns-in_err-require-2
 unfolding setup_refusal setup_tests
-returns-then-not-parties_right c =
-    passes _ _ _ _ _ c.blocks_right.ensures c.if-not-blocks_right.false-raw
-    (fails _ _ _ _ c.parties_right.ensures c.if-not-parties_right.true-raw)
+returns-in_err-require-2 c =
+    goes _ _ _ _ c.in_ok-require.ensures c.blocks_right.ensures
+    (stops _ _ _ _ _ c.in_err-require-2.ensures c.parties_right.ensures (err_from_is_err_and _ c.from_residual-in_err-require-2.ensures.1))
 
 pub conduct_right-requires : goal.conduct_right-requires
-conduct_right-requires c = setup_four _ (held _ _ c.blocks_right.ensures c.if-not-blocks_right.false-raw)
-
-pub returns-then-not-conduct_right : goal.returns-then-not-conduct_right
-unfolding setup_refusal setup_tests
-returns-then-not-conduct_right c =
-    passes _ _ _ _ _ c.blocks_right.ensures c.if-not-blocks_right.false-raw
-    (passes _ _ _ _ _ c.parties_right.ensures c.if-not-parties_right.false-raw
-    (fails _ _ _ _ c.conduct_right.ensures c.if-not-conduct_right.true-raw))
+conduct_right-requires c = setup_four _ (there _ _ _ c.in_ok-require.ensures c.blocks_right.ensures)
 
 pub returns : goal.returns
 unfolding setup_refusal setup_tests
 returns c =
-    passes _ _ _ _ _ c.blocks_right.ensures c.if-not-blocks_right.false-raw
-    (passes _ _ _ _ _ c.parties_right.ensures c.if-not-parties_right.false-raw
-    (passes _ _ _ _ _ c.conduct_right.ensures c.if-not-conduct_right.false-raw none_left))
+    goes _ _ _ _ c.in_ok-require.ensures c.blocks_right.ensures
+    (goes _ _ _ _ c.in_ok-require-2.ensures c.parties_right.ensures
+    (last _ _ _ _ c.require-3.ensures c.conduct_right.ensures))

@@ -7,5 +7,5 @@ use Rattle.slots.proofs.conflict.other_conflict_in.Goals as goal
 pub returns : goal.returns
 returns c =
     c.conflict_in.ensures
-    ∙ (ap (λ m. conflict_in c.args.sheet.now (bit m) c.args.t) c.remove.ensures
+    ∙ (ap (λ m. conflict_in c.args.sheet.now.bytes (bit m) c.args.t) c.remove.ensures
     ∙ conflict_in_removed _ _ _ (search rules) (search rules))

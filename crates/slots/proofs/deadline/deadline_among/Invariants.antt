@@ -6,4 +6,4 @@ use Rattle.slots.proofs.deadline.deadline_among.Given as goal
 
 abbrev pub invariant-loop-k : goal.invariant-loop-k
 invariant-loop-k l =
-    (l.best ≡ least_below l.k (λ j. conflict l.sheet j l.t && ltb l.own (lock_height l.sheet l.per_day (λ i. l.since) j)) (lock_height l.sheet l.per_day (λ i. l.since)) never) × (l.best ≤ never)
+    (l.best ≡ least_below l.k (λ j. conflict l.sheet.bytes j l.t && ltb l.own (lock_height l.sheet.bytes l.per_day (λ i. l.since) j)) (lock_height l.sheet.bytes l.per_day (λ i. l.since)) never) × (l.best ≤ never)

@@ -9,7 +9,7 @@ unfolding is_payee
 returns-then-not-is_party c = simp (← c.is_party.ensures, not-true c.is_party.result c.if-not-is_party.true-raw)
 
 pub has-requires : goal.has-requires
-has-requires c = let h = place_below _ _ (held _ _ c.is_party.ensures c.if-not-is_party.false-raw) in rw c.place.ensures (omega (arith, h, parties_few c.args.sheet.now))
+has-requires c = let h = place_below _ _ (held _ _ c.is_party.ensures c.if-not-is_party.false-raw) in rw c.place.ensures (omega (arith, h, parties_few c.args.sheet.now.bytes))
 
 pub returns : goal.returns
 unfolding is_payee

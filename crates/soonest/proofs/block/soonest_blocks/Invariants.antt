@@ -7,4 +7,4 @@ use Rattle.soonest.proofs.block.soonest_blocks.Given as goal
 
 abbrev pub invariant-loop-t : goal.invariant-loop-t
 invariant-loop-t l =
-    Filled (λ k x. Soon (soonest_block l.sheet l.per_day (block_of l.position) l.position.mined k) k x) l.t l.soonest
+    Filled (λ k x. Soon (soonest_block l.sheet.bytes l.per_day (block_of l.position) l.position.mined k) k x) l.t l.soonest

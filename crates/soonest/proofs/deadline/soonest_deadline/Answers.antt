@@ -8,7 +8,7 @@ unfolding deadline_over
 loop-k-init c = least_start _ _ _
 
 pub rival_at-requires : goal.rival_at-requires
-rival_at-requires c = record { sized = c.requires.sized; t_bound = c.requires.t_bound; k_bound = search rules; e_bound = c.requires.e_bound; lock = c.lock_at-own.ensures }
+rival_at-requires c = record { t_bound = c.requires.t_bound; k_bound = search rules; e_bound = c.requires.e_bound; lock = c.lock_at-own.ensures }
 
 pub loop-k-preserved : goal.loop-k-preserved
 unfolding deadline_over

@@ -6,4 +6,4 @@ use Rattle.soonest.proofs.deadline.soonest_deadline.Given as goal
 
 abbrev pub invariant-loop-k : goal.invariant-loop-k
 invariant-loop-k l =
-    l.best ≡ least_below l.k (λ j. conflict l.sheet j l.t) (counts_at l.sheet l.per_day (λ i. l.since) l.e l.t) never
+    l.best ≡ least_below l.k (λ j. conflict l.sheet.bytes j l.t) (counts_at l.sheet.bytes l.per_day (λ i. l.since) l.e l.t) never

@@ -11,7 +11,7 @@ returns-then-has c = rw (← c.has.ensures, c.if-has.true) c.with_block.ensures
 
 pub returns-then-x-eq0 : goal.returns-then-x-eq0
 unfolding bumped_slot
-returns-then-x-eq0 c = rw (← c.has.ensures, c.if-has.false) (block_out (in_ancestry c.args.sheet.now (bit c.args.leaving) c.args.t) c.args.x c.if-x-eq0.true)
+returns-then-x-eq0 c = rw (← c.has.ensures, c.if-has.false) (block_out (in_ancestry c.args.sheet.now.bytes (bit c.args.leaving) c.args.t) c.args.x c.if-x-eq0.true)
 
 pub returns-then-in_ancestry : goal.returns-then-in_ancestry
 unfolding bumped_slot

@@ -1,16 +1,14 @@
 -- Both hold, or 13.
+use Rattle.sheet.proofs.Refusing.{last}
 use Rattle.steps.specs.Tests.{conduct_rule}
-use Rattle.laws.proofs.Prelude.{first_failing, not-true, not-false}
 use Rattle.steps.proofs.conduct.conduct_refusal.Goals as goal
-
-pub returns-then-not-allowed : goal.returns-then-not-allowed
-unfolding conduct_rule first_failing
-returns-then-not-allowed c = rw (not-true c.args.allowed c.if-not-allowed.true-raw)
-
-pub returns-then-not-met : goal.returns-then-not-met
-unfolding conduct_rule first_failing
-returns-then-not-met c = rw (not-false c.args.allowed c.if-not-allowed.false-raw, not-true c.args.met c.if-not-met.true-raw)
+use Rattle.steps.proofs.conduct.conduct_refusal.Goals.{then-allowed, else-allowed}
 
 pub returns : goal.returns
-unfolding conduct_rule first_failing
-returns c = rw (not-false c.args.allowed c.if-not-allowed.false-raw, not-false c.args.met c.if-not-met.false-raw)
+unfolding conduct_rule
+returns c =
+    last _ _ _ _ c.require.ensures
+    (elim c.if-allowed.branch [
+      | then-allowed w ↦ rw (w.require-is, w.if-allowed.true)
+      | else-allowed w ↦ rw (w.require-is, w.if-allowed.false)
+    ])

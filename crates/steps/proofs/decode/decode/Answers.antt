@@ -5,4 +5,4 @@ use Rattle.steps.proofs.decode.decode.Goals as goal
 
 pub returns : goal.returns
 unfolding decode
-returns c = c.range_checked.ensures ∙ ap (range_checked c.args.sheet.now c.args.setup.now) c.spelled.ensures
+returns c = c.range_checked.ensures ∙ ap (range_checked c.args.sheet.now.bytes c.args.setup.now) c.spelled.ensures

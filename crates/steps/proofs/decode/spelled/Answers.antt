@@ -1,24 +1,10 @@
 -- By the destination.
-use Rattle.laws.proofs.Prelude.{tests}
-use Rattle.steps.specs.Decode.{spelled}
+use Rattle.laws.proofs.Prelude.{sym, ◌∙◌}
+use Rattle.steps.proofs.Spelled.{spelled_none, spelled_some}
 use Rattle.steps.proofs.decode.spelled.Goals as goal
 
-pub returns-in-0 : goal.returns-in-0
-unfolding spelled
-returns-in-0 c = rw c.in-0.is c.of_kind.ensures
+pub returns-in_err-from_number : goal.returns-in_err-from_number
+returns-in_err-from_number c = c.from_residual.ensures ∙ sym (spelled_none _ _ _ _ (rw c.in_err-from_number.was at c.from_number.ensures))
 
-pub returns-in-1 : goal.returns-in-1
-unfolding spelled
-returns-in-1 c = rw c.in-1.is c.of_kind-in-1.ensures
-
-pub returns-in-2 : goal.returns-in-2
-unfolding spelled
-returns-in-2 c = rw c.in-2.is c.of_kind-in-2.ensures
-
-pub returns-in-3 : goal.returns-in-3
-unfolding spelled
-returns-in-3 c = rw c.in-3.is c.of_kind-in-3.ensures
-
-pub returns-in_default : goal.returns-in_default
-unfolding spelled
-returns-in_default c = simp (tests, c.in_default.in_default-own.rest.1, c.in_default.in_default-own.rest.0.1, c.in_default.in_default-own.rest.0.0.1, c.in_default.in_default-own.rest.0.0.0.1)
+pub returns : goal.returns
+returns c = c.of_kind.ensures ∙ sym (spelled_some _ _ _ _ _ (rw c.in_ok-from_number.was at c.from_number.ensures))

@@ -9,7 +9,7 @@ pub returns-then-y-eq0 : goal.returns-then-y-eq0
 unfolding mined_slot
 returns-then-y-eq0 c =
     rw (← c.confirm_entry-y.ensures) (pool_out (bit c.args.entering c.args.t || in_ancestry
-    c.args.sheet.now (bit c.args.leaving) c.args.t) c.confirm_entry-y.result c.if-y-eq0.true)
+    c.args.sheet.now.bytes (bit c.args.leaving) c.args.t) c.confirm_entry-y.result c.if-y-eq0.true)
 
 pub returns-then-has : goal.returns-then-has
 unfolding mined_slot

@@ -1,34 +1,33 @@
 -- The tests in their order.
-use Rattle.steps.specs.Forms.Mining.{include_tests_in}
+use Rattle.std.proofs.lemmas.Result.{err_from_is_err_and}
+use Rattle.laws.proofs.Prelude.{refl, ap, not, ◌∙◌}
 use Rattle.slots.specs.Conflict.{no_conflict}
-use Rattle.laws.proofs.Prelude.{none_left, fails, passes, fails_not, passes_not, refl}
+use Rattle.steps.specs.Forms.Mining.{include_tests_in}
+use Rattle.sheet.proofs.Refusing.{stops, goes, last}
 use Rattle.steps.proofs.mining.include_refusal.Goals as goal
 
-pub returns-then-conflict_in : goal.returns-then-conflict_in
+pub returns-in_err-require : goal.returns-in_err-require
 unfolding include_tests_in no_conflict
-returns-then-conflict_in c = rw (← c.placed.ensures) (fails_not _ _ _ _ c.conflict_in.ensures c.if-conflict_in.true)
+returns-in_err-require c =
+    stops _ _ _ _ _ c.in_err-require.ensures (ap not (c.conflict_in.ensures ∙ rw c.placed.ensures refl)) (err_from_is_err_and _ c.from_residual.ensures.1)
 
-pub returns-then-not-parent_there : goal.returns-then-not-parent_there
+pub returns-in_err-require-2 : goal.returns-in_err-require-2
 unfolding include_tests_in no_conflict
-returns-then-not-parent_there c = rw (← c.placed.ensures) (passes_not _ _ _ _ _ c.conflict_in.ensures c.if-conflict_in.false (rw (c.placed.ensures, ← c.placed-2.ensures) (fails _ _ _ _ c.parent_there.ensures c.if-not-parent_there.true-raw)))
+returns-in_err-require-2 c =
+    goes _ _ _ _ c.in_ok-require.ensures (ap not (c.conflict_in.ensures ∙ rw c.placed.ensures refl))
+    (stops _ _ _ _ _ c.in_err-require-2.ensures (c.parent_there.ensures ∙ rw c.placed-2.ensures refl) (err_from_is_err_and _ c.from_residual-in_err-require-2.ensures.1))
 
-pub returns-then-not-has : goal.returns-then-not-has
+pub returns-in_err-require-3 : goal.returns-in_err-require-3
 unfolding include_tests_in no_conflict
-returns-then-not-has c =
-    rw (← c.placed.ensures) (passes_not _ _ _ _ _ c.conflict_in.ensures c.if-conflict_in.false
-    (rw (c.placed.ensures, ← c.placed-2.ensures) (passes _ _ _ _ _ c.parent_there.ensures c.if-not-parent_there.false-raw
-    (fails _ _ _ _ c.has.ensures c.if-not-has.true-raw))))
-
-pub returns-then-any : goal.returns-then-any
-unfolding include_tests_in no_conflict
-returns-then-any c =
-    rw (← c.placed.ensures) (passes_not _ _ _ _ _ c.conflict_in.ensures c.if-conflict_in.false
-    (rw (c.placed.ensures, ← c.placed-2.ensures) (passes _ _ _ _ _ c.parent_there.ensures c.if-not-parent_there.false-raw
-    (passes _ _ _ _ _ c.has.ensures c.if-not-has.false-raw (fails_not _ _ _ _ refl c.if-any.true)))))
+returns-in_err-require-3 c =
+    goes _ _ _ _ c.in_ok-require.ensures (ap not (c.conflict_in.ensures ∙ rw c.placed.ensures refl))
+    (goes _ _ _ _ c.in_ok-require-2.ensures (c.parent_there.ensures ∙ rw c.placed-2.ensures refl)
+    (stops _ _ _ _ _ c.in_err-require-3.ensures c.has.ensures (err_from_is_err_and _ c.from_residual-in_err-require-3.ensures.1)))
 
 pub returns : goal.returns
 unfolding include_tests_in no_conflict
 returns c =
-    rw (← c.placed.ensures) (passes_not _ _ _ _ _ c.conflict_in.ensures c.if-conflict_in.false
-    (rw (c.placed.ensures, ← c.placed-2.ensures) (passes _ _ _ _ _ c.parent_there.ensures c.if-not-parent_there.false-raw
-    (passes _ _ _ _ _ c.has.ensures c.if-not-has.false-raw (passes_not _ _ _ _ _ refl c.if-any.false none_left)))))
+    goes _ _ _ _ c.in_ok-require.ensures (ap not (c.conflict_in.ensures ∙ rw c.placed.ensures refl))
+    (goes _ _ _ _ c.in_ok-require-2.ensures (c.parent_there.ensures ∙ rw c.placed-2.ensures refl)
+    (goes _ _ _ _ c.in_ok-require-3.ensures c.has.ensures
+    (last _ _ _ _ c.require-4.ensures refl)))

@@ -1,26 +1,24 @@
 -- The tests in their order.
-use Rattle.laws.proofs.Prelude.{refl, [], ltb, lt-ltb, le-ltb, none_left, fails, passes, fails_not, passes_not}
-use Rattle.sheet.specs.Refusal.{step_blocks}
+use Rattle.std.proofs.lemmas.Result.{err_from_is_err_and}
+use Rattle.laws.proofs.Prelude.{refl}
 use Rattle.steps.specs.Forms.Mining.{mine_tests_in}
+use Rattle.sheet.proofs.Refusing.{stops, goes, last}
 use Rattle.steps.proofs.mining.mine_refusal.Goals as goal
 
-pub returns-then-any : goal.returns-then-any
+pub returns-in_err-require : goal.returns-in_err-require
 unfolding mine_tests_in
-returns-then-any c = fails_not _ _ _ _ refl c.if-any.true
+returns-in_err-require c =
+    stops _ _ _ _ _ c.in_err-require.ensures refl (err_from_is_err_and _ c.from_residual.ensures.1)
 
-pub returns-then-not-block_met : goal.returns-then-not-block_met
+pub returns-in_err-require-2 : goal.returns-in_err-require-2
 unfolding mine_tests_in
-returns-then-not-block_met c = passes_not _ _ _ _ _ refl c.if-any.false (fails _ _ _ _ c.block_met.ensures c.if-not-block_met.true-raw)
-
-pub returns-then-view-ge10000 : goal.returns-then-view-ge10000
-unfolding mine_tests_in
-returns-then-view-ge10000 c =
-    passes_not _ _ _ _ _ refl c.if-any.false (passes _ _ _ _ _ c.block_met.ensures c.if-not-block_met.false-raw
-    (fails step_blocks (ltb c.args.view.mined 10000) (ltb c.args.view.mined 10000) [] refl (rw (le-ltb _ _ c.if-view-ge10000.true))))
+returns-in_err-require-2 c =
+    goes _ _ _ _ c.in_ok-require.ensures refl
+    (stops _ _ _ _ _ c.in_err-require-2.ensures c.block_met.ensures (err_from_is_err_and _ c.from_residual-in_err-require-2.ensures.1))
 
 pub returns : goal.returns
 unfolding mine_tests_in
 returns c =
-    passes_not _ _ _ _ _ refl c.if-any.false (passes _ _ _ _ _ c.block_met.ensures c.if-not-block_met.false-raw
-    (passes step_blocks 0 (ltb c.args.view.mined 10000) (ltb c.args.view.mined 10000) [] refl (rw (lt-ltb _ _ c.if-view-ge10000.false))
-    none_left))
+    goes _ _ _ _ c.in_ok-require.ensures refl
+    (goes _ _ _ _ c.in_ok-require-2.ensures c.block_met.ensures
+    (last _ _ _ _ c.require-3.ensures refl))

@@ -1,38 +1,42 @@
 -- The tests in their order.
-use Rattle.steps.specs.Forms.Sending.{send_tests_in}
+use Rattle.std.proofs.lemmas.Result.{err_from_is_err_and}
+use Rattle.laws.proofs.Prelude.{refl, ap, not}
 use Rattle.slots.specs.Conflict.{no_conflict}
-use Rattle.laws.proofs.Prelude.{none_left, fails, passes, fails_not, passes_not, refl}
+use Rattle.steps.specs.Forms.Sending.{send_tests_in}
+use Rattle.sheet.proofs.Refusing.{stops, goes, last}
 use Rattle.steps.proofs.sending.send_refusal.Goals as goal
 
-pub returns-then-not-allowed : goal.returns-then-not-allowed
+pub returns-in_err-require : goal.returns-in_err-require
 unfolding send_tests_in no_conflict
-returns-then-not-allowed c = fails _ _ _ _ refl c.if-not-allowed.true-raw
+returns-in_err-require c =
+    stops _ _ _ _ _ c.in_err-require.ensures refl (err_from_is_err_and _ c.from_residual.ensures.1)
 
-pub returns-then-conflict_in : goal.returns-then-conflict_in
+pub returns-in_err-require-2 : goal.returns-in_err-require-2
 unfolding send_tests_in no_conflict
-returns-then-conflict_in c = passes _ _ _ _ _ refl c.if-not-allowed.false-raw (fails_not _ _ _ _ c.conflict_in.ensures c.if-conflict_in.true)
+returns-in_err-require-2 c =
+    goes _ _ _ _ c.in_ok-require.ensures refl
+    (stops _ _ _ _ _ c.in_err-require-2.ensures (ap not c.conflict_in.ensures) (err_from_is_err_and _ c.from_residual-in_err-require-2.ensures.1))
 
-pub returns-then-not-parent_there : goal.returns-then-not-parent_there
+pub returns-in_err-require-3 : goal.returns-in_err-require-3
 unfolding send_tests_in no_conflict
-returns-then-not-parent_there c = passes _ _ _ _ _ refl c.if-not-allowed.false-raw (passes_not _ _ _ _ _ c.conflict_in.ensures c.if-conflict_in.false (fails _ _ _ _ c.parent_there.ensures c.if-not-parent_there.true-raw))
+returns-in_err-require-3 c =
+    goes _ _ _ _ c.in_ok-require.ensures refl
+    (goes _ _ _ _ c.in_ok-require-2.ensures (ap not c.conflict_in.ensures)
+    (stops _ _ _ _ _ c.in_err-require-3.ensures c.parent_there.ensures (err_from_is_err_and _ c.from_residual-in_err-require-3.ensures.1)))
 
-pub returns-then-not-unlocked : goal.returns-then-not-unlocked
+pub returns-in_err-require-4 : goal.returns-in_err-require-4
 unfolding send_tests_in no_conflict
-returns-then-not-unlocked c =
-    passes _ _ _ _ _ refl c.if-not-allowed.false-raw (passes_not _ _ _ _ _ c.conflict_in.ensures c.if-conflict_in.false
-    (passes _ _ _ _ _ c.parent_there.ensures c.if-not-parent_there.false-raw
-    (fails _ _ _ _ c.unlocked.ensures c.if-not-unlocked.true-raw)))
-
-pub returns-then-not-signed : goal.returns-then-not-signed
-unfolding send_tests_in no_conflict
-returns-then-not-signed c =
-    passes _ _ _ _ _ refl c.if-not-allowed.false-raw (passes_not _ _ _ _ _ c.conflict_in.ensures c.if-conflict_in.false
-    (passes _ _ _ _ _ c.parent_there.ensures c.if-not-parent_there.false-raw (passes _ _ _ _ _ c.unlocked.ensures
-    c.if-not-unlocked.false-raw (fails _ _ _ _ c.signed.ensures c.if-not-signed.true-raw))))
+returns-in_err-require-4 c =
+    goes _ _ _ _ c.in_ok-require.ensures refl
+    (goes _ _ _ _ c.in_ok-require-2.ensures (ap not c.conflict_in.ensures)
+    (goes _ _ _ _ c.in_ok-require-3.ensures c.parent_there.ensures
+    (stops _ _ _ _ _ c.in_err-require-4.ensures c.unlocked.ensures (err_from_is_err_and _ c.from_residual-in_err-require-4.ensures.1))))
 
 pub returns : goal.returns
 unfolding send_tests_in no_conflict
 returns c =
-    passes _ _ _ _ _ refl c.if-not-allowed.false-raw (passes_not _ _ _ _ _ c.conflict_in.ensures c.if-conflict_in.false
-    (passes _ _ _ _ _ c.parent_there.ensures c.if-not-parent_there.false-raw (passes _ _ _ _ _ c.unlocked.ensures
-    c.if-not-unlocked.false-raw (passes _ _ _ _ _ c.signed.ensures c.if-not-signed.false-raw none_left))))
+    goes _ _ _ _ c.in_ok-require.ensures refl
+    (goes _ _ _ _ c.in_ok-require-2.ensures (ap not c.conflict_in.ensures)
+    (goes _ _ _ _ c.in_ok-require-3.ensures c.parent_there.ensures
+    (goes _ _ _ _ c.in_ok-require-4.ensures c.unlocked.ensures
+    (last _ _ _ _ c.require-5.ensures c.signed.ensures))))
