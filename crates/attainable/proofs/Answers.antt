@@ -27,16 +27,13 @@ module _ (s : List ℕ) (o : Others) (also : ℕ) where
   shown_start = record { by = λ u p x r i h. clash h (no_bit i) }
 
   -- a turn with some secrets: what it shows is shown by what can come; where that is no more, the set is what can come
-  module _ (ok : Checked s) (secrets wide signed members shows : ℕ) (h : Shown s o also secrets) (w : (wide ≡ secrets) × (wide < 256))
+  module _ (ok : Checked s) (secrets wide signed members shows : ℕ) (h : Shown s o also secrets) (w : wide ≡ secrets) (small : secrets < 256)
       (ec : signed ≡ signers s o wide)
       (em : members ≡ reach_set s o.confirmed (bit_and (bit_or (bit_or o.waits (bit_and also o.sends)) signed) (4294967295 - o.gone)))
       (es : shows ≡ shown_in s o.shows members) where
-    small : secrets < 256
-    small = omega (arith, w)
-
     reached : members ≡ reach_set s o.confirmed (can_of s o (asked_in o also) secrets)
     unfolding asked_in can_of
-    reached = rw (em, ec, w.0)
+    reached = rw (em, ec, w)
 
     pub shown_more : Shown s o also (bit_or secrets shows)
     shown_more = rw (es, reached) (record { by = λ u p x r. shown_within s u ok p x also o r secrets small (h.by u p x r) })
@@ -50,7 +47,7 @@ module _ (s : List ℕ) (o : Others) (also : ℕ) where
     secrets_left n = omega (arith, small, or_more secrets shows, n)
 
   module _ (ok : Checked s) (all shows secrets signed : ℕ) (a : Attains s o also all) (e : shows ≡ shown_in s o.shows all)
-      (w : (secrets ≡ shows) × (secrets < 256)) (ec : signed ≡ signers s o secrets) where
+      (w : secrets ≡ shows) (small : secrets < 256) (ec : signed ≡ signers s o secrets) where
     abbrev few : count s ≤ 32
     few = ok.sized.few
 
@@ -79,10 +76,10 @@ module _ (s : List ℕ) (o : Others) (also : ℕ) where
           is = λ u p x r.
               let members = attainable s u p x (bit also) in
               let same : all ≡ set_below (count s) (bit members) = a.is u p x r ∙ attained_set s u ok p x (bit also) in
-              let exact : secrets ≡ shown_of s members = w.0 ∙ e ∙ rw (a.is u p x r) (shown_of_lem s u ok p x also o r members) in
+              let exact : secrets ≡ shown_of s members = w ∙ e ∙ rw (a.is u p x r) (shown_of_lem s u ok p x also o r members) in
               ap (λ (m : ℕ). bit_and m moved) same
               ∙ set_and (count s) (bit members) moved few (moved_small u p x r)
               ∙ set_same (count s) (λ t. bit members t && bit moved t)
               (λ t. any_below destinations (λ d. not (eqb d x) && comes s u p x (bit also) members t d))
-              (λ t l. rw (moved_bit t l) (elsewhere_is s u ok p x also o r secrets w.1 exact t l));
+              (λ t l. rw (moved_bit t l) (elsewhere_is s u ok p x also o r secrets small exact t l));
         }

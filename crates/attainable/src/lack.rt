@@ -5,7 +5,6 @@ ghost use Rattle.laws.specs.Mask.{bit};
 ghost use Rattle.sheet.specs.Field.{count, Sized};
 ghost use Rattle.sheet.specs.Checked.{Checked};
 ghost use Rattle.slots.specs.Slot.{shared_for};
-ghost use Rattle.steps.specs.Decode.{shares_to};
 ghost use Rattle.position.specs.Position.{slot};
 ghost use Rattle.soonest.specs.Forms.Table.{Filled};
 ghost use Rattle.attainable.specs.Forms.Others.{Lacks};
@@ -13,31 +12,10 @@ ghost use Rattle.attainable.specs.Forms.Others.{Lacks};
 use position::Position;
 use sheet::field::Sheet;
 use sheet::{set, table};
-use slots::party;
+use steps::decode;
 
 // Above every mask of signatures.
 const UNMET: u16 = 256;
-
-// A mask in a wider type.
-fn wide(mask: u8) -> u16
-    ensures { result ≡ mask }
-{
-    mask as u16
-}
-
-// Whether t may be shared for a destination.
-fn shares_to(sheet: &Sheet, t: usize, destination: u8) -> bool
-    requires t_bound { t < count sheet.now.bytes }
-    ensures { result ≡ shares_to sheet.now.bytes t destination }
-{
-    if party::is_contract(sheet, t) {
-        return destination == 2;
-    }
-    if sheet.is_party(destination) {
-        return party::is_payee(sheet, t, destination);
-    }
-    false
-}
 
 // What is lacking of t for a destination, where `held` is what the others have of all, and `given` what is shared of t for it.
 fn lack_of(
@@ -56,13 +34,13 @@ fn lack_of(
     if barred {
         return UNMET;
     }
-    if !shares_to(sheet, t, destination) {
+    if !decode::shares_to(sheet, t, destination) {
         return UNMET;
     }
     if destination == party {
         return UNMET;
     }
-    wide(sheet.required(t) & !(held | given))
+    u16::from(sheet.required(t) & !(held | given))
 }
 
 // What the others lack of each transaction for a destination, where `unsent` are those that they never send.

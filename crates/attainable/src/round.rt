@@ -87,7 +87,7 @@ fn shown_by(members: u32, secrets: u8, t: usize) -> u8
 }
 
 // The secrets that the members of a set show.
-fn shown(shows: [u8; 32], sheet: &Sheet, members: u32) -> u8
+pub fn shown(shows: [u8; 32], sheet: &Sheet, members: u32) -> u8
     ensures { result ≡ shown_in sheet.now.bytes shows members }
 {
     let n = sheet.count();
@@ -98,13 +98,6 @@ fn shown(shows: [u8; 32], sheet: &Sheet, members: u32) -> u8
     found
 }
 
-// A mask in a wider type.
-fn wide(secrets: u8) -> u32
-    ensures { (result ≡ secrets) × (result < 256) }
-{
-    secrets as u32
-}
-
 // What can come without the party, which sends transactions of the set `also`: again while more secrets are shown.
 pub fn attainable(others: Others, sheet: &Sheet, also: u32) -> u32
     requires { Checked sheet.now.bytes }
@@ -113,7 +106,7 @@ pub fn attainable(others: Others, sheet: &Sheet, also: u32) -> u32
     let asked = others.waits | (also & others.sends);
     let mut secrets: u8 = 0;
     loop {
-        let can = (asked | signers(others, sheet, wide(secrets))) & !others.gone;
+        let can = (asked | signers(others, sheet, u32::from(secrets))) & !others.gone;
         let members = reach(sheet, others.confirmed, can);
         let shows = others.shows;
         let more = secrets | shown(shows, sheet, members);
@@ -132,6 +125,6 @@ pub fn attainable_elsewhere(others: Others, sheet: &Sheet, also: u32, attained: 
 {
     let asked = others.waits_elsewhere | (also & others.sends_elsewhere);
     let shows = others.shows;
-    let secrets = wide(shown(shows, sheet, attained));
+    let secrets = u32::from(shown(shows, sheet, attained));
     attained & (asked | signers(others, sheet, secrets))
 }

@@ -5,7 +5,7 @@ use Rattle.position.proofs.Rules.{step_field, step}
 use Rattle.position.specs.declared.Position.{Position}
 use Rattle.position.specs.declared.Ran.{Ran}
 use Rattle.call_run.proofs.Bounds.{step_below}
-use Rattle.call_ask.specs.declared.Asked.{Asked}
+use Rattle.sheet.specs.declared.refusal.Answer.{Answer}
 use Rattle.call_ask.specs.Ask.{length_right, open_run, step_count, step_of, step_number, own, ask_tests, ask_answer}
 use Rattle.call_ask.proofs.Own.{own_passes, own_fails, own_last}
 use Rattle.call_ask.proofs.Opens.{opened_counts, open_bounds}
@@ -74,5 +74,5 @@ module _ (s u : List ℕ) where
         (λ e. rw (asked_refused (eqb-false opened.refusal 0 e)) w)
 
     -- the same of what the code found
-    pub asked_bounds : (a : Asked) → a ≡ ask_answer s u j b → (a.refusal < 33) × (a.count ≤ 16384)
+    pub asked_bounds : (a : Answer) → a ≡ ask_answer s u j b → (a.refusal < 33) × (a.count ≤ 16384)
     asked_bounds a e = rw e ask_bounds

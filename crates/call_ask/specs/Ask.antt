@@ -3,6 +3,7 @@
 use Rattle.std.specs.Prelude.{ℕ, ◌%◌, Bool, true, false, ◌&&◌, List, [], ◌∷◌, ◌++◌, eqb, ltb, length}
 use Rattle.laws.specs.Booleans.{pick}
 use Rattle.laws.specs.Failing.{first_failing}
+use Rattle.sheet.specs.declared.refusal.Answer.{Answer}
 use Rattle.sheet.specs.Refusal.{accepted, step_field, journal_length}
 use Rattle.sheet.specs.Field.{byte}
 use Rattle.sheet.specs.Check.{sheet_tests}
@@ -11,7 +12,6 @@ use Rattle.position.specs.declared.Position.{Position}
 use Rattle.position.specs.declared.Ran.{Ran}
 use Rattle.position.specs.Position.{start}
 use Rattle.position.specs.Play.{FourBytes, journal_steps, step, run}
-use Rattle.call_ask.specs.declared.Asked.{Asked}
 
 -- 24 "journal not a multiple of 4, or over 65,536 bytes"; "24 now covers .., in both calls, a journal already at 65,536 bytes": a journal
 -- of this length has whole steps, and room for one more
@@ -52,7 +52,7 @@ unfoldable pub ask_tests : List ℕ → List ℕ → Ran → List ℕ → List (
 ask_tests s u r b = own r.refusal ∷ own (step_number s u r.position b) ∷ []
 
 -- "the refusal number with the count of steps in the journal"; where the journal is refused "run's count"
-unfoldable pub ask_answer : List ℕ → List ℕ → List ℕ → List ℕ → Asked
+unfoldable pub ask_answer : List ℕ → List ℕ → List ℕ → List ℕ → Answer
 ask_answer s u j b =
     let r = open_run s u (length_right (length j)) j in
     record {

@@ -5,13 +5,12 @@ ghost use Rattle.sheet.specs.Refusal.{refused};
 ghost use Rattle.sheet.specs.Checked.{Fit};
 ghost use Rattle.call_ask.specs.Ask.{length_right, open_tests, open_run, step_number, ask_answer};
 
-use crate::Asked;
 use call_run::journal::{ran, step_at};
 use position::journal::start;
 use position::{Position, Ran};
 use sheet::check::sheet_refusal;
 use sheet::field::Sheet;
-use sheet::refusal::{Refusal, number_of};
+use sheet::refusal::{Answer, Refusal, number_of};
 use sheet::setup::setup_refusal;
 
 // 24: whole steps, and room for one more.
@@ -47,7 +46,7 @@ pub fn open_run(sheet: &[u8], setup: &[u8], right: bool, journal: &[u8]) -> Ran
     }
 }
 
-// The step's own refusal on a position.
+// The step's own refusal on a position: a number, as in step_number of specs/Ask.antt.
 pub fn step_number(position: Position, sheet: &Sheet, setup: &[u8], step: &[u8]) -> u32
     requires { Fit sheet.now.bytes setup.now }
     ensures { result ≡ step_number sheet.now.bytes setup.now position step.now }
@@ -60,20 +59,20 @@ pub fn step_number(position: Position, sheet: &Sheet, setup: &[u8], step: &[u8])
 }
 
 // Asks whether a step would pass after a journal: the refusal, and the steps in the journal; where the journal is refused, run's count.
-pub fn ask(sheet: &[u8], setup: &[u8], journal: &[u8], step: &[u8]) -> Asked
+pub fn ask(sheet: &[u8], setup: &[u8], journal: &[u8], step: &[u8]) -> Answer
     ensures { result ≡ ask_answer sheet.now setup.now journal.now step.now }
 {
     let right = length_right(journal.len());
     let ran = open_run(sheet, setup, right, journal);
     let count = ran.accepted;
     if ran.refusal != 0 {
-        return Asked {
+        return Answer {
             refusal: ran.refusal,
             count,
         };
     }
     let position = ran.position;
-    Asked {
+    Answer {
         refusal: step_number(position, &Sheet::of(sheet), setup, step),
         count,
     }

@@ -61,7 +61,7 @@ fn write_step(step: &[u8], out: &mut [u8])
 }
 
 // Commits a step to the journal of so many bytes that the buffer starts with: the refusal; where there is none, the step stands behind
-// the journal.
+// the journal. A number, which C gets: commit_answer of specs/Commit.antt makes it as one.
 pub fn commit(
     sheet: &[u8],
     setup: &[u8],

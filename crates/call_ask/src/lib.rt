@@ -4,11 +4,3 @@
 
 pub mod ask;
 pub mod commit;
-
-// The answer of ask: the refusal, and the count of steps in the journal.
-#[derive(Clone, Copy)]
-pub struct Asked {
-    // a number, as in ask_answer of specs/Ask.antt
-    pub refusal: u32,
-    pub count: u32,
-}

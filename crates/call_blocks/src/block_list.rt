@@ -2,10 +2,9 @@
 ghost use Rattle.std.specs.Prelude.{◌+◌, ◌≤◌, ◌<◌, ◌≡◌, ◌&&◌, length};
 ghost use Rattle.laws.specs.Failing.{first_failing};
 ghost use Rattle.sheet.specs.Refusal.{refused};
-ghost use Rattle.sheet.specs.Field.{count, Sized};
+ghost use Rattle.sheet.specs.Field.{Sized};
 ghost use Rattle.sheet.specs.Checked.{Fit};
 ghost use Rattle.ledger.specs.Entry.{before};
-ghost use Rattle.steps.specs.Decode.{shares_to};
 ghost use Rattle.call_blocks.specs.BlockList.{list_entries, entry_named, fields_named, block_within, entries_rise, list_tests};
 ghost use Rattle.call_blocks.specs.Forms.Listed.{listed_at, entry_of};
 
@@ -13,7 +12,7 @@ use crate::{Listed, kept};
 use sheet::field::Sheet;
 use sheet::little::u16_at;
 use sheet::refusal::{Refusal, require};
-use slots::party;
+use steps::decode;
 
 // The last block that a list may have.
 const LIMIT: u16 = 10000;
@@ -30,27 +29,13 @@ pub fn listed_at(list: &[u8], i: usize) -> Listed
     }
 }
 
-// Whether t goes to a destination: a contract transaction to 2, a paying one to a payee.
-fn goes_to(sheet: &Sheet, t: usize, destination: u8) -> bool
-    requires t_bound { t < count sheet.now.bytes }
-    ensures { result ≡ shares_to sheet.now.bytes t destination }
-{
-    if party::is_contract(sheet, t) {
-        return destination == 2;
-    }
-    if sheet.is_party(destination) {
-        return party::is_payee(sheet, t, destination);
-    }
-    false
-}
-
 // Whether an entry's transaction is of the sheet, and goes to its destination.
 fn entry_named(sheet: &Sheet, entry: Listed) -> bool
     ensures { result ≡ entry_named sheet.now.bytes (entry_of entry) }
 {
     let t = sheet::field::wide(entry.transaction);
     if t < sheet.count() {
-        return goes_to(sheet, t, entry.destination);
+        return decode::shares_to(sheet, t, entry.destination);
     }
     false
 }

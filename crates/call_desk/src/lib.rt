@@ -21,6 +21,7 @@ fn call_refusal(sheet: &[u8], bundle: &[u8]) -> Result<(), Refusal>
 }
 
 // Runs every swap of a bundle: the refusal of the call; where there is none, the swaps' answers stand at the front of the buffer.
+// A number, which C gets: desk_answer of specs/Desk.antt makes it as one.
 pub fn desk(sheet: &[u8], bundle: &[u8], out: &mut [u8]) -> u32
     ensures value { result ≡ (desk_answer sheet.now bundle.now out.old).refusal }
     ensures out_after { out.new ≡ (desk_answer sheet.now bundle.now out.old).buffer }

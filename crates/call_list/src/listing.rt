@@ -7,12 +7,11 @@ ghost use Rattle.position.specs.Open.{open_steps, list_bytes};
 ghost use Rattle.position.specs.Answers.{fitted};
 ghost use Rattle.call_list.specs.Forms.SetsBytes.{two_bytes, sets_bytes, sets_count};
 
-use crate::Listed;
 use output::open;
 use position::Position;
 use queries::OpenSets;
 use sheet::field::Sheet;
-use sheet::refusal::{ACCEPTED, Refusal};
+use sheet::refusal::{ACCEPTED, Answer, Refusal};
 
 // An actor's steps, at the front of the buffer; the answer is their length in bytes.
 fn write_actor(sets: OpenSets, actor: u8, out: &mut [u8]) -> usize
@@ -70,27 +69,27 @@ fn write_fitting(
     carol: OpenSets,
     miner: OpenSets,
     out: &mut [u8],
-) -> Listed
+) -> Answer
     ensures refusal_value { result.refusal ≡ (fitted (sets_bytes alice bob carol miner) (sets_count alice bob carol miner) out.old).refusal }
     ensures count_value { result.count ≡ (fitted (sets_bytes alice bob carol miner) (sets_count alice bob carol miner) out.old).count }
     ensures out_after { out.new ≡ (fitted (sets_bytes alice bob carol miner) (sets_count alice bob carol miner) out.old).buffer }
 {
     let count = sets_count(alice, bob, carol, miner);
     if out.len() < 4 * count {
-        return Listed {
+        return Answer {
             refusal: Refusal::BufferShort as u32,
             count: 0,
         };
     }
     write_all(alice, bob, carol, miner, out);
-    Listed {
+    Answer {
         refusal: ACCEPTED,
         count: count as u32,
     }
 }
 
 // The open steps of the position.
-pub fn write_list(position: Position, sheet: &Sheet, setup: &[u8], out: &mut [u8]) -> Listed
+pub fn write_list(position: Position, sheet: &Sheet, setup: &[u8], out: &mut [u8]) -> Answer
     requires { Fit sheet.now.bytes setup.now }
     ensures refusal_value { result.refusal ≡ (fitted (list_bytes sheet.now.bytes setup.now position) (length (open_steps sheet.now.bytes setup.now position)) out.old).refusal }
     ensures count_value { result.count ≡ (fitted (list_bytes sheet.now.bytes setup.now position) (length (open_steps sheet.now.bytes setup.now position)) out.old).count }

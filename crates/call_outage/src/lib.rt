@@ -15,6 +15,7 @@ use sheet::field::Sheet;
 use sheet::refusal::{ACCEPTED, Refusal};
 
 // The verdicts of an outage of so many blocks: the refusal; where there is none, the rows stand at the front of the buffer.
+// A number, which C gets: outage_answer of specs/Answer.antt makes it as one.
 pub fn outage(sheet: &[u8], setup: &[u8], journal: &[u8], blocks: u32, out: &mut [u8]) -> u32
     ensures value { result ≡ (outage_answer sheet.now setup.now journal.now blocks out.old).refusal }
     ensures out_after { out.new ≡ (outage_answer sheet.now setup.now journal.now blocks out.old).buffer }

@@ -15,7 +15,7 @@ use readings::report;
 use sheet::field::Sheet;
 use slots::{conflict, lock_height};
 use soonest::{block, deadline, table};
-use steps::{View, parent};
+use steps::View;
 
 // The soonest block, never for a dead one.
 fn block_from(dead: bool, soonest: u32) -> u32
@@ -68,9 +68,7 @@ pub fn write_rows(position: Position, sheet: &Sheet, setup: &[u8], blocks: u32, 
     let soonest = block::soonest_blocks(position, sheet, per_day);
     let lines = payees::lines(sheet);
     for t in 0..sheet.count() {
-        let up = parent::slot_above(sheet, t);
-        let above = position.slots[up];
-        let since = parent::block_above(sheet, t, above.height);
+        let since = position.since(sheet, t);
         write_at(
             sheet,
             setup,

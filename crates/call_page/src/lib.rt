@@ -11,6 +11,7 @@ use sheet::refusal::{ACCEPTED, Refusal};
 mod line;
 
 // The page: the refusal; where there is none, its lines stand at the front of the buffer. They are laid out from the rows of the report.
+// A number, which C gets: page_answer of specs/Page.antt makes it as one.
 pub fn page(sheet: &[u8], setup: &[u8], journal: &[u8], out: &mut [u8]) -> u32
     ensures value { result ≡ (page_answer sheet.now setup.now journal.now out.old).refusal }
     ensures out_after { out.new ≡ (page_answer sheet.now setup.now journal.now out.old).buffer }

@@ -11,6 +11,7 @@ use sheet::field::Sheet;
 use sheet::refusal::{ACCEPTED, Refusal};
 
 // Reports: the refusal; where there is none, the rows stand at the front of the buffer.
+// A number, which C gets: report_answer of dated's specs/Report.antt makes it as one.
 pub fn report(sheet: &[u8], setup: &[u8], journal: &[u8], out: &mut [u8]) -> u32
     ensures value { result ≡ (report_answer sheet.now setup.now journal.now out.old).refusal }
     ensures out_after { out.new ≡ (report_answer sheet.now setup.now journal.now out.old).buffer }

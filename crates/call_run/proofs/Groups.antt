@@ -8,7 +8,7 @@ use lib.Seq.{drop-cons}
 one_byte : (j : List ℕ) (i k : ℕ) → i < length j → k ≡ suc i → drop i j ≡ byte j i ∷ drop k j
 one_byte j i k h e = rw e (drop-cons j i 0 h)
 
-four_bytes : (j : List ℕ) (i : ℕ) → i + 4 ≤ length j → drop i j ≡ byte j i ∷ byte j (i + 1) ∷ byte j (i + 2) ∷ byte j (i + 3) ∷ drop (i + 4) j
+pub four_bytes : (j : List ℕ) (i : ℕ) → i + 4 ≤ length j → drop i j ≡ byte j i ∷ byte j (i + 1) ∷ byte j (i + 2) ∷ byte j (i + 3) ∷ drop (i + 4) j
 four_bytes j i h =
     one_byte j i (i + 1) (omega arith) (omega arith)
     ∙ ap (λ r. byte j i ∷ r) (one_byte j (i + 1) (i + 2) (omega arith) (omega arith))

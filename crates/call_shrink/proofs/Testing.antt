@@ -1,6 +1,6 @@
 -- The tests before any step, one after another.
 -- Assumes nothing.
-use Rattle.laws.proofs.Prelude.{ℕ, ◌*◌, ◌≤◌, ◌<◌, ◌≡◌, refl, sym, ◌∙◌, true, List, [], ◌∷◌, leb, length, le-leb, lt-leb, first_failing, numbered, passed_append}
+use Rattle.laws.proofs.Prelude.{ℕ, ◌*◌, ◌≡◌, refl, sym, ◌∙◌, true, List, [], ◌∷◌, leb, length, first_failing, numbered, passed_append}
 use Rattle.laws.proofs.Prelude.{failed_append}
 use Rattle.position.proofs.Rules.{array_tests, sheet_tests, sheet_refusal, setup_tests, call_tests}
 use Rattle.call_run.proofs.Calls.{by_sheet}

@@ -1,11 +1,13 @@
 -- A step that could not go, and the same step right after it: that one cannot go either, so it need not be tried.
 -- Assumes nothing.
-use Rattle.laws.proofs.Prelude.{ℕ, ◌+◌, ◌-◌, ◌*◌, ◌≤◌, ◌≡◌, refl, sym, ◌∙◌, Bool, true, false, not, ◌&&◌, and-false, List, [], ◌∷◌, eqb, ltb, length, eqb-true, eq-eqb}
+use Rattle.laws.proofs.Prelude.{ℕ, ◌+◌, ◌-◌, ◌*◌, ◌≤◌, ◌≡◌, refl, sym, ◌∙◌, Bool, true, false, not, ◌&&◌, and-false, and-true, List, [], ◌∷◌, eqb, ltb, length, take, drop, eqb-true, eq-eqb}
 use Rattle.laws.proofs.Prelude.{lt-ltb, arith, split, either, clash, and_parts}
-use Rattle.position.proofs.Rules.{accepted, start, FourBytes, journal_steps, step, run_from, step_at}
+use Rattle.std.specs.Prelude.{nat_eq}
+use Rattle.std.specs.Cmp.Lexicographic.{pointwise}
+use Rattle.position.proofs.Rules.{byte, accepted, start, FourBytes, journal_steps, step, run_from, step_at}
 use Rattle.position.specs.declared.Position.{Position}
 use Rattle.position.proofs.RowSteps.{run_next, run_ends}
-use Rattle.call_run.proofs.Groups.{groups_from, groups_all, groups_next}
+use Rattle.call_run.proofs.Groups.{four_bytes, groups_from, groups_all, groups_next}
 use Rattle.call_shrink.specs.Shrink.{still_refused}
 use Rattle.call_shrink.specs.Forms.Round.{same_step, goes_at, position_past}
 use Rattle.call_shrink.proofs.Rows.{still_append, first_accepted}
@@ -14,6 +16,12 @@ same_four : (a b : FourBytes) → a.kind ≡ b.kind → a.party ≡ b.party → 
     → ◌≡◌ {A = FourBytes} (record { kind = a.kind; party = a.party; transaction = a.transaction; destination = a.destination })
     (record { kind = b.kind; party = b.party; transaction = b.transaction; destination = b.destination })
 same_four a b i j k l = rw (i, j, k, l) refl
+
+-- the bytes of two steps, compared as slices
+pub same_slices : (l : List ℕ) (i j m n : ℕ) → i + 4 ≤ length l → j + 4 ≤ length l → m ≡ 4 → n ≡ 4
+    → pointwise nat_eq (take m (drop i l)) (take n (drop j l)) ≡ same_step (step_at l i) (step_at l j)
+unfolding same_step step_at
+same_slices l i j m n a b e f = rw (e, f, four_bytes l i a, four_bytes l j b, and-true (eqb (byte l (i + 3)) (byte l (j + 3)))) refl
 
 same_bytes : (a b : FourBytes) → same_step a b ≡ true → a ≡ b
 unfolding same_step

@@ -11,19 +11,11 @@ use call_run::journal::{call_refusal, run_from};
 use position::journal::start;
 use sheet::check::sheet_refusal;
 use sheet::field::Sheet;
-use sheet::refusal::{Refusal, require};
+use sheet::refusal::{Answer, Refusal, require};
 
 mod round;
 mod rounds;
 mod same;
-
-// The answer: the refusal, and the steps written.
-#[derive(Clone, Copy)]
-pub struct Shrunk {
-    // a number, as in shrink_answer of specs/Shrink.antt
-    pub refusal: u32,
-    pub count: u32,
-}
 
 // The checks before any step: 1 to 10, 24 and 36.
 fn long_refusal(sheet: &[u8], setup: &[u8], journal: &[u8]) -> Result<(), Refusal>
@@ -35,13 +27,13 @@ fn long_refusal(sheet: &[u8], setup: &[u8], journal: &[u8]) -> Result<(), Refusa
 }
 
 // Shrinks a refused journal: the refusal, and the steps written to the front of the buffer.
-pub fn shrink(sheet: &[u8], setup: &[u8], journal: &[u8], out: &mut [u8]) -> Shrunk
+pub fn shrink(sheet: &[u8], setup: &[u8], journal: &[u8], out: &mut [u8]) -> Answer
     ensures refusal_value { result.refusal ≡ (shrink_answer sheet.now setup.now journal.now out.old).refusal }
     ensures count_value { result.count ≡ (shrink_answer sheet.now setup.now journal.now out.old).count }
     ensures out_after { out.new ≡ (shrink_answer sheet.now setup.now journal.now out.old).buffer }
 {
     if let Err(refusal) = long_refusal(sheet, setup, journal) {
-        return Shrunk {
+        return Answer {
             refusal: refusal.number(),
             count: 0,
         };
@@ -49,7 +41,7 @@ pub fn shrink(sheet: &[u8], setup: &[u8], journal: &[u8], out: &mut [u8]) -> Shr
     let known = &Sheet::of(sheet);
     let ran = run_from(start(sheet), known, setup, journal);
     if ran.refusal == 0 {
-        return Shrunk {
+        return Answer {
             refusal: Refusal::NoneRefused as u32,
             count: 0,
         };

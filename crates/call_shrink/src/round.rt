@@ -6,7 +6,7 @@ ghost use Rattle.position.specs.Position.{start};
 ghost use Rattle.position.specs.Play.{journal_steps, journal_bytes};
 ghost use Rattle.position.specs.Forms.Journal.{step_at};
 ghost use Rattle.call_shrink.specs.Shrink.{still_refused, round};
-ghost use Rattle.call_shrink.specs.Forms.Round.{same_step, tried_at, kept_step, position_past, Meets, lost_after};
+ghost use Rattle.call_shrink.specs.Forms.Round.{same_step, tried_at, kept_step, position_past, Meets, lost_from, lost_after};
 
 use crate::same::same;
 use call_run::journal::{run_from, step_at};
@@ -18,9 +18,18 @@ use sheet::field::Sheet;
 // A row that does not come to the number: its position before the step at byte 4 * from, from which on it has all steps.
 #[derive(Clone, Copy)]
 pub struct Lost {
-    pub held: bool,
     pub from: usize,
     pub position: Position,
+}
+
+// The first step of the row that is lost, 0 where there is none.
+fn lost_from(lost: Option<Lost>) -> usize
+    ensures { result ≡ lost_from lost }
+{
+    match lost {
+        Some(Lost { from, .. }) => from,
+        None => 0,
+    }
 }
 
 // Whether the step at byte i has the bytes of the one before it, which could not go: then dropping either gives the same row.
@@ -29,27 +38,14 @@ fn again(went: bool, steps: &[u8], i: usize) -> bool
     requires le_i { went ≡ false → 4 ≤ i }
     ensures { result ≡ (not went && same_step (step_at steps.now (i - 4)) (step_at steps.now i)) }
 {
-    if went {
-        return false;
-    }
-    let before = i - 4;
-    if steps[before] != steps[i] {
-        return false;
-    }
-    if steps[before + 1] != steps[i + 1] {
-        return false;
-    }
-    if steps[before + 2] != steps[i + 2] {
-        return false;
-    }
-    steps[before + 3] == steps[i + 3]
+    !went && steps[i - 4..i] == steps[i..i + 4]
 }
 
 // Whether a step cannot go without a try: it is a twin, or a block after which a row that is lost comes to the position before it, so that
 // dropping either gives the same. `passed` are the steps of that row up to the block and with it.
 fn stays(
     twin: bool,
-    lost: Lost,
+    lost: Option<Lost>,
     here: Position,
     kind: u8,
     sheet: &Sheet,
@@ -66,11 +62,10 @@ fn stays(
     if kind != 6 {
         return false;
     }
-    if !lost.held {
+    let Some(Lost { position, .. }) = lost else {
         return false;
-    }
-    let from = lost.position;
-    let ran = run_from(from, sheet, setup, passed);
+    };
+    let ran = run_from(position, sheet, setup, passed);
     if ran.refusal != 0 {
         return false;
     }
@@ -79,7 +74,13 @@ fn stays(
 }
 
 // The row that is lost after a step was tried: one without the last block that could not go.
-fn lost_after(lost: Lost, going: bool, kind: u8, here: Position, from: usize) -> Lost
+fn lost_after(
+    lost: Option<Lost>,
+    going: bool,
+    kind: u8,
+    here: Position,
+    from: usize,
+) -> Option<Lost>
     ensures { result ≡ lost_after lost going kind here from }
 {
     if going {
@@ -88,11 +89,10 @@ fn lost_after(lost: Lost, going: bool, kind: u8, here: Position, from: usize) ->
     if kind != 6 {
         return lost;
     }
-    Lost {
-        held: true,
+    Some(Lost {
         from,
         position: here,
-    }
+    })
 }
 
 // Whether the step before these can go: they run up to the last one, which gets the number. The run ends at the first step that is
@@ -171,15 +171,12 @@ pub fn write_round(sheet: &Sheet, setup: &[u8], number: u32, steps: &[u8], out: 
 {
     let n = steps.len() / 4;
     let mut here = start(sheet.bytes());
-    let mut lost = Lost {
-        held: false,
-        from: 0,
-        position: here,
-    };
+    let mut lost = None;
     let mut at: usize = 0;
     let mut went = true;
     for k in 0..n {
         let twin = again(went, steps, 4 * k);
+        let from = lost_from(lost);
         let stay = stays(
             twin,
             lost,
@@ -187,7 +184,7 @@ pub fn write_round(sheet: &Sheet, setup: &[u8], number: u32, steps: &[u8], out: 
             steps[4 * k],
             sheet,
             setup,
-            &steps[4 * lost.from..4 * k + 4],
+            &steps[4 * from..4 * k + 4],
         );
         let going = goes(stay, here, sheet, setup, number, &steps[4 * k + 4..]);
         let wrote = write_kept(going, steps, 4 * k, &mut out[at..]);

@@ -7,10 +7,9 @@ ghost use Rattle.position.specs.Play.{journal_steps};
 ghost use Rattle.call_shrink.specs.Shrink.{still_refused, shrunk};
 ghost use Rattle.call_shrink.specs.Forms.Round.{Starts, shrunk_fitted};
 
-use crate::Shrunk;
 use crate::round::write_round;
 use sheet::field::Sheet;
-use sheet::refusal::{ACCEPTED, Refusal};
+use sheet::refusal::{ACCEPTED, Answer, Refusal};
 
 // These bytes, at the front of a buffer.
 fn copy(from: &[u8], out: &mut [u8])
@@ -51,7 +50,7 @@ fn rounds(
 }
 
 // The part that is left of a row whose last step gets the number, where the buffer has room for it.
-pub fn write_shrunk(sheet: &Sheet, setup: &[u8], number: u32, row: &[u8], out: &mut [u8]) -> Shrunk
+pub fn write_shrunk(sheet: &Sheet, setup: &[u8], number: u32, row: &[u8], out: &mut [u8]) -> Answer
     requires fit { Fit sheet.now.bytes setup.now }
     requires row_len_bound { length row.now ≤ 4096 }
     requires row_len { length row.now % 4 ≡ 0 }
@@ -66,13 +65,13 @@ pub fn write_shrunk(sheet: &Sheet, setup: &[u8], number: u32, row: &[u8], out: &
     let n = rounds(sheet, setup, number, row.len() / 4, &mut part, &mut spare);
     let end = 4 * n;
     if out.len() < end {
-        return Shrunk {
+        return Answer {
             refusal: Refusal::BufferShort as u32,
             count: 0,
         };
     }
     copy(&part[..end], out);
-    Shrunk {
+    Answer {
         refusal: ACCEPTED,
         count: n as u32,
     }

@@ -15,6 +15,7 @@ use sheet::field::Sheet;
 use sheet::refusal::{ACCEPTED, Refusal};
 
 // Each party's slack: the refusal; where there is none, the rows stand at the front of the buffer.
+// A number, which C gets: slack_answer of specs/Answer.antt makes it as one.
 pub fn slack(sheet: &[u8], setup: &[u8], journal: &[u8], out: &mut [u8]) -> u32
     ensures value { result ≡ (slack_answer sheet.now setup.now journal.now out.old).refusal }
     ensures out_after { out.new ≡ (slack_answer sheet.now setup.now journal.now out.old).buffer }

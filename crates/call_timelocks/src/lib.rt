@@ -24,7 +24,7 @@ fn field_refusal(sheet: &[u8], setup: &[u8], base: u32) -> Result<(), Refusal>
 }
 
 // nLockTime and nSequence of every transaction, over the base height: the refusal; where there is none, eight bytes for each stand at
-// the front of the buffer.
+// the front of the buffer. A number, which C gets: timelocks_answer of specs/Timelocks.antt makes it as one.
 pub fn timelocks(sheet: &[u8], setup: &[u8], base: u32, out: &mut [u8]) -> u32
     ensures value { result ≡ (timelocks_answer sheet.now setup.now base out.old).refusal }
     ensures out_after { out.new ≡ (timelocks_answer sheet.now setup.now base out.old).buffer }

@@ -1,6 +1,7 @@
 -- A list of steps played group by group: what is left to do from each group on comes to the whole.
 -- Assumes nothing.
-use Rattle.laws.proofs.Prelude.{ℕ, ◌+◌, ◌*◌, ◌≤◌, ◌<◌, ◌≡◌, refl, sym, ap, ◌∙◌, List, [], ◌∷◌, ◌++◌, eqb, length, length-append, arith, zero-add, add-zero, pick, split}
+use Rattle.laws.proofs.Prelude.{ℕ, ◌+◌, ◌*◌, ◌≤◌, ◌<◌, ◌≡◌, refl, sym, ap, ◌∙◌, Bool, true, false, List, [], ◌∷◌, ◌++◌, eqb, length, length-append, arith, zero-add, add-zero, pick, split}
+use Rattle.std.specs.Int.{from_bool}
 use Rattle.position.proofs.Rules.{step_at, start, FourBytes, journal_steps, step, play, accepted_of}
 use Rattle.position.specs.declared.Position.{Position}
 use Rattle.position.specs.declared.Stepped.{Stepped}
@@ -15,8 +16,13 @@ unfolding taken
 taken_length n b = split (eqb n 0) (λ e. rw e) (λ e. rw e)
 
 -- what the code counts for a step
-pub one_at_most : (n m : ℕ) → m ≡ pick (eqb n 0) 1 0 → m ≤ 1
-one_at_most n m e = rw e (split (eqb n 0) (λ h. rw h (omega arith)) (λ h. rw h (omega arith)))
+pub one_or_none : (b : Bool) → from_bool b ≡ pick b 1 0
+one_or_none true = refl
+one_or_none false = refl
+
+pub one_at_most : (b : Bool) (m : ℕ) → m ≡ from_bool b → m ≤ 1
+one_at_most true m e = omega (arith, e)
+one_at_most false m e = omega (arith, e)
 
 module _ (s u : List ℕ) where
   play_none : (p : Position) → play s u [] p ≡ p

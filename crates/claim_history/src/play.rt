@@ -1,6 +1,5 @@
 // A list of steps played from the empty journal's position, refused ones passed over.
-ghost use Rattle.std.specs.Prelude.{◌+◌, ◌≤◌, ◌≡◌, eqb, length};
-ghost use Rattle.laws.specs.Booleans.{pick};
+ghost use Rattle.std.specs.Prelude.{◌+◌, ◌≤◌, ◌≡◌, length};
 ghost use Rattle.sheet.specs.Checked.{Fit};
 ghost use Rattle.position.specs.Position.{start};
 ghost use Rattle.position.specs.Play.{journal_steps, play, accepted_of};
@@ -18,16 +17,6 @@ pub struct Played {
     pub accepted: usize,
 }
 
-// 1 for an accepted step, 0 for a refused one.
-fn one_if_taken(refusal: u32) -> usize
-    ensures { result ≡ pick (eqb refusal 0) 1 0 }
-{
-    if refusal == 0 {
-        return 1;
-    }
-    0
-}
-
 // One more step, the one that starts at byte i.
 fn play_one(played: Played, sheet: &Sheet, setup: &[u8], steps: &[u8], i: usize) -> Played
     requires fit { Fit sheet.now.bytes setup.now }
@@ -38,7 +27,7 @@ fn play_one(played: Played, sheet: &Sheet, setup: &[u8], steps: &[u8], i: usize)
     let position = played.position;
     let stepped = step_at(position, sheet, setup, steps, i);
     let next = stepped.position;
-    let accepted = played.accepted + one_if_taken(stepped.refusal);
+    let accepted = played.accepted + usize::from(stepped.refusal == 0);
     Played {
         position: next,
         accepted,

@@ -10,7 +10,8 @@ ghost use Rattle.dated.specs.Dated.{noted, dated_start};
 
 use position::{Position, journal};
 use sheet::field::Sheet;
-use steps::{View, parent};
+use slots::lock_height::NEVER;
+use steps::View;
 
 mod opens;
 
@@ -49,9 +50,7 @@ pub fn noted(
             continue;
         }
         let x = position.slots[t];
-        let up = parent::slot_above(sheet, t);
-        let above = position.slots[up];
-        let since = parent::block_above(sheet, t, above.height);
+        let since = position.since(sheet, t);
         counts[t] = opens::first_open(sheet, per_day, view, x, since, t);
     }
     counts
@@ -65,7 +64,7 @@ pub fn start(sheet: &Sheet, setup: &[u8]) -> Viewed
 {
     let position = journal::start(sheet.bytes());
     let view = journal::start_view(sheet);
-    let opened = noted([opens::NEVER; 32], position, sheet, setup, view);
+    let opened = noted([NEVER; 32], position, sheet, setup, view);
     Viewed {
         dated: Dated { position, opened },
         view,

@@ -9,11 +9,9 @@ ghost use Rattle.slots.specs.Ancestry.{has_parent};
 ghost use Rattle.dated.specs.Forms.Opens.{at_hand_in, opens_in, stays, first_open_in};
 
 use sheet::field::Sheet;
+use slots::lock_height::NEVER;
 use slots::{Slot, conflict, lock_height, party, signatures};
 use steps::{View, parent};
-
-// Never, as a height and as a count.
-pub const NEVER: u32 = 2147483647;
 
 // Whether the signatures of t are at hand for a party: for the contract, or for itself as a payee.
 fn at_hand(sheet: &Sheet, view: View, x: Slot, t: usize, party: u8) -> bool

@@ -13,7 +13,7 @@ pub struct Prospect {
     pub count: usize,
     pub mined: u32,
     pub stealth: u32,
-    // a confirmed transaction pays X
+    // a confirmed transaction pays X: an answer for itself, whatever the others are
     pub paid: bool,
     // the contract transactions
     pub contract: u32,

@@ -1,9 +1,10 @@
 // The bytes of an actor's open steps, from sets of them.
 ghost use Rattle.std.specs.Prelude.{◌<◌, ◌≤◌, ◌≡◌, length};
 ghost use Rattle.laws.specs.Gather.{gather};
-ghost use Rattle.laws.specs.Mask.{bit};
 ghost use Rattle.laws.specs.Over.{over};
 ghost use Rattle.output.specs.Forms.Emitted.{emitted, emitted_at, opens, opens_for, below_bytes, last_bytes, kind_bytes, actor_bytes, Counted, Ones};
+
+use sheet::set;
 
 // The number of a mask's bits; none at once where it is empty.
 fn ones(mask: u32) -> usize
@@ -24,14 +25,6 @@ pub fn open_count(below: [u32; 28], last: u32) -> usize
         sum += ones(*set);
     }
     sum + ones(last % 268435456)
-}
-
-// Whether a mask has bit i.
-fn has(mask: u32, i: usize) -> bool
-    requires { i < 32 }
-    ensures { result ≡ bit mask i }
-{
-    (mask >> i) & 1 == 1
 }
 
 // One step's bytes, where it is on.
@@ -81,7 +74,12 @@ fn write_transaction(
     ensures value { result ≡ length (emitted_at (opens_for alice bob contract carol t) kind actor t) }
     ensures out_after { out.new ≡ over (emitted_at (opens_for alice bob contract carol t) kind actor t) out.old }
 {
-    let on = [has(alice, t), has(bob, t), has(contract, t), has(carol, t)];
+    let on = [
+        set::has(alice, t),
+        set::has(bob, t),
+        set::has(contract, t),
+        set::has(carol, t),
+    ];
     write_at(on, kind, actor, t as u8, out)
 }
 
@@ -121,10 +119,10 @@ fn write_last(last: u32, actor: u8, k: usize, out: &mut [u8]) -> usize
         return 0;
     }
     let on = [
-        has(last, i),
-        has(last, i + 1),
-        has(last, i + 2),
-        has(last, i + 3),
+        set::has(last, i),
+        set::has(last, i + 1),
+        set::has(last, i + 2),
+        set::has(last, i + 3),
     ];
     write_at(on, (k + 1) as u8, actor, 255, out)
 }

@@ -1,9 +1,9 @@
 -- A method that stores a slot, or keys, whether or not it refuses: where it does, what stood there is stored again.
 -- Assumes nothing.
-use Rattle.laws.proofs.Prelude.{ℕ, zero, suc, ◌+◌, ◌^◌, ◌≡◌, refl, sym, ap, ◌∙◌, Bool, true, ◌&&◌, ◌||◌, List, [], ◌∷◌, eqb, length, get_or, set, eqb-true, eqb-false}
+use Rattle.laws.proofs.Prelude.{ℕ, zero, suc, ◌+◌, ◌^◌, ◌≡◌, refl, sym, ap, ◌∙◌, Bool, true, ◌&&◌, ◌||◌, List, [], ◌∷◌, eqb, get_or, set, eqb-true, eqb-false}
 use Rattle.laws.proofs.Prelude.{eq-eqb, ne_eqb, bit_or, pick, split, first_failing}
 use Rattle.sheet.specs.Refusal.{accepted}
-use Rattle.sheet.specs.Field.{count, parent}
+use Rattle.sheet.specs.Field.{count}
 use Rattle.sheet.specs.Setup.{conduct}
 use Rattle.slots.specs.declared.Slot.{Slot}
 use Rattle.slots.specs.declared.Step.{Step}
@@ -14,18 +14,16 @@ use Rattle.slots.specs.Slot.{empty_slot, entry_for, with_pool, with_block, with_
 use Rattle.slots.specs.Signatures.{share_mask, exposed_mask}
 use Rattle.steps.specs.Decode.{no_transaction}
 use Rattle.steps.specs.declared.View.{View}
-use Rattle.steps.specs.Forms.Parent.{slot_above, block_above}
 use Rattle.steps.specs.Forms.View.{keys_in}
 use Rattle.position.specs.declared.Position.{Position}
-use Rattle.position.specs.Position.{slot, keys, block_of}
+use Rattle.position.specs.Position.{slot, keys}
 use Rattle.position.specs.Conduct.{is_open, may_share, may_give, send_allowed, paying_first, conduct_allows}
 use Rattle.position.specs.Tests.{share_tests, give_tests, pool_tests, miner_tests, include_tests}
 use Rattle.position.specs.StepRefusal.{tests, step_refusal}
 use Rattle.position.specs.Effect.{with_slots, change_slot, with_key, share_one, after_share, after_give, after_send, after_hand_in, after_include, with_mined, effect}
 use Rattle.position.specs.Play.{take_step}
-use Rattle.position.specs.Forms.View.{view_below, since_in}
+use Rattle.position.specs.Forms.View.{view_below}
 use Rattle.position.proofs.StepCases.{refuses, accepts}
-use Rattle.position.proofs.SendTests.{since_parent_lem}
 
 -- what stands at a place, stored there
 set_own : {A : Type 0} (l : List A) (i : ℕ) (d : A) → set l i (get_or l i d) ≡ l
@@ -111,12 +109,6 @@ pub give_outcome : (s u : List ℕ) (p : Position) (party i : ℕ) (to : Destina
 unfolding step_refusal tests conduct_allows effect after_give
 give_outcome s u p party i to r k d held after kd dt hd e h =
     rw kd (key_outcome s u p (Give party i to) r (rw (← dt) h) d i after (rw (← dt) refl) (e ∙ rw hd refl))
-
--- the parent's block, where `up` and `since` are what the method read
-pub since_read : (s : List ℕ) (p : Position) (t up since : ℕ) → length p.slots ≡ 32 → up ≡ slot_above s t → since ≡ block_above s t (slot p up).height
-    → since ≡ block_of p (parent s t)
-unfolding since_in
-since_read s p t up since l a b = (b ∙ rw a refl) ∙ since_parent_lem s p l t
 
 -- the keys that a party holds, read off the view
 pub keys_read : (s : List ℕ) (p : Position) (v : View) (party r : ℕ) → v ≡ view_below s (count s) p → r ≡ keys_in v party → r ≡ keys p party

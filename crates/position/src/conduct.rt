@@ -20,7 +20,7 @@ use sheet::field::Sheet;
 use sheet::refusal::{Refusal, require};
 use slots::{Slot, lock_height, next, party, signatures};
 use steps::names::{LOCK_A, LOCK_B, NO_TRANSACTION, REFUND_1, SECRET_BOB, SUCCESS};
-use steps::{Guards, View, conduct, parent, sending};
+use steps::{Guards, View, conduct, sending};
 
 // Whether a transaction is in the pool or confirmed.
 fn is_sent(x: Slot) -> bool
@@ -180,9 +180,7 @@ impl Position {
         let o = self.send_guards(setup);
         (0..sheet.count()).any(|t| {
             let x = self.slots[t];
-            let up = parent::slot_above(sheet, t);
-            let above = self.slots[up];
-            let since = parent::block_above(sheet, t, above.height);
+            let since = self.since(sheet, t);
             sending::pays(sheet, setup, view, o, x, since, party, t)
         })
     }

@@ -5,16 +5,14 @@ ghost use Rattle.laws.specs.Below.{any_below};
 ghost use Rattle.sheet.specs.Field.{count, Sized};
 ghost use Rattle.sheet.specs.Checked.{Fit};
 ghost use Rattle.sheet.specs.LockHeight.{never};
-ghost use Rattle.slots.specs.Deadline.{deadline};
-ghost use Rattle.slots.specs.Forms.Height.{Height};
 ghost use Rattle.position.specs.Owed.{any_owed, owed};
-ghost use Rattle.position.specs.Forms.View.{view_below, since_in};
+ghost use Rattle.position.specs.Forms.View.{view_below};
 ghost use Rattle.position.specs.Forms.Owed.{due_in, soonest_in, due_before, DueKnown};
 
 use crate::Position;
 use sheet::field::Sheet;
 use slots::{deadline, lock_height, next};
-use steps::{View, owed, parent};
+use steps::{View, owed};
 
 // A height above the blocks mined, else never.
 fn ahead(mined: u16, height: u32) -> u32
@@ -34,19 +32,8 @@ impl Position {
         requires t_bound { t < count sheet.now.bytes }
         ensures { result ≡ owed sheet.now.bytes setup.now self t }
     {
-        let since = self.block_of(sheet.parent(t));
+        let since = self.since(sheet, t);
         owed::owed_at(sheet, sheet::setup::per_day(setup), view, since, t)
-    }
-
-    // The deadline of t, since its parent's block.
-    fn deadline_with(&self, sheet: &Sheet, per_day: u16, t: usize) -> u32
-        requires t_bound { t < count sheet.now.bytes }
-        ensures { Height (deadline sheet.now.bytes per_day (λ k. since_in sheet.now.bytes self.now t) t) result }
-    {
-        let up = parent::slot_above(sheet, t);
-        let above = self.slots[up];
-        let since = parent::block_above(sheet, t, above.height);
-        deadline::deadline(sheet, per_day, since, t)
     }
 
     // Whether the next block is the deadline of any of a set.

@@ -16,7 +16,7 @@ use sheet::field::Sheet;
 use sheet::refusal;
 use slots::Destination;
 use steps::names::{LOCK_A, LOCK_B, NO_TRANSACTION};
-use steps::{View, conduct, mining, owed, parent, sending, sharing};
+use steps::{View, conduct, mining, owed, sending, sharing};
 
 impl Position {
     // 1 Share: of one transaction, or with none of the party's first shares.
@@ -136,9 +136,7 @@ impl Position {
         let may = sheet::setup::conduct(setup) == 0 || self.may_send(sheet, setup, party, k);
         let paying = pays_first(sheet, setup, k) && self.can_pay(sheet, setup, view, party);
         let allowed = may & !paying;
-        let up = parent::slot_above(sheet, k);
-        let above = self.slots[up];
-        let since = parent::block_above(sheet, k, above.height);
+        let since = self.since(sheet, k);
         let x = self.slots[k];
         let refusal = refusal::number_of(sending::pool_refusal(
             sheet,
@@ -180,9 +178,7 @@ impl Position {
         let may = sheet::setup::conduct(setup) == 0 || self.may_send(sheet, setup, party, k);
         let paying = pays_first(sheet, setup, k) && self.can_pay(sheet, setup, view, party);
         let allowed = may & !paying;
-        let up = parent::slot_above(sheet, k);
-        let above = self.slots[up];
-        let since = parent::block_above(sheet, k, above.height);
+        let since = self.since(sheet, k);
         let x = self.slots[k];
         let refusal = refusal::number_of(sending::miner_refusal(
             sheet,

@@ -10,7 +10,6 @@ use position::Position;
 use sheet::field::Sheet;
 use slots::lock_height;
 use soonest::{block, lock, table};
-use steps::parent;
 
 // The parent's block where it is confirmed, else its soonest one.
 fn block_or(since: u16, soonest: u32) -> u32
@@ -31,9 +30,7 @@ pub fn locks(position: Position, sheet: &Sheet, setup: &[u8]) -> [u32; 32]
     let soonest = block::soonest_blocks(position, sheet, per_day);
     let mut table = [0u32; 32];
     for t in 0..sheet.count() {
-        let up = parent::slot_above(sheet, t);
-        let above = position.slots[up];
-        let since = parent::block_above(sheet, t, above.height);
+        let since = position.since(sheet, t);
         let e = block_or(since, table::above(soonest, sheet, t));
         table[t] = lock::lock_at(sheet, per_day, e, t);
     }

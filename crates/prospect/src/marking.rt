@@ -8,7 +8,7 @@ ghost use Rattle.slack.specs.Beaten.{above};
 ghost use Rattle.slack.specs.Kept.{known_at};
 ghost use Rattle.prospect.specs.Forms.Marks.{Marked};
 
-use crate::{Marks, coins, kinds, knows, locks, mask, parents, pool, rivals};
+use crate::{Marks, coins, kinds, knows, locks, parents, pool, rivals};
 use attainable::{Others, round};
 use position::Position;
 use sheet::field::Sheet;
@@ -33,7 +33,7 @@ pub fn mark(
     let can = round::attainable(others, sheet, 0);
     Marks {
         count: sheet.count(),
-        stealth: mask::wide(sheet::setup::stealth(setup)),
+        stealth: u32::from(sheet::setup::stealth(setup)),
         gone: others.gone,
         contract: kinds::contracts(sheet),
         payable: kinds::payable(sheet, party),

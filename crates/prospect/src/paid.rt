@@ -10,19 +10,10 @@ ghost use Rattle.soonest.specs.Forms.Table.{Filled};
 ghost use Rattle.slack.specs.Kept.{paid};
 
 use position::Position;
+use readings::report;
 use sheet::field::Sheet;
 use sheet::{set, table};
 use slots::{Slot, party};
-
-// The destination that an entry names.
-fn entry_to(entry: u8) -> u8
-    ensures { result ≡ entry_to entry }
-{
-    if entry == 0 {
-        return 0;
-    }
-    entry - 1
-}
 
 // Whether the transaction whose slot is x has paid the party.
 fn has_paid(x: Slot, party: u8) -> bool
@@ -31,7 +22,7 @@ fn has_paid(x: Slot, party: u8) -> bool
     if x.height == 0 {
         return false;
     }
-    entry_to(x.confirmed) == party
+    report::entry_to(x.confirmed) == party
 }
 
 // Whether one of them has.

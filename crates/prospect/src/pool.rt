@@ -10,7 +10,6 @@ ghost use Rattle.soonest.specs.Forms.Table.{Filled};
 ghost use Rattle.slack.specs.Beaten.{destination_of, pooled, signs};
 ghost use Rattle.kept.specs.Forms.Evaluation.{within};
 
-use crate::mask;
 use position::Position;
 use sheet::field::Sheet;
 use sheet::{set, table};
@@ -54,7 +53,7 @@ fn lack_of(pooled: bool, required: u8, given: u8) -> u32
     if pooled {
         return 0;
     }
-    mask::wide(required & !given)
+    u32::from(required & !given)
 }
 
 // What is lacking of each, where `held` are those in the pool, in a table.

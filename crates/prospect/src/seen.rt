@@ -17,7 +17,7 @@ pub fn prospect(position: Position, sheet: &Sheet, setup: &[u8], party: u8) -> P
     let others = read::read(position, sheet, setup, party);
     let unconfirmed = lines::unconfirmed(sheet, others.confirmed);
     let above = lines::above(sheet, unconfirmed);
-    let have = knows::keys(position, party) | others.secrets;
+    let have = position.keys(party) | others.secrets;
     let shows = others.shows;
     let known = knows::known(shows, sheet, have, above);
     let marks = marking::mark(position, sheet, setup, party, others, above, known);

@@ -3,7 +3,7 @@ ghost use Rattle.std.specs.Prelude.{◌<◌, ◌≡◌, true, false};
 ghost use Rattle.soonest.specs.Soonest.{greater};
 ghost use Rattle.prospect.specs.Forms.Thresholds.{height_if, late_from, sooner_above, sooner_from, beat_from};
 
-// No height.
+// No height: above all of them, so that the least of several is found without a case for none (`none` of kept/specs/Forms/Prospect.antt).
 pub const NONE: u32 = 4294967295;
 
 // The height where a test holds, else none.

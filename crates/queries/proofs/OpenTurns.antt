@@ -8,7 +8,6 @@ use Rattle.position.proofs.Rules.{no_transaction, success, may_send, no_conflict
 use Rattle.position.specs.declared.Position.{Position}
 use Rattle.sheet.specs.Refusal.{step_pool}
 use Rattle.slots.proofs.Walks.{Gap}
-use Rattle.steps.specs.Forms.Parent.{slot_above, block_above}
 use Rattle.steps.specs.Conduct.{alice_shares_rule}
 use Rattle.steps.specs.Forms.Conduct.{share_allowed_in, send_allowed_in, send_held_in}
 use Rattle.steps.specs.Tests.{conduct_rule, bump_rule}
@@ -156,11 +155,10 @@ module _ (s u : List ℕ) (p : Position) (k a d : ℕ) (fit : Fit s u) (few : d 
           rw (e, ← seen) (not_turn s u t (omega (arith, listed, fit.checked.sized.few)) g (slot p t) (block_of p (parent s t)) a d k z))
           (λ e. rw e)
 
-      pub turn_open : bit c t ≡ true → (up since : ℕ) (b : Bool) → length p.slots ≡ 32 → up ≡ slot_above s t
-          → since ≡ block_above s t (slot p up).height → b ≡ eqb (refusal_as s u g (slot p t) since k a t d) accepted → b ≡ is_open_step s u p k a t d
-      unfolding since_in
-      turn_open h up since b l i j f =
-          let e : since ≡ block_of p (parent s t) = (j ∙ rw i) ∙ since_parent_lem s p l t in
+      pub turn_open : bit c t ≡ true → (since : ℕ) (b : Bool) → length p.slots ≡ 32 → since ≡ since_in s p t
+          → b ≡ eqb (refusal_as s u g (slot p t) since k a t d) accepted → b ≡ is_open_step s u p k a t d
+      turn_open h since b l j f =
+          let e : since ≡ block_of p (parent s t) = j ∙ since_parent_lem s p l t in
           let y : b ≡ eqb (refusal_as s u (context_of s u p a) (slot p t) since k a t d) accepted = f ∙ rw seen in
           let z : is_open_step s u p k a t d ≡ eqb (refusal_as s u (context_of s u p a) (slot p t) since k a t d) accepted =
           listed_open s u p fit a t (slot p t) since (λ q. (refl, e)) listed k d few m other

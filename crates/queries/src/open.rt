@@ -15,7 +15,7 @@ use readings::{Context, DestinationSets, open};
 use sheet::field::Sheet;
 use sheet::{set, table};
 use slots::next;
-use steps::{Guards, View, parent};
+use steps::{Guards, View};
 
 // Whether the actor is a careful party that can send a transaction that pays it. In phase 0 nobody sends.
 fn is_paying(
@@ -94,9 +94,7 @@ fn sheet_set(
     let mut found: u32 = 0;
     for t in next::members(c, n) {
         let x = position.slots[t];
-        let up = parent::slot_above(sheet, t);
-        let above = position.slots[up];
-        let since = parent::block_above(sheet, t, above.height);
+        let since = position.since(sheet, t);
         let on = open::accepted_as(sheet, setup, context, x, since, kind, actor, t, to);
         found = set::join(found, on, t);
     }

@@ -12,7 +12,7 @@ use position::Position;
 use readings::{report, reported};
 use sheet::field::Sheet;
 use slots::conflict;
-use steps::{View, parent};
+use steps::View;
 
 // The rows of the report of a position and its counts, at the front of the buffer.
 pub fn write_report(
@@ -34,9 +34,7 @@ pub fn write_report(
     let mut at: usize = 0;
     for t in 0..n {
         let x = position.slots[t];
-        let up = parent::slot_above(sheet, t);
-        let above = position.slots[up];
-        let since = parent::block_above(sheet, t, above.height);
+        let since = position.since(sheet, t);
         let r = report::row(sheet, per_day, view, conflicted, x, since, t);
         row::write_row(
             &mut out[at..],

@@ -42,7 +42,7 @@ pub fn status_in(sheet: &Sheet, view: View, conflicted: u32, t: usize) -> u8
 }
 
 // The destination that an entry names.
-fn entry_to(entry: u8) -> u8
+pub fn entry_to(entry: u8) -> u8
     ensures { result ≡ entry_to entry }
 {
     if entry == 0 {

@@ -49,7 +49,7 @@ pub fn arrays(sheet: &[u8]) -> usize
     3 + parties(sheet)
 }
 
-// A party's place among the sheet's, by its number.
+// A party's place among the sheet's, by its number: document 02's numbering (Slip 10), with no type of its own.
 pub fn place(party: u8) -> u8
     ensures { result ≡ place party }
 {

@@ -6,7 +6,7 @@ ghost use Rattle.slots.specs.Forms.Height.{Blocks, Height};
 
 use sheet::field::Sheet;
 
-// "Never": above every height that is reached.
+// "Never": above every height that is reached. A number, since a report writes it so (`never` of sheet/specs/LockHeight.antt).
 pub const NEVER: u32 = 2147483647;
 
 // A number of two bytes in a wider type.

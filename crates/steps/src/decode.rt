@@ -9,7 +9,7 @@ use crate::names::NO_TRANSACTION;
 use sheet::field::Sheet;
 use slots::{Destination, Step, party};
 
-// The step of a kind, with its destination; there are seven kinds.
+// The step of a kind, with its destination; there are seven kinds. Document 01 names this form: "decoded from four bytes and matched".
 fn of_kind(kind: u8, party: u8, t: u8, to: Destination) -> Option<Step>
     ensures { result ≡ of_kind kind party t to }
 {
@@ -46,8 +46,8 @@ fn sends_to(sheet: &Sheet, party: u8, t: usize, destination: u8) -> bool
     false
 }
 
-// Whether t may be shared for a destination.
-fn shares_to(sheet: &Sheet, t: usize, destination: u8) -> bool
+// Whether t may be shared for a destination: a contract transaction for the contract, a paying one for a payee.
+pub fn shares_to(sheet: &Sheet, t: usize, destination: u8) -> bool
     requires t_bound { t < count sheet.now.bytes }
     ensures { result ≡ shares_to sheet.now.bytes t destination }
 {

@@ -19,5 +19,5 @@ pub const REFUND_1: usize = 3;
 
 pub const SPEND_B: usize = 8;
 
-// the byte of a step that names no transaction
+// the byte of a step that names no transaction: a step's fields are the journal's bytes (specs/Decode.antt)
 pub const NO_TRANSACTION: u8 = 255;

@@ -14,29 +14,15 @@ use std::io::{Eprint, Print, Write};
 
 mod files;
 
-// A number, and a space after it.
-fn print_number(rt: &impl Print, n: u64) -> io::Result<()> {
-    print!(rt; "{n} ")
-}
-
-// The last number of a line.
-fn print_last(rt: &impl Print, n: u64) -> io::Result<()> {
-    println!(rt; "{n}")
-}
-
 fn print_first(rt: &impl Print, line: First) -> io::Result<()> {
-    print_number(rt, line.accepted as u64)?;
-    print_number(rt, line.refusal as u64)?;
-    print_last(rt, line.blocks as u64)
+    println!(rt; "{} {} {}", line.accepted, line.refusal, line.blocks)
 }
 
 fn print_line(rt: &impl Print, t: usize, line: Line) -> io::Result<()> {
-    print_number(rt, t as u64)?;
-    print_number(rt, line.status as u64)?;
-    print_number(rt, line.payee as u64)?;
-    print_number(rt, line.block as u64)?;
-    print_number(rt, line.lock as u64)?;
-    print_last(rt, line.deadline as u64)
+    println!(rt;
+        "{t} {} {} {} {} {}",
+        line.status, line.payee, line.block, line.lock, line.deadline
+    )
 }
 
 // The lines of the first n transactions.

@@ -1,6 +1,6 @@
 -- A round as the code makes it: each step is tried from the position before it.
 -- Assumes nothing.
-use Rattle.std.specs.Prelude.{ℕ, ◌*◌, ◌≡◌, Bool, true, false, not, ◌&&◌, List, [], ◌∷◌, ◌++◌, eqb, ltb, length, take}
+use Rattle.std.specs.Prelude.{ℕ, ◌*◌, ◌≡◌, Bool, false, not, ◌&&◌, Option, None, Some, List, [], ◌∷◌, ◌++◌, eqb, ltb, length, take}
 use Rattle.laws.specs.Booleans.{pick}
 use Rattle.position.specs.declared.Position.{Position}
 use Rattle.position.specs.Play.{FourBytes, journal_steps, journal_bytes, step, run_from}
@@ -21,14 +21,20 @@ unfoldable pub tried_at : List ℕ → List ℕ → ℕ → Bool → Position �
 tried_at s u number stay p after = pick stay false (goes_at s u number p after)
 
 -- with these steps a row that is lost comes to the position `here`
-pub record Meets (s u : List ℕ) (lost : Lost) (here : Position) (passed : List FourBytes) : Type 0 where
-  pub held : lost.held ≡ true
-  pub accepted : (run_from s u passed 0 lost.position).refusal ≡ 0
-  pub there : (run_from s u passed 0 lost.position).position ≡ here
+pub record Meets (s u : List ℕ) (lost : Option Lost) (here : Position) (passed : List FourBytes) : Type 0 where
+  pub row : Lost
+  pub held : lost ≡ Some row
+  pub accepted : (run_from s u passed 0 row.position).refusal ≡ 0
+  pub there : (run_from s u passed 0 row.position).position ≡ here
+
+-- the number of its first step, 0 where there is none
+abbrev pub lost_from : Option Lost → ℕ
+lost_from None = 0
+lost_from (Some row) = row.from
 
 -- the row that is lost after a step was tried from `here`, where `from` is the number of the next: one without the last block that could not go
-unfoldable pub lost_after : Lost → Bool → ℕ → Position → ℕ → Lost
-lost_after lost goes kind here from = pick (not goes && eqb kind 6) (record { held = true; from = from; position = here }) lost
+unfoldable pub lost_after : Option Lost → Bool → ℕ → Position → ℕ → Option Lost
+lost_after lost goes kind here from = pick (not goes && eqb kind 6) (Some (record { from = from; position = here })) lost
 
 -- a step that goes is not kept, and is not played
 unfoldable pub kept_step : Bool → FourBytes → List FourBytes

@@ -2,7 +2,7 @@
 use Rattle.dated.specs.Dated.{noted}
 use Rattle.dated.proofs.OpenViews.{first_open_view, may_open, count_stays}
 use Rattle.laws.proofs.Prelude.{rewrite_start, rewrite_again, rewrite_done, length_of_map, ◌≡◌, refl, ◌∙◌, length, get_or, arith}
-use Rattle.position.proofs.Rules.{never, slot, since_in}
+use Rattle.position.proofs.Rules.{never, slot}
 use Rattle.laws.specs.Each.{rewrite_past}
 use Rattle.dated.proofs.noted.Goals as goal
 
@@ -24,13 +24,13 @@ first_open-requires c =
     record { checked = c.requires.fit.checked; t_bound = omega (arith, c.loop-t-test.true, c.count-n.ensures.is); t_value = w.1 }
 
 pub loop-t-preserved : goal.loop-t-preserved
-unfolding since_in slot
+unfolding slot
 loop-t-preserved c =
     let l : length c.args.position.slots ≡ 32 = search (length_of_map, c.well_formed) in
     let w = may_open _ _ _ _ _ c.stays.ensures c.if-stays.false in
     let e =
-    first_open_view c.args.sheet.now.bytes c.args.setup.now c.args.position c.requires.fit.checked c.loop-t.t (omega (arith, c.loop-t-test.true, c.count-n.ensures.is)) _ _ _ c.block_above-since.result never l
-    c.per_day-per_day.ensures c.requires.view_value refl (rw (← c.slot_above-up.ensures.0) c.block_above-since.ensures) in
+    first_open_view c.args.sheet.now.bytes c.args.setup.now c.args.position c.requires.fit.checked c.loop-t.t (omega (arith, c.loop-t-test.true, c.count-n.ensures.is)) _ _ _ c.since-since.result never l
+    c.per_day-per_day.ensures c.requires.view_value refl c.since-since.ensures in
     rewrite_again _ _ _ _ 0 _ c.loop-t.invariant (rw w.0 (c.first_open.ensures ∙ e))
 
 pub returns : goal.returns

@@ -15,6 +15,6 @@ returns-then-destination-party c = lack_own _ _ _ _ _ _ c.if-barred.false (held 
 pub returns : goal.returns
 unfolding without
 returns c =
-    rw (c.wide.ensures, c.required.ensures)
+    rw (c.from.ensures, c.required.ensures)
     (lack_rest _ _ _ _ _ _ c.if-barred.false (held _ _ c.shares_to.ensures c.if-not-shares_to.false-raw) c.if-destination-party.false
     c.requires.checked c.requires.t_bound (or_lt 8 c.args.held c.args.given (search rules) (search rules)))

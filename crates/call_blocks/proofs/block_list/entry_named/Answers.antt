@@ -5,7 +5,7 @@ use Rattle.call_blocks.proofs.block_list.entry_named.Goals as goal
 
 pub returns-then-t-count : goal.returns-then-t-count
 unfolding entry_named
-returns-then-t-count c = simp (tests, ← c.wide-t.ensures.is, ← c.count.ensures.is, c.if-t-count.true, ← c.goes_to.ensures)
+returns-then-t-count c = simp (tests, ← c.wide-t.ensures.is, ← c.count.ensures.is, c.if-t-count.true, ← c.shares_to.ensures)
 
 pub returns : goal.returns
 unfolding entry_named

@@ -3,7 +3,7 @@ use Rattle.call_outage.proofs.RowLengths.{row_length, rows_room}
 use Rattle.call_outage.proofs.RowViews.{above_small, row_right}
 use Rattle.call_outage.specs.Verdict.{outage_bytes}
 use Rattle.laws.proofs.Prelude.{length_of_map, turns_start, turn_more, turns_done, ◌+◌, ◌*◌, ◌<◌, ◌≡◌, sym, length, arith}
-use Rattle.position.proofs.Rules.{slot, since_in, count}
+use Rattle.position.proofs.Rules.{count}
 use Rattle.call_outage.proofs.rows.write_rows.Goals as goal
 
 pub loop-t-init : goal.loop-t-init
@@ -15,7 +15,6 @@ write_at-requires-clause-t_bound_2 c =
     above_small _ _ _ c.requires.fit.checked _ t _ _ c.per_day-per_day.ensures c.soonest_blocks-soonest.ensures
 
 pub loop-t-preserved : goal.loop-t-preserved
-unfolding since_in slot
 loop-t-preserved c =
     let t : c.loop-t.t < count c.args.sheet.now.bytes = omega (arith, c.loop-t-test.true, c.count-t-end.ensures.is) in
     let n : length c.args.position.slots ≡ 32 = search (length_of_map, c.well_formed) in
@@ -24,12 +23,11 @@ loop-t-preserved c =
     row_right c.args.sheet.now.bytes c.args.setup.now c.args.position c.requires.fit.checked c.loop-t.t t _ _
     c.per_day-per_day.ensures
     c.soonest_blocks-soonest.ensures _ _ _
-    c.block_above-since.result c.args.blocks n
+    c.since-since.result c.args.blocks n
     c.view-view.ensures
     c.conflicts_of-conflicted.ensures
     c.lines-lines.ensures
-    (rw (← c.slot_above-up.ensures.0)
-    c.block_above-since.ensures) in
+    c.since-since.ensures in
     rw (← next) (turn_more _ _ _ _ _ _ _ 10 c.loop-t.invariant t (sym (row_length c.args.sheet.now.bytes c.args.setup.now c.args.position c.args.blocks c.loop-t.t)) (rw written at c.write_at.ensures))
 
 pub returns : goal.returns

@@ -1,25 +1,9 @@
--- The bytes one by one.
-use Rattle.laws.proofs.Prelude.{eq-eqb, ne_eqb}
-use Rattle.position.specs.Forms.Journal.{step_at}
-use Rattle.call_shrink.specs.Forms.Round.{same_step}
+-- The four bytes of each.
+use Rattle.laws.proofs.Prelude.{◌-◌, ◌∙◌, arith}
+use Rattle.call_shrink.proofs.Twins.{same_slices}
 use Rattle.call_shrink.proofs.round.again.Goals as goal
 
-pub overflow_sub-before : goal.overflow_sub-before
-unfolding same_step step_at
-overflow_sub-before c = c.requires.le_i c.if-went.false
-
-pub returns-then-steps-before : goal.returns-then-steps-before
-unfolding same_step step_at
-returns-then-steps-before c = rw (c.if-went.false, ne_eqb _ _ c.if-steps-before.true)
-
-pub returns-then-steps-before-2 : goal.returns-then-steps-before-2
-unfolding same_step step_at
-returns-then-steps-before-2 c = rw (c.if-went.false, eq-eqb _ _ c.if-steps-before.false, ne_eqb _ _ c.if-steps-before-2.true)
-
-pub returns-then-steps-before-3 : goal.returns-then-steps-before-3
-unfolding same_step step_at
-returns-then-steps-before-3 c = rw (c.if-went.false, eq-eqb _ _ c.if-steps-before.false, eq-eqb _ _ c.if-steps-before-2.false, ne_eqb _ _ c.if-steps-before-3.true)
-
-pub returns : goal.returns
-unfolding same_step step_at
-returns c = rw (c.if-went.false, eq-eqb _ _ c.if-steps-before.false, eq-eqb _ _ c.if-steps-before-2.false, eq-eqb _ _ c.if-steps-before-3.false)
+pub returns-then-not-went : goal.returns-then-not-went
+returns-then-not-went c =
+    let h = c.requires.le_i c.if-not-went.true in
+    rw c.if-not-went.true (c.eq.ensures ∙ same_slices c.args.steps.now (c.args.i - 4) c.args.i _ _ (omega (arith, h, c.requires.i_in_bounds)) c.requires.i_in_bounds (omega (arith, h)) (omega (arith, h)))

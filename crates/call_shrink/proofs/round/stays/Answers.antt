@@ -1,5 +1,5 @@
 -- A twin, or the position of the row that is lost.
-use Rattle.laws.proofs.Prelude.{refl, inl, inr, not-false, clash}
+use Rattle.laws.proofs.Prelude.{refl, inl, inr, clash}
 use Rattle.call_shrink.proofs.LostRows.{meets_found}
 use Rattle.call_shrink.proofs.round.stays.Goals as goal
 
@@ -9,11 +9,8 @@ returns-then-twin c = λ e. inl c.if-twin.true
 pub returns-then-kind-ne6 : goal.returns-then-kind-ne6
 returns-then-kind-ne6 c e = clash e refl
 
-pub returns-then-not-lost : goal.returns-then-not-lost
-returns-then-not-lost c e = clash e refl
-
 pub returns-then-ran-ne0 : goal.returns-then-ran-ne0
 returns-then-ran-ne0 c e = clash e refl
 
 pub returns : goal.returns
-returns c = λ e. inr (meets_found _ _ _ _ _ _ c.run_from-ran.ensures (not-false _ c.if-not-lost.false) c.if-ran-ne0.false (c.same.ensures e))
+returns c = λ e. inr (meets_found _ _ _ _ _ _ _ c.run_from-ran.ensures c.in-Some.is c.if-ran-ne0.false (c.same.ensures e))

@@ -13,19 +13,19 @@ few : (c : After-again-twin) → c.loop-k.k < 1024
 few c = omega (arith, c.loop-k-test.true, c.requires.steps_len_bound)
 
 pub loop-k-init : goal.loop-k-init
-loop-k-init c = (writing_start _ _ _ _ (bytes_start _ _ _ _ _ (c.start-here.ensures ∙ ap start c.bytes.ensures) c.requires.steps_value) (all_room _ _ _ _ _ c.requires.steps_in_bounds), twins_start _ _ _ _ _ (c.start-here.ensures ∙ ap start c.bytes.ensures) c.requires.steps_value, losing_start _ _ _ _ _)
+loop-k-init c = (writing_start _ _ _ _ (bytes_start _ _ _ _ _ (c.start-here.ensures ∙ ap start c.bytes.ensures) c.requires.steps_value) (all_room _ _ _ _ _ c.requires.steps_in_bounds), twins_start _ _ _ _ _ (c.start-here.ensures ∙ ap start c.bytes.ensures) c.requires.steps_value, losing_start _ _ _ _)
 
 pub again-twin-requires : goal.again-twin-requires
 again-twin-requires c = record { i_in_bounds = omega (arith, c.loop-k-test.true); le_i = c.loop-k.invariant.1.later }
 
-pub overflow_mul-lost : goal.overflow_mul-lost
-overflow_mul-lost c = record { fits = omega (arith, c.loop-k.invariant.2.early, few (goal.at.overflow_mul-lost c).After-again-twin) }
+pub overflow_mul-from : goal.overflow_mul-from
+overflow_mul-from c = record { fits = omega (arith, c.lost_from-from.ensures, c.loop-k.invariant.2.early, few (goal.at.overflow_mul-from c).After-again-twin) }
 
 pub slice_bounds-stays-count : goal.slice_bounds-stays-count
-slice_bounds-stays-count c = omega (arith, c.loop-k.invariant.2.early)
+slice_bounds-stays-count c = omega (arith, c.lost_from-from.ensures, c.loop-k.invariant.2.early)
 
 pub slice_bounds-stays-start : goal.slice_bounds-stays-start
-slice_bounds-stays-start c = omega (arith, c.loop-k.invariant.2.early)
+slice_bounds-stays-start c = omega (arith, c.lost_from-from.ensures, c.loop-k.invariant.2.early)
 
 pub slice_bounds-write_kept-count : goal.slice_bounds-write_kept-count
 slice_bounds-write_kept-count c = omega (arith, c.loop-k.invariant.0.wrote)
@@ -35,7 +35,7 @@ slice_bounds-write_kept-start c = omega (arith, c.loop-k.invariant.0.wrote)
 
 pub write_kept-wrote-requires : goal.write_kept-wrote-requires
 write_kept-wrote-requires c =
-    let g = tried _ _ _ _ _ _ c.loop-k.invariant.2 _ _ _ _ _ c.loop-k.invariant.1 (omega (arith, c.loop-k-test.true)) c.again-twin.ensures c.stays-stay.ensures c.goes-going.ensures in
+    let g = tried _ _ _ _ _ _ c.loop-k.invariant.2 _ _ _ _ _ c.loop-k.invariant.1 (omega (arith, c.loop-k-test.true)) c.again-twin.ensures (rw c.lost_from-from.ensures at c.stays-stay.ensures) c.goes-going.ensures in
     record { i_in_bounds = omega (arith, c.loop-k-test.true); i_in_bounds_2 = turn_room _ _ _ _ c.loop-k.invariant.0 _ (omega (arith, c.loop-k-test.true)) g }
 
 pub overflow_mul-k-in-loop-k-5 : goal.overflow_mul-k-in-loop-k-5
@@ -53,14 +53,14 @@ past-here-requires c = record { fit = c.requires.fit; i_in_bounds = omega (arith
 pub overflow_add-at : goal.overflow_add-at
 overflow_add-at c =
     let g = tried _ _ _ _ _ _ c.loop-k.invariant.2 _ _ _ _ _ c.loop-k.invariant.1 (omega (arith, c.loop-k-test.true)) c.again-twin.ensures
-    c.stays-stay.ensures c.goes-going.ensures in
+    (rw c.lost_from-from.ensures at c.stays-stay.ensures) c.goes-going.ensures in
     let w = turn_end _ _ _ _ c.loop-k.invariant.0 _ (omega (arith, c.loop-k-test.true)) g _ c.write_kept-wrote.ensures.value in
     omega (arith, c.requires.steps_len_bound, w)
 
 pub loop-k-preserved : goal.loop-k-preserved
 loop-k-preserved c =
     let g = tried _ _ _ _ _ _ c.loop-k.invariant.2 _ _ _ _ _ c.loop-k.invariant.1 (omega (arith, c.loop-k-test.true)) c.again-twin.ensures
-    c.stays-stay.ensures c.goes-going.ensures in
+    (rw c.lost_from-from.ensures at c.stays-stay.ensures) c.goes-going.ensures in
     let e = bytes_turn _ _ _ _ _ _ _ _ (omega (arith, c.loop-k-test.true)) g c.past-here.ensures in (
       writing_more c.loop-k.invariant.0 _ _ e _ _ c.write_kept-wrote.ensures.value c.write_kept-wrote.ensures.out_after,
       twins_more _ _ _ _ _ _ _ _ c.loop-k.invariant.1 (omega (arith, c.loop-k-test.true)) _ g c.past-here.ensures,

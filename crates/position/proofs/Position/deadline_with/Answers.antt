@@ -1,8 +1,5 @@
 -- The deadline since the block that was read.
-use Rattle.position.specs.Forms.View.{since_in}
-use Rattle.position.specs.Position.{slot}
 use Rattle.position.proofs.Position.deadline_with.Goals as goal
 
 pub returns : goal.returns
-unfolding since_in slot
-returns c = rw (← c.slot_above-up.ensures.0, ← c.block_above-since.ensures) c.deadline.ensures
+returns c = rw (← c.since.ensures) c.deadline.ensures

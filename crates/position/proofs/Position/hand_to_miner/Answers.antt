@@ -1,7 +1,7 @@
 -- What conduct allows, the tests, and the slot that is stored.
-use Rattle.position.proofs.Outcomes.{since_read, sends_open, hand_outcome}
+use Rattle.position.proofs.Outcomes.{sends_open, hand_outcome}
 use Rattle.position.proofs.Guards.{not_held, held_if_paid, send_held}
-use Rattle.position.proofs.SendTests.{miner_answer}
+use Rattle.position.proofs.SendTests.{miner_answer, since_parent_lem}
 use Rattle.position.specs.Position.{slot}
 use Rattle.position.specs.Effect.{with_slots}
 use Rattle.laws.proofs.Prelude.{not, ◌<◌, ◌≡◌, refl, sym, ◌∙◌, length, eq-eqb, rules, arith, length_of_map}
@@ -31,5 +31,5 @@ returns c =
     ] in
     let allowed = send_held _ _ _ _ _ _ _ _ may paying refl in
     hand_outcome _ _ _ _ _ _ _ _ _ _ _ c.wide-k.ensures.is c.from-destination.ensures.0 c.slot_after-after.ensures
-    (miner_answer _ _ _ _ c.requires.fit.checked _ _ _ (rw c.wide-k.ensures.is c.requires.t_bound) _ _ _ _ c.requires.view_value (since_read _ _ _ _ _ l c.slot_above-up.ensures.0 c.block_above-since.ensures) allowed (c.number_of-refusal.ensures ∙ c.miner_refusal.ensures))
+    (miner_answer _ _ _ _ c.requires.fit.checked _ _ _ (rw c.wide-k.ensures.is c.requires.t_bound) _ _ _ _ c.requires.view_value (c.since-since.ensures ∙ since_parent_lem _ _ l _) allowed (c.number_of-refusal.ensures ∙ c.miner_refusal.ensures))
     c.handed_slot-handed.ensures

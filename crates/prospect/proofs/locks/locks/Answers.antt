@@ -1,8 +1,6 @@
 -- Those below t.
 use Rattle.laws.proofs.Prelude.{refl, rules, arith}
 use Rattle.soonest.proofs.Tables.{filled_start, filled_more, filled_done}
-use Rattle.position.specs.Position.{slot}
-use Rattle.position.specs.Forms.View.{since_in}
 use Rattle.prospect.proofs.LockHeights.{block_small, own_lock}
 use Rattle.prospect.proofs.locks.locks.Goals as goal
 
@@ -10,23 +8,21 @@ pub loop-t-init : goal.loop-t-init
 loop-t-init c = filled_start _ _ refl
 
 pub lock_at-requires : goal.lock_at-requires
-unfolding since_in slot
 lock_at-requires c =
     let h =
     block_small c.args.sheet.now.bytes c.args.setup.now c.args.position c.requires.checked c.loop-t.t
     (omega (arith, c.loop-t-test.true, c.count-t-end.ensures.is))
-    _ c.per_day-per_day.ensures _ c.soonest_blocks-soonest.ensures c.block_above-since.result c.block_or-e.result
-    (rw (← c.slot_above-up.ensures.0) c.block_above-since.ensures) (search rules) (rw (← c.above.ensures) c.block_or-e.ensures) in
+    _ c.per_day-per_day.ensures _ c.soonest_blocks-soonest.ensures c.since-since.result c.block_or-e.result
+    c.since-since.ensures (search rules) (rw (← c.above.ensures) c.block_or-e.ensures) in
     search rules
 
 pub loop-t-preserved : goal.loop-t-preserved
-unfolding since_in slot
 loop-t-preserved c =
     let h =
     own_lock c.args.sheet.now.bytes c.args.setup.now c.args.position c.requires.checked c.loop-t.t
     (omega (arith, c.loop-t-test.true, c.count-t-end.ensures.is))
-    _ c.per_day-per_day.ensures _ c.soonest_blocks-soonest.ensures c.block_above-since.result c.block_or-e.result
-    (rw (← c.slot_above-up.ensures.0) c.block_above-since.ensures) (search rules) (rw (← c.above.ensures) c.block_or-e.ensures)
+    _ c.per_day-per_day.ensures _ c.soonest_blocks-soonest.ensures c.since-since.result c.block_or-e.result
+    c.since-since.ensures (search rules) (rw (← c.above.ensures) c.block_or-e.ensures)
     _ c.lock_at.ensures in
     filled_more _ _ _ _ c.loop-t.invariant (search rules) h
 

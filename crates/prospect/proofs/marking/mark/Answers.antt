@@ -14,7 +14,7 @@ returns c =
     let fixes = fixed_is _ _ c.requires.fit.checked _ c.requires.reads.confirmed _ c.fixed-fixed.ensures in
     record {
       count_is = c.count.ensures.is;
-      stealth_is = c.wide.ensures ∙ c.stealth.ensures;
+      stealth_is = c.from.ensures ∙ c.stealth.ensures;
       gone_is = c.requires.reads.gone;
       contract_is = c.contracts.ensures;
       payable_is = c.payable.ensures;

@@ -7,4 +7,4 @@ returns-then-pooled c = simp c.if-pooled.true
 
 pub returns : goal.returns
 unfolding without
-returns c = simp (c.if-pooled.false, c.wide.ensures)
+returns c = simp (c.if-pooled.false, c.from.ensures)

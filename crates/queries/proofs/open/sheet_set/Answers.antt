@@ -24,8 +24,8 @@ loop-t-preserved c =
     walk_on c.loop-t.invariant _ _ h
     (next_turn _ _ _ _ _ _ c.requires.fit c.requires.to_bound c.requires.to_value c.requires.fact _ _ _ _ c.requires.context_value c.requires.dests_value c.candidates-c.ensures c.count-n.ensures.is _ _ _ _ _ h.gap c.loop-t.invariant.done
     c.join-found.ensures
-    (turn_open _ _ _ _ _ _ c.requires.fit c.requires.to_bound c.requires.to_value c.requires.fact _ _ _ _ c.requires.context_value c.requires.dests_value c.candidates-c.ensures c.count-n.ensures.is _ h.high h.here _ _ _ l
-    c.slot_above-up.ensures.0 c.block_above-since.ensures
+    (turn_open _ _ _ _ _ _ c.requires.fit c.requires.to_bound c.requires.to_value c.requires.fact _ _ _ _ c.requires.context_value c.requires.dests_value c.candidates-c.ensures c.count-n.ensures.is _ h.high h.here _ _ l
+    c.since-since.ensures
     c.accepted_as-on.ensures))
 
 pub returns : goal.returns

@@ -2,7 +2,7 @@
 use Rattle.position.proofs.ReportLengths.{row_length, rows_room}
 use Rattle.queries.proofs.ReportRows.{row_written}
 use Rattle.laws.proofs.Prelude.{bytes_of, length_of_map, turns_start, turn_room, turn_end, turn_more, turns_done, ◌≡◌, refl, sym, length, get_or, arith}
-use Rattle.position.proofs.Rules.{row_width, report_bytes, slot, since_in}
+use Rattle.position.proofs.Rules.{row_width, report_bytes, slot}
 use Rattle.output.specs.Forms.Row.{row_bytes}
 use Rattle.queries.proofs.report.write_report.Goals as goal
 
@@ -38,7 +38,7 @@ overflow_add-at c =
     )
 
 pub loop-t-preserved : goal.loop-t-preserved
-unfolding since_in slot
+unfolding slot
 loop-t-preserved c =
     let l : length c.args.position.slots ≡ 32 = search (length_of_map, c.well_formed) in
     let o : length c.args.opened ≡ 32 = search c.well_formed in
@@ -46,8 +46,7 @@ loop-t-preserved c =
     row_written c.args.sheet.now.bytes c.args.setup.now c.args.position c.args.opened c.loop-t.t _ _ _ _ _ _ (get_or c.args.opened c.loop-t.t 0) c.requires.fit.checked.sized.few l (omega (arith, c.loop-t-test.true, c.count-n.ensures.is))
     c.per_day-per_day.ensures c.requires.view_value
     c.conflicts_of-conflicted.ensures refl
-    (rw (← c.slot_above-up.ensures.0)
-    c.block_above-since.ensures) c.row-r.ensures refl o in
+    c.since-since.ensures c.row-r.ensures refl o in
     turn_more _ _ _ _ _ _ _ row_width c.loop-t.invariant c.loop-t-test.true (sym (row_length c.args.sheet.now.bytes c.args.setup.now c.args.position c.args.opened c.loop-t.t)) (rw wrote at c.write_row.ensures)
 
 pub shape_of-out : goal.shape_of-out
