@@ -58,11 +58,11 @@ for name, text in SOURCES:
         if len(variants) == 2 and sum("(" in v for v in variants) in (1, 2):
             places["1a own enums of the shape of Option or Result"].append(f"{name}: {m.group(1)}")
     for function, head, body in functions(text):
-        if re.search(r"-> u32\s*$|-> u32\n", head) and re.search(r"\brefusal::[A-Z]|_refusal\(", body) and not re.search(r'extern "C"', head):
+        if re.search(r"-> u32\s*$|-> u32\n", head) and re.search(r"\b[Rr]efusal::[A-Z]|_refusal\(|\brefusal\b", body) and not re.search(r'extern "C"', head):
             places["1b functions that answer a refusal's number"].append(f"{name}: {function}")
         for parameter in re.findall(r"\b(kind|party|actor|destination|to|conduct|way|status|rule|receiver|giver): u(?:8|32)\b", re.search(r"\(([^)]*)\)", head).group(1)):
             places[f"1c parameters that are numbers for kinds ({parameter if parameter in ('kind', 'rule') else 'party' if parameter in ('party', 'actor', 'receiver', 'giver') else 'destination' if parameter in ('destination', 'to') else 'conduct, status'})"].append(f"{name}: {function}({parameter})")
-by_line("1d refusals and kinds as constants", r"pub const [A-Z_0-9]+: u32 = \d+;(?=.*)" if False else r"^pub const (?:SHEET|SETUP|STEP|JOURNAL|BUFFER|ACCEPTED|ENDING|BLOCKS|LIST|TIMELOCK|COUNT|BASE)[A-Z_0-9]*: u32 = \d+;")
+by_line("1d refusals and kinds as constants", r"^pub const (?:SHEET|SETUP|STEP|JOURNAL|BUFFER|ACCEPTED|ENDING|BLOCKS|LIST|TIMELOCK|COUNT|BASE)[A-Z_0-9]*: u32 = \d+;")
 by_line("1e a value that says none (NEVER, NONE, NOBODY, NOWHERE, NO_TRANSACTION)", r"\b(?:NEVER|NONE|NOBODY|NOWHERE|NO_TRANSACTION)\b")
 for name, text in SOURCES:
     for m in re.finditer(r"(?m)^(?:pub )?struct (\w+)[^{]*\{\n((?:    .*\n)+)\}", text):
@@ -107,7 +107,6 @@ for name, text in SOURCES:
 for word, group in facts.items():
     if len(group) >= 3:
         places[f"5a contracts that require {word}"] = group
-pairs = defaultdict(list)
 for name, text in SOURCES:
     for function, head, body in functions(text):
         parameters = [p.strip() for p in re.search(r"\(([^)]*)\)", head).group(1).replace("\n", " ").split(",") if p.strip()]

@@ -3,7 +3,7 @@ ghost use Rattle.std.specs.Prelude.{◌<◌, ◌≡◌, ◌||◌, eqb};
 ghost use Rattle.laws.specs.Mask.{bit, union_below};
 ghost use Rattle.laws.specs.Sets.{set_below};
 ghost use Rattle.laws.specs.Booleans.{pick};
-ghost use Rattle.sheet.specs.Field.{parties, party_at, count, Sized};
+ghost use Rattle.sheet.specs.Field.{parties, party_at, count};
 ghost use Rattle.sheet.specs.Checked.{Fit};
 ghost use Rattle.steps.specs.Forms.View.{keys_in};
 ghost use Rattle.readings.specs.Forms.Report.{dead_in};
@@ -17,11 +17,11 @@ use position::Position;
 use readings::report;
 use sheet::field::Sheet;
 use sheet::{set, table};
-use slots::{Slot, conflict, lock_height, party, signatures};
+use slots::{Slot, conflict, party, signatures};
 use steps::names::{SECRET_BOB, SUCCESS};
 use steps::{Guards, View};
 
-// No destination's number.
+// No destination's number, so that none is left out: a number, since `waits_in` and `sends_in` of specs/Forms take one.
 const NOWHERE: u8 = 255;
 
 // Careful conduct.
@@ -46,7 +46,7 @@ fn overdue(position: Position, sheet: &Sheet, setup: &[u8], t: usize) -> bool
     if sheet::setup::stealth(setup) != 0 {
         return false;
     }
-    position.deadline_in(sheet, setup, t) <= lock_height::wide(position.mined)
+    position.deadline_in(sheet, setup, t) <= u32::from(position.mined)
 }
 
 // What a careful Alice asks before a send, in phase 3, where nothing else holds one back.

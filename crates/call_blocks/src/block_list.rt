@@ -2,7 +2,6 @@
 ghost use Rattle.std.specs.Prelude.{◌+◌, ◌≤◌, ◌<◌, ◌≡◌, ◌&&◌, length};
 ghost use Rattle.laws.specs.Failing.{first_failing};
 ghost use Rattle.sheet.specs.Refusal.{refused};
-ghost use Rattle.sheet.specs.Field.{Sized};
 ghost use Rattle.sheet.specs.Checked.{Fit};
 ghost use Rattle.ledger.specs.Entry.{before};
 ghost use Rattle.call_blocks.specs.BlockList.{list_entries, entry_named, fields_named, block_within, entries_rise, list_tests};
@@ -33,7 +32,7 @@ pub fn listed_at(list: &[u8], i: usize) -> Listed
 fn entry_named(sheet: &Sheet, entry: Listed) -> bool
     ensures { result ≡ entry_named sheet.now.bytes (entry_of entry) }
 {
-    let t = sheet::field::wide(entry.transaction);
+    let t = usize::from(entry.transaction);
     if t < sheet.count() {
         return decode::shares_to(sheet, t, entry.destination);
     }

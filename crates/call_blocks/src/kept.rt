@@ -10,7 +10,7 @@ ghost use Rattle.call_blocks.specs.Forms.Listed.{entry_of, last_of};
 use crate::Listed;
 use crate::block_list::listed_at;
 use sheet::field::Sheet;
-use slots::lock_height::{lock_height, wide};
+use slots::lock_height::lock_height;
 
 // Whether an entry opens its coin, for which none is kept.
 fn opens(sheet: &Sheet, per_day: u16, entry: Listed) -> bool
@@ -18,9 +18,9 @@ fn opens(sheet: &Sheet, per_day: u16, entry: Listed) -> bool
     requires transaction_bound { entry.transaction < count sheet.now.bytes }
     ensures { result ≡ fits sheet.now.bytes per_day none (entry_of entry) }
 {
-    let t = sheet::field::wide(entry.transaction);
+    let t = usize::from(entry.transaction);
     if sheet.opening(t) {
-        return lock_height(sheet, per_day, 0, t) < wide(entry.block);
+        return lock_height(sheet, per_day, 0, t) < u32::from(entry.block);
     }
     false
 }
@@ -32,12 +32,12 @@ fn spends(sheet: &Sheet, per_day: u16, last: Listed, entry: Listed) -> bool
     requires block_nonzero { 0 < last.block }
     ensures { result ≡ fits sheet.now.bytes per_day (some (entry_of last)) (entry_of entry) }
 {
-    let t = sheet::field::wide(entry.transaction);
+    let t = usize::from(entry.transaction);
     if sheet.opening(t) {
         return false;
     }
-    if sheet::field::wide(last.transaction) == sheet.parent(t) {
-        return lock_height(sheet, per_day, last.block, t) < wide(entry.block);
+    if usize::from(last.transaction) == sheet.parent(t) {
+        return lock_height(sheet, per_day, last.block, t) < u32::from(entry.block);
     }
     false
 }
@@ -68,7 +68,7 @@ pub fn ledger_accepts(sheet: &Sheet, per_day: u16, list: &[u8]) -> bool
     let mut kept = [none; 32];
     for k in 0..list.len() / 4 {
         let entry = listed_at(list, 4 * k);
-        let coin = readings::holder::coin_of(sheet, sheet::field::wide(entry.transaction));
+        let coin = readings::holder::coin_of(sheet, usize::from(entry.transaction));
         let last = kept[coin];
         if !fits(sheet, per_day, last, entry) {
             return false;

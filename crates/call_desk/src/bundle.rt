@@ -12,7 +12,7 @@ pub fn swaps(bundle: &[u8]) -> usize
     requires { 1 ≤ length bundle.now }
     ensures { Wide (swaps bundle.now) result }
 {
-    sheet::field::wide(bundle[0])
+    usize::from(bundle[0])
 }
 
 // The length of swap i's journal.

@@ -1,6 +1,6 @@
 // The transactions of a mask and their ancestors as a set, and a table of their blocks.
 ghost use Rattle.std.specs.Prelude.{◌<◌, ◌≡◌};
-ghost use Rattle.sheet.specs.Field.{count, Sized};
+ghost use Rattle.sheet.specs.Field.{count};
 ghost use Rattle.call_earliest.specs.Forms.Table.{members, block_in, table};
 
 use endings::block::earliest_block;

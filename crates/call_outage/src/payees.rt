@@ -2,7 +2,7 @@
 ghost use Rattle.std.specs.Prelude.{◌<◌, ◌≡◌};
 ghost use Rattle.laws.specs.Booleans.{pick};
 ghost use Rattle.laws.specs.Mask.{bit};
-ghost use Rattle.sheet.specs.Field.{count, payees, Sized};
+ghost use Rattle.sheet.specs.Field.{count, payees};
 ghost use Rattle.slots.specs.Forms.Line.{line_set};
 ghost use Rattle.soonest.specs.Forms.Table.{Filled};
 ghost use Rattle.call_outage.specs.Forms.Row.{payees_in};

@@ -1,7 +1,7 @@
 // The verdict on a transaction.
 ghost use Rattle.std.specs.Prelude.{◌<◌, ◌≤◌, ◌+◌, ◌≡◌, leb};
 ghost use Rattle.laws.specs.Booleans.{pick};
-ghost use Rattle.sheet.specs.Field.{count, Sized};
+ghost use Rattle.sheet.specs.Field.{count};
 ghost use Rattle.sheet.specs.Checked.{Fit};
 ghost use Rattle.call_outage.specs.Verdict.{is_covered, is_passed, exposed};
 ghost use Rattle.call_outage.specs.Forms.Row.{safe_in, verdict_in};

@@ -10,6 +10,7 @@ use printed::Line;
 
 const BLANK: u8 = 32;
 
+// A report's number for never (`never` of sheet/specs/LockHeight.antt), which a page shows as a word.
 const NEVER: u32 = 2147483647;
 
 const WIDTHS: [usize; 6] = [3, 4, 9, 8, 16, 16];
@@ -25,7 +26,7 @@ fn aligned(text: &[u8], before: usize, i: usize) -> u8
     text[i - before]
 }
 
-// A text in its column, at the front of the buffer; the answer is the column's length.
+// A text in its column, at the front of the buffer; the answer is the column's length. Straight into the caller's buffer: nothing is allocated.
 fn write_text(width: usize, text: &[u8], out: &mut [u8]) -> usize
     requires { length (column width text.now) ≤ length out.old }
     ensures value { result ≡ length (column width text.now) }
@@ -39,7 +40,7 @@ fn write_text(width: usize, text: &[u8], out: &mut [u8]) -> usize
     end
 }
 
-// The character of a number below ten.
+// The character of a number below ten, for `write_number`.
 fn digit(d: u32) -> u8
     requires { d < 10 }
     ensures { result ≡ digit d }

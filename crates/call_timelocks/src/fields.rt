@@ -2,7 +2,7 @@
 ghost use Rattle.std.specs.Prelude.{◌<◌, ◌≤◌, ◌*◌, ◌≡◌, true, length};
 ghost use Rattle.laws.specs.Below.{all_below};
 ghost use Rattle.laws.specs.Over.{over};
-ghost use Rattle.sheet.specs.Field.{count, Sized};
+ghost use Rattle.sheet.specs.Field.{count};
 ghost use Rattle.call_timelocks.specs.Fields.{n_lock_time, n_sequence, timelock_bytes};
 ghost use Rattle.call_timelocks.specs.Limits.{absolute_right};
 

@@ -1,9 +1,8 @@
 // What keeps the two numbers within Bitcoin's fields: 26 and 27.
 ghost use Rattle.std.specs.Prelude.{◌<◌, ◌+◌, ◌≡◌};
-ghost use Rattle.laws.specs.Below.{all_below};
 ghost use Rattle.laws.specs.Failing.{first_failing};
 ghost use Rattle.sheet.specs.Refusal.{refused};
-ghost use Rattle.sheet.specs.Field.{count, Sized};
+ghost use Rattle.sheet.specs.Field.{count};
 ghost use Rattle.call_timelocks.specs.Limits.{relative_right, absolute_right, limit_tests};
 
 use crate::fields;

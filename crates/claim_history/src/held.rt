@@ -1,6 +1,7 @@
 // The holders of all coins: at each opening's number the coin's holder, 255 for nobody.
+// holders_in and holders_by are one call of table::filled each: a function over both would be that call again.
 ghost use Rattle.std.specs.Prelude.{◌*◌, ◌≤◌, ◌≡◌, length};
-ghost use Rattle.sheet.specs.Field.{count, Sized};
+ghost use Rattle.sheet.specs.Field.{count};
 ghost use Rattle.sheet.specs.Checked.{Checked};
 ghost use Rattle.readings.specs.Reported.{row_width, reported_holder};
 ghost use Rattle.position.specs.Holder.{holder_in};

@@ -2,7 +2,7 @@
 ghost use Rattle.std.specs.Prelude.{◌<◌, ◌≡◌, true, leb};
 ghost use Rattle.laws.specs.Below.{any_below};
 ghost use Rattle.laws.specs.Mask.{bit};
-ghost use Rattle.sheet.specs.Field.{parties, party_at, count, Sized};
+ghost use Rattle.sheet.specs.Field.{parties, party_at, count};
 ghost use Rattle.sheet.specs.LockHeight.{never, lock_height};
 ghost use Rattle.sheet.specs.Checked.{Checked};
 ghost use Rattle.slots.specs.Ancestry.{has_parent};
@@ -43,7 +43,7 @@ fn lock_reached(sheet: &Sheet, per_day: u16, since: u16, mined: u16, t: usize) -
     requires t_bound { t < count sheet.now.bytes }
     ensures { result ≡ leb (lock_height sheet.now.bytes per_day (λ k. since) t) mined }
 {
-    lock_height::lock_height(sheet, per_day, since, t) <= lock_height::wide(mined)
+    lock_height::lock_height(sheet, per_day, since, t) <= u32::from(mined)
 }
 
 // Whether t, whose parent is confirmed or which has none, is open. The search for a rival takes longest.

@@ -1,6 +1,6 @@
 // The earliest block of a transaction: recursion up the sheet, where a parent is always a lower number.
 ghost use Rattle.std.specs.Prelude.{◌+◌, ◌*◌, ◌≤◌, ◌<◌};
-ghost use Rattle.sheet.specs.Field.{count, Sized};
+ghost use Rattle.sheet.specs.Field.{count};
 ghost use Rattle.ledger.specs.Ledger.{lock_from};
 ghost use Rattle.endings.specs.Earliest.{earliest_from, earliest};
 ghost use Rattle.endings.specs.Forms.Bounds.{Locked, Early};

@@ -4,7 +4,7 @@ ghost use Rattle.laws.specs.Below.{all_below};
 ghost use Rattle.laws.specs.Failing.{first_failing};
 ghost use Rattle.laws.specs.Sum.{bits_below};
 ghost use Rattle.sheet.specs.Refusal.{refused};
-ghost use Rattle.sheet.specs.Field.{count, Sized};
+ghost use Rattle.sheet.specs.Field.{count};
 ghost use Rattle.sheet.specs.Checked.{Fit};
 ghost use Rattle.slots.specs.Destination.{is_contract};
 ghost use Rattle.steps.specs.Decode.{shares_to};

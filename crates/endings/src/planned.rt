@@ -1,7 +1,7 @@
 // The transactions of a mask and their ancestors.
 ghost use Rattle.std.specs.Prelude.{◌<◌, ◌≡◌, ◌&&◌};
 ghost use Rattle.laws.specs.Mask.{bit};
-ghost use Rattle.sheet.specs.Field.{count, Sized};
+ghost use Rattle.sheet.specs.Field.{count};
 ghost use Rattle.slots.specs.Ancestry.{is_self_or_ancestor};
 ghost use Rattle.endings.specs.Plan.{planned};
 

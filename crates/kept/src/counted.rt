@@ -7,7 +7,7 @@ ghost use Rattle.kept.specs.Forms.Evaluation.{Bounded, sure_in, lowest_in, count
 use crate::{Prospect, kept};
 use sheet::set;
 
-// No transaction: the byte that a row of slack has for none, as in lowest_in of specs/Forms.
+// No transaction: the byte that a row of slack has for none, as in lowest_in of specs/Forms/Evaluation.antt.
 pub const NOBODY: u8 = 255;
 
 // Whether something beats t.

@@ -9,13 +9,7 @@ pub fn write_number(out: &mut [u8], x: u32)
     requires { 4 ≤ length out.old }
     ensures { out.new ≡ over (bytes_of 4 x) out.old }
 {
-    let x1 = x / 256;
-    let x2 = x1 / 256;
-    let x3 = x2 / 256;
-    out[0] = (x % 256) as u8;
-    out[1] = (x1 % 256) as u8;
-    out[2] = (x2 % 256) as u8;
-    out[3] = (x3 % 256) as u8;
+    out[..4].copy_from_slice(&x.to_le_bytes());
 }
 
 // Two numbers, one after the other.

@@ -18,7 +18,7 @@ ghost use Rattle.position.specs.Forms.View.{view_below};
 use crate::Position;
 use sheet::field::Sheet;
 use sheet::refusal::{Refusal, require};
-use slots::{Slot, lock_height, next, party, signatures};
+use slots::{Slot, next, party, signatures};
 use steps::names::{LOCK_A, LOCK_B, NO_TRANSACTION, REFUND_1, SECRET_BOB, SUCCESS};
 use steps::{Guards, View, conduct, sending};
 
@@ -116,7 +116,7 @@ impl Position {
         requires bound { 2 < count sheet.now.bytes }
         ensures { result ≡ late sheet.now.bytes setup.now self }
     {
-        self.deadline_in(sheet, setup, SUCCESS) <= lock_height::wide(self.mined)
+        self.deadline_in(sheet, setup, SUCCESS) <= u32::from(self.mined)
     }
 
     // What conduct reads off the position.

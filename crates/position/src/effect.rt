@@ -1,6 +1,6 @@
 // What accepted steps make of a slot: kinds 1 and 4; the first shares.
 ghost use Rattle.std.specs.Prelude.{◌<◌, ◌≡◌};
-ghost use Rattle.sheet.specs.Field.{count, Sized};
+ghost use Rattle.sheet.specs.Field.{count};
 ghost use Rattle.slots.specs.Slot.{entry_for, with_block, with_shared, with_mark};
 ghost use Rattle.slots.specs.Signatures.{share_mask};
 ghost use Rattle.position.specs.Position.{keys};
@@ -39,7 +39,7 @@ impl Position {
     pub fn keys(self, party: u8) -> u8
         ensures { result ≡ keys self party }
     {
-        let k = sheet::field::wide(party);
+        let k = usize::from(party);
         if k < 6 {
             return self.keys[k];
         }

@@ -2,7 +2,7 @@
 ghost use Rattle.std.specs.Prelude.{◌<◌, ◌≡◌, ltb};
 ghost use Rattle.laws.specs.Booleans.{pick};
 ghost use Rattle.laws.specs.Below.{any_below};
-ghost use Rattle.sheet.specs.Field.{count, Sized};
+ghost use Rattle.sheet.specs.Field.{count};
 ghost use Rattle.sheet.specs.Checked.{Fit};
 ghost use Rattle.sheet.specs.LockHeight.{never};
 ghost use Rattle.position.specs.Owed.{any_owed, owed};
@@ -18,7 +18,7 @@ use steps::{View, owed};
 fn ahead(mined: u16, height: u32) -> u32
     ensures { result ≡ pick (ltb mined height) height never }
 {
-    if lock_height::wide(mined) < height {
+    if u32::from(mined) < height {
         return height;
     }
     lock_height::NEVER
@@ -41,7 +41,7 @@ impl Position {
         ensures { result ≡ any_below (count sheet.now.bytes) (due_in sheet.now.bytes per_day self mined among) }
     {
         let n = sheet.count();
-        next::members(among, n).any(|t| lock_height::wide(mined) + 1
+        next::members(among, n).any(|t| u32::from(mined) + 1
             == self.deadline_with(sheet, per_day, t))
     }
 

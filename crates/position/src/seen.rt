@@ -1,7 +1,7 @@
 // The view of a position carried from step to step.
 ghost use Rattle.std.specs.Prelude.{◌<◌, ◌≡◌};
 ghost use Rattle.laws.specs.Mask.{bit};
-ghost use Rattle.sheet.specs.Field.{count, Sized};
+ghost use Rattle.sheet.specs.Field.{count};
 ghost use Rattle.sheet.specs.Checked.{Checked};
 ghost use Rattle.position.specs.Forms.Seen.{changed_set, refined_set, lowest, view_kept, view_joined};
 

@@ -41,7 +41,7 @@ impl Position {
             return self.share_all(sheet, setup, view, early, party, to);
         }
         let destination = u8::from(to);
-        let k = sheet::field::wide(t);
+        let k = usize::from(t);
         let allowed = sheet::setup::conduct(setup) == 0
             || self.may_share(sheet, setup, view, party, t);
         let held = view.keys(party);
@@ -107,7 +107,7 @@ impl Position {
         let held = view.keys(receiver);
         let met = sharing::give_met(view.keys(party), held, i);
         let refusal = refusal::number_of(conduct::conduct_refusal(allowed, met));
-        let k = sheet::field::wide(receiver);
+        let k = usize::from(receiver);
         let after = outcome::keys_after(refusal, held, i);
         self.keys[k] = after;
         Stepped {
@@ -132,7 +132,7 @@ impl Position {
         ensures { result ≡ take_step sheet.now.bytes setup.now self (SendToPool party t to) }
     {
         let destination = u8::from(to);
-        let k = sheet::field::wide(t);
+        let k = usize::from(t);
         let may = sheet::setup::conduct(setup) == 0 || self.may_send(sheet, setup, party, k);
         let paying = pays_first(sheet, setup, k) && self.can_pay(sheet, setup, view, party);
         let allowed = may & !paying;
@@ -174,7 +174,7 @@ impl Position {
         ensures { result ≡ take_step sheet.now.bytes setup.now self (HandToMiner party t to) }
     {
         let destination = u8::from(to);
-        let k = sheet::field::wide(t);
+        let k = usize::from(t);
         let may = sheet::setup::conduct(setup) == 0 || self.may_send(sheet, setup, party, k);
         let paying = pays_first(sheet, setup, k) && self.can_pay(sheet, setup, view, party);
         let allowed = may & !paying;
@@ -215,7 +215,7 @@ impl Position {
         requires t_bound { t < count sheet.now.bytes }
         ensures { result ≡ take_step sheet.now.bytes setup.now self (Include party t to) }
     {
-        let k = sheet::field::wide(t);
+        let k = usize::from(t);
         let any = self.any_owed(sheet, setup, view);
         let refusal = refusal::number_of(mining::include_refusal(sheet, view, any, k));
         let x = self.slots[k];
@@ -273,7 +273,7 @@ impl Position {
         requires t_bound { t < count sheet.now.bytes }
         ensures { result ≡ take_step sheet.now.bytes setup.now self (Bump party t to) }
     {
-        let k = sheet::field::wide(t);
+        let k = usize::from(t);
         let owed = self.owed(sheet, setup, view, k);
         if let Err(refusal) = mining::bump_refusal(owed) {
             return Stepped {

@@ -13,7 +13,8 @@ use Rattle.position.specs.declared.Position.{Position}
 use Rattle.position.specs.Position.{block_of, is_confirmed}
 use Rattle.position.specs.Forms.View.{since_in}
 use Rattle.soonest.specs.Soonest.{lock_at, soonest_over, soonest_block, soonest_parent}
-use Rattle.soonest.specs.Forms.Bounds.{Lock, Soon}
+use Rattle.slots.specs.Forms.Height.{Lock}
+use Rattle.soonest.specs.Forms.Bounds.{Soon}
 use Rattle.soonest.specs.Forms.Table.{Filled, table_above}
 use Rattle.soonest.proofs.Recursion.{soonest_is}
 use Rattle.soonest.proofs.Tables.{soonest_above_lem}

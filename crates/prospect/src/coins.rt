@@ -1,7 +1,7 @@
 // The coin of each transaction, and those of other coins.
 ghost use Rattle.std.specs.Prelude.{◌<◌, ◌≡◌, not, eqb, get_or};
 ghost use Rattle.laws.specs.Sets.{set_below};
-ghost use Rattle.sheet.specs.Field.{count, Sized};
+ghost use Rattle.sheet.specs.Field.{count};
 ghost use Rattle.ledger.specs.Coin.{coin_of};
 ghost use Rattle.soonest.specs.Forms.Table.{Filled};
 

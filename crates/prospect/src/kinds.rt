@@ -1,7 +1,7 @@
 // The kinds of transactions, as sets.
 ghost use Rattle.std.specs.Prelude.{◌<◌, ◌≡◌, not, ◌||◌};
 ghost use Rattle.laws.specs.Sets.{set_below};
-ghost use Rattle.sheet.specs.Field.{count, Sized};
+ghost use Rattle.sheet.specs.Field.{count};
 ghost use Rattle.slots.specs.Destination.{is_payee, is_contract};
 ghost use Rattle.soonest.specs.Soonest.{since_locked};
 

@@ -3,7 +3,7 @@ ghost use Rattle.std.specs.Prelude.{◌<◌, ◌≡◌, not};
 ghost use Rattle.std.specs.Int.Bits.{bit_and};
 ghost use Rattle.laws.specs.Mask.{bit};
 ghost use Rattle.laws.specs.Sets.{removed, set_below};
-ghost use Rattle.sheet.specs.Field.{count, Sized};
+ghost use Rattle.sheet.specs.Field.{count};
 ghost use Rattle.slots.specs.Forms.Line.{line_set};
 ghost use Rattle.soonest.specs.Forms.Table.{Filled};
 

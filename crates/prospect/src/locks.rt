@@ -8,7 +8,6 @@ ghost use Rattle.prospect.specs.Forms.Marks.{OwnLock};
 
 use position::Position;
 use sheet::field::Sheet;
-use slots::lock_height;
 use soonest::{block, lock, table};
 
 // The parent's block where it is confirmed, else its soonest one.
@@ -16,7 +15,7 @@ fn block_or(since: u16, soonest: u32) -> u32
     ensures { result ≡ pick (ltb 0 since) since soonest }
 {
     if 0 < since {
-        return lock_height::wide(since);
+        return u32::from(since);
     }
     soonest
 }

@@ -1,6 +1,6 @@
 // A table of signature masks in a wider type.
 ghost use Rattle.std.specs.Prelude.{◌<◌, ◌≡◌, get_or};
-ghost use Rattle.sheet.specs.Field.{count, Sized};
+ghost use Rattle.sheet.specs.Field.{count};
 ghost use Rattle.soonest.specs.Forms.Table.{Filled};
 
 use sheet::field::Sheet;

@@ -3,7 +3,7 @@ ghost use Rattle.std.specs.Prelude.{◌<◌, ◌≡◌, true, not, ◌&&◌, ltb
 ghost use Rattle.laws.specs.Booleans.{pick};
 ghost use Rattle.laws.specs.Mask.{bit};
 ghost use Rattle.laws.specs.Sets.{joined, set_below};
-ghost use Rattle.sheet.specs.Field.{count, parent, Sized};
+ghost use Rattle.sheet.specs.Field.{count, parent};
 ghost use Rattle.slots.specs.Ancestry.{has_parent};
 ghost use Rattle.soonest.specs.Forms.Table.{Filled};
 

@@ -1,7 +1,7 @@
 // The rivals of each transaction.
 ghost use Rattle.std.specs.Prelude.{◌<◌, ◌≡◌};
 ghost use Rattle.laws.specs.Sets.{set_below};
-ghost use Rattle.sheet.specs.Field.{count, Sized};
+ghost use Rattle.sheet.specs.Field.{count};
 ghost use Rattle.slots.specs.Conflict.{conflict};
 ghost use Rattle.soonest.specs.Forms.Table.{Filled};
 

@@ -7,7 +7,6 @@ use attainable::read;
 use kept::Prospect;
 use position::Position;
 use sheet::field::Sheet;
-use slots::lock_height;
 
 // What is read once for a position and a party.
 pub fn prospect(position: Position, sheet: &Sheet, setup: &[u8], party: u8) -> Prospect
@@ -28,7 +27,7 @@ pub fn prospect(position: Position, sheet: &Sheet, setup: &[u8], party: u8) -> P
     let awaited = paid::awaited(sheet, others.confirmed, party);
     Prospect {
         count: marks.count,
-        mined: lock_height::wide(position.mined),
+        mined: u32::from(position.mined),
         stealth: marks.stealth,
         paid: paid::paid(position, sheet, party),
         contract: marks.contract,

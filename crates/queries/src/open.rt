@@ -1,7 +1,7 @@
 // The open steps of an actor, as sets.
 ghost use Rattle.std.specs.Prelude.{◌<◌, ◌≡◌, true};
 ghost use Rattle.laws.specs.Sets.{set_below};
-ghost use Rattle.sheet.specs.Field.{count, Sized};
+ghost use Rattle.sheet.specs.Field.{count};
 ghost use Rattle.sheet.specs.Checked.{Fit};
 ghost use Rattle.readings.specs.Forms.Context.{may_stand, destination_sets};
 ghost use Rattle.position.specs.Owed.{any_owed};

@@ -1,7 +1,7 @@
 // Who holds a coin, over the set of the confirmed.
 ghost use Rattle.std.specs.Prelude.{◌<◌, ◌≡◌, ◌&&◌, eqb};
 ghost use Rattle.laws.specs.Mask.{bit};
-ghost use Rattle.sheet.specs.Field.{count, parent, Sized};
+ghost use Rattle.sheet.specs.Field.{count, parent};
 ghost use Rattle.ledger.specs.Coin.{coin_of};
 ghost use Rattle.readings.specs.Holder.{confirmed_child, ends_coin};
 ghost use Rattle.readings.specs.Forms.Holder.{coin_from, coin_end};

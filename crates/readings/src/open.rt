@@ -4,14 +4,13 @@ ghost use Rattle.laws.specs.Booleans.{pick};
 ghost use Rattle.laws.specs.Failing.{first_failing};
 ghost use Rattle.laws.specs.Sets.{set_below};
 ghost use Rattle.sheet.specs.Refusal.{refused};
-ghost use Rattle.sheet.specs.Field.{count, signatures, Sized};
+ghost use Rattle.sheet.specs.Field.{count, signatures};
 ghost use Rattle.sheet.specs.Setup.{per_day, stealth};
 ghost use Rattle.sheet.specs.Checked.{Checked, Fit};
 ghost use Rattle.steps.specs.Forms.View.{keys_in};
-ghost use Rattle.steps.specs.Forms.Conduct.{share_allowed_in, send_held_in};
+ghost use Rattle.steps.specs.Forms.Conduct.{share_allowed_in};
 ghost use Rattle.steps.specs.Tests.{conduct_rule, bump_rule};
 ghost use Rattle.steps.specs.Forms.Sharing.{share_met_in};
-ghost use Rattle.steps.specs.Forms.Sending.{pool_tests_in, miner_tests_in};
 ghost use Rattle.steps.specs.Forms.Mining.{owed_in};
 ghost use Rattle.readings.specs.Forms.Context.{party_may, may_stand, goes_to, goes_set, destination_sets, destination_set, sharers, senders, turns_in, candidates_in, refusal_as, gives_in, shares_first, mines_in, last_in};
 
@@ -212,72 +211,6 @@ fn share_refusal(
     conduct::conduct_refusal(allowed, met)
 }
 
-// Kind 3. The parent is tested first: most that are not open lack it.
-fn pool_accepted(
-    sheet: &Sheet,
-    setup: &[u8],
-    context: Context,
-    x: Slot,
-    since: u16,
-    actor: u8,
-    t: usize,
-    destination: u8,
-) -> bool
-    requires fit { Fit sheet.now.bytes setup.now }
-    requires t_bound { t < count sheet.now.bytes }
-    ensures { result ≡ eqb (first_failing (pool_tests_in (send_held_in sheet.now.bytes context.guards context.paying actor t) sheet.now.bytes setup.now context.view x since actor t destination)) 0 }
-{
-    if !parent::parent_there(sheet, context.view.sent(), t) {
-        return false;
-    }
-    let held = context.guards.send_held(sheet, context.paying, actor, t);
-    sending::pool_refusal(
-        sheet,
-        setup,
-        context.view,
-        held,
-        x,
-        since,
-        actor,
-        t,
-        destination,
-    )
-    .is_ok()
-}
-
-// Kind 4, in the same way.
-fn miner_accepted(
-    sheet: &Sheet,
-    setup: &[u8],
-    context: Context,
-    x: Slot,
-    since: u16,
-    actor: u8,
-    t: usize,
-    destination: u8,
-) -> bool
-    requires fit { Fit sheet.now.bytes setup.now }
-    requires t_bound { t < count sheet.now.bytes }
-    ensures { result ≡ eqb (first_failing (miner_tests_in (send_held_in sheet.now.bytes context.guards context.paying actor t) sheet.now.bytes setup.now context.view x since actor t destination)) 0 }
-{
-    if !parent::parent_there(sheet, context.view.placed(), t) {
-        return false;
-    }
-    let held = context.guards.send_held(sheet, context.paying, actor, t);
-    sending::miner_refusal(
-        sheet,
-        setup,
-        context.view,
-        held,
-        x,
-        since,
-        actor,
-        t,
-        destination,
-    )
-    .is_ok()
-}
-
 // Kind 7.
 fn bump_refusal(
     sheet: &Sheet,
@@ -294,7 +227,8 @@ fn bump_refusal(
     mining::bump_refusal(owed::owed_at(sheet, per_day, context.view, since, t))
 }
 
-// Whether a step of any kind but 2 and 6, with right fields, is accepted.
+// Whether a step of any kind but 2 and 6, with right fields, is accepted. Kinds 3 and 4 test the parent first: most that are not open
+// lack it.
 pub fn accepted_as(
     sheet: &Sheet,
     setup: &[u8],
@@ -313,8 +247,36 @@ pub fn accepted_as(
 {
     match kind {
         1 => share_refusal(sheet, context, x, actor, t, destination).is_ok(),
-        3 => pool_accepted(sheet, setup, context, x, since, actor, t, destination),
-        4 => miner_accepted(sheet, setup, context, x, since, actor, t, destination),
+        3 => {
+            parent::parent_there(sheet, context.view.sent(), t)
+                && sending::pool_refusal(
+                    sheet,
+                    setup,
+                    context.view,
+                    context.guards.send_held(sheet, context.paying, actor, t),
+                    x,
+                    since,
+                    actor,
+                    t,
+                    destination,
+                )
+                .is_ok()
+        }
+        4 => {
+            parent::parent_there(sheet, context.view.placed(), t)
+                && sending::miner_refusal(
+                    sheet,
+                    setup,
+                    context.view,
+                    context.guards.send_held(sheet, context.paying, actor, t),
+                    x,
+                    since,
+                    actor,
+                    t,
+                    destination,
+                )
+                .is_ok()
+        }
         5 => mining::include_refusal(sheet, context.view, context.owed, t).is_ok(),
         _ => bump_refusal(sheet, setup, context, since, t).is_ok(),
     }
@@ -336,7 +298,7 @@ pub fn give_set(sheet: &Sheet, context: Context, actor: u8, destination: u8) -> 
     requires { Checked sheet.now.bytes }
     ensures { result ≡ set_below (signatures sheet.now.bytes) (λ i. gives_in context actor i destination) }
 {
-    let n = sheet::field::wide(sheet.signatures());
+    let n = usize::from(sheet.signatures());
     set::below(n, |i| gives(context, actor, i as u8, destination))
 }
 

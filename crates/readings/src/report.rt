@@ -1,7 +1,7 @@
 // The row of a report.
 ghost use Rattle.std.specs.Prelude.{◌<◌, ◌≤◌, ◌≡◌};
 ghost use Rattle.laws.specs.Booleans.{pick};
-ghost use Rattle.sheet.specs.Field.{count, Sized};
+ghost use Rattle.sheet.specs.Field.{count};
 ghost use Rattle.slots.specs.Slot.{entry_to};
 ghost use Rattle.readings.specs.Forms.Report.{dead_in, status_in, payee_in, row_in};
 
@@ -75,7 +75,7 @@ pub fn row(
     ensures { result ≡ row_in sheet.now.bytes per_day view conflicted x since t }
 {
     Row {
-        block: lock_height::wide(x.height),
+        block: u32::from(x.height),
         lock: lock_height::lock_height(sheet, per_day, since, t),
         deadline: deadline::deadline(sheet, per_day, since, t),
         status: status_in(sheet, view, conflicted, t),

@@ -1,7 +1,7 @@
 // What is read from the bytes of a report.
 ghost use Rattle.std.specs.Prelude.{◌<◌, ◌≤◌, ◌*◌, ◌≡◌, length};
 ghost use Rattle.laws.specs.Sets.{set_below};
-ghost use Rattle.sheet.specs.Field.{count, Sized};
+ghost use Rattle.sheet.specs.Field.{count};
 ghost use Rattle.readings.specs.Reported.{row_width, reported_confirmed, reported_holder};
 
 use crate::holder;

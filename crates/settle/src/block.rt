@@ -1,7 +1,7 @@
 // The block being filled.
 ghost use Rattle.std.specs.Prelude.{◌<◌, ◌≡◌};
 ghost use Rattle.laws.specs.Sets.{set_below};
-ghost use Rattle.sheet.specs.Field.{count, Sized};
+ghost use Rattle.sheet.specs.Field.{count};
 ghost use Rattle.position.specs.Position.{in_block};
 
 use position::Position;

@@ -1,6 +1,6 @@
 // Entries confirmed before their block is mined.
 ghost use Rattle.std.specs.Prelude.{◌+◌, ◌<◌, ◌≡◌};
-ghost use Rattle.sheet.specs.Field.{count, Sized};
+ghost use Rattle.sheet.specs.Field.{count};
 ghost use Rattle.steps.specs.Mined.{confirm_entry};
 ghost use Rattle.position.specs.Effect.{change_slots};
 ghost use Rattle.settle.specs.Forms.Thrown.{confirm_in};

@@ -8,7 +8,6 @@ ghost use Rattle.settle.specs.Forms.Thrown.{is_due};
 use position::Position;
 use sheet::field::Sheet;
 use sheet::set;
-use slots::lock_height;
 
 // Whether t is of the set `can` and its deadline is the next block.
 fn is_due(position: Position, sheet: &Sheet, setup: &[u8], can: u32, t: usize) -> bool
@@ -17,7 +16,7 @@ fn is_due(position: Position, sheet: &Sheet, setup: &[u8], can: u32, t: usize) -
     ensures { result ≡ is_due sheet.now.bytes setup.now position can t }
 {
     if set::has(can, t) {
-        return position.deadline_in(sheet, setup, t) == lock_height::wide(position.mined) + 1;
+        return position.deadline_in(sheet, setup, t) == u32::from(position.mined) + 1;
     }
     false
 }

@@ -2,7 +2,7 @@
 ghost use Rattle.std.specs.Prelude.{◌<◌, ◌≤◌, ◌^◌, ◌≡◌, true, length};
 ghost use Rattle.laws.specs.Below.{all_below};
 ghost use Rattle.laws.specs.Failing.{first_failing};
-ghost use Rattle.sheet.specs.Field.{parties, count, arrays, signatures, start_mask, Sized};
+ghost use Rattle.sheet.specs.Field.{parties, count, arrays, signatures, start_mask};
 ghost use Rattle.sheet.specs.Forms.Parents.{Parents};
 ghost use Rattle.sheet.specs.Check.{head_right, count_right, within, masks_right, signatures_right, length_right, parent_right, entry_right, days_right, lock_right, children_right, array_tests, sheet_refusal};
 ghost use Rattle.sheet.specs.Refusal.{refused};
@@ -25,7 +25,7 @@ fn within(sheet: &[u8], mask: u8) -> bool
     requires sheet_bound { signatures sheet.now ≤ 8 }
     ensures { result ≡ within sheet.now mask }
 {
-    field::wide(mask) < limit(field::wide(field::signatures(sheet)))
+    usize::from(mask) < limit(usize::from(field::signatures(sheet)))
 }
 
 // 1: the head is there.
@@ -112,7 +112,7 @@ fn entry_right(sheet: &Sheet, t: usize) -> bool
     requires t_bound { t < count sheet.now.bytes }
     ensures { result ≡ entry_right sheet.now.bytes t }
 {
-    if limit(sheet.parties()) <= field::wide(sheet.payees(t)) {
+    if limit(sheet.parties()) <= usize::from(sheet.payees(t)) {
         return false;
     }
     let required = sheet.required(t);

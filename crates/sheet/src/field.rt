@@ -5,13 +5,6 @@ ghost use Rattle.sheet.specs.Forms.Field.{Wide, Few, Start};
 
 use std::marker::Model;
 
-// A byte as a size.
-pub fn wide(x: u8) -> usize
-    ensures { Wide x result }
-{
-    x as usize
-}
-
 // The byte at place i, 0 past the end.
 fn byte_or_zero(bytes: &[u8], i: usize) -> u8
     ensures { result ≡ byte bytes.now i }
@@ -38,7 +31,7 @@ pub fn count(sheet: &[u8]) -> usize
     requires { 5 ≤ length sheet.now }
     ensures { Wide (count sheet.now) result }
 {
-    wide(sheet[0] % 128)
+    usize::from(sheet[0] % 128)
 }
 
 // Where the two parallel arrays start.
@@ -59,7 +52,7 @@ pub fn place(party: u8) -> u8
     party - 1
 }
 
-// The number of the party in a place.
+// The number of the party in a place: document 02's numbering, as `place`.
 pub fn party_at(k: usize) -> u8
     requires { k < 3 }
     ensures { result ≡ party_at k }
@@ -78,7 +71,7 @@ pub fn is_party(sheet: &[u8], party: u8) -> bool
     if party == 2 {
         return false;
     }
-    wide(place(party)) < parties(sheet)
+    usize::from(place(party)) < parties(sheet)
 }
 
 // The number of signatures.
@@ -114,7 +107,7 @@ pub fn start_keys(sheet: &[u8], party: u8) -> u8
         return 0;
     }
     if is_party(sheet, party) {
-        return byte_or_zero(sheet, 3 + wide(place(party)));
+        return byte_or_zero(sheet, 3 + usize::from(place(party)));
     }
     0
 }
@@ -209,7 +202,7 @@ impl<'a> Sheet<'a> {
         requires t_bound { t < count self.now.bytes }
         ensures { Wide (parent self.now.bytes t) result }
     {
-        wide(self.entry(t, 0))
+        usize::from(self.entry(t, 0))
     }
 
     // The payees: a bit for each party, in its place; 0 for a contract transaction.

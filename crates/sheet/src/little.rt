@@ -7,13 +7,13 @@ pub fn u16_at(bytes: &[u8], i: usize) -> u16
     requires { i + 2 ≤ length bytes.now }
     ensures { result ≡ number_at 2 bytes.now i }
 {
-    u16::from(bytes[i]) + 256 * u16::from(bytes[i + 1])
+    u16::from_le_bytes([bytes[i], bytes[i + 1]])
 }
 
-// The number in the four bytes from place i on: the lower two, then the higher two.
+// The number in the four bytes from place i on.
 pub fn u32_at(bytes: &[u8], i: usize) -> u32
     requires { i + 4 ≤ length bytes.now }
     ensures { result ≡ number_at 4 bytes.now i }
 {
-    u32::from(u16_at(bytes, i)) + 65536 * u32::from(u16_at(bytes, i + 2))
+    u32::from_le_bytes([bytes[i], bytes[i + 1], bytes[i + 2], bytes[i + 3]])
 }

@@ -1,7 +1,7 @@
 // The parents of a set of transactions, and of all.
 ghost use Rattle.std.specs.Prelude.{◌<◌, true};
 ghost use Rattle.laws.specs.Mask.{bit};
-ghost use Rattle.sheet.specs.Field.{count, Sized};
+ghost use Rattle.sheet.specs.Field.{count};
 ghost use Rattle.sheet.specs.Forms.Parents.{Parents, ParentAdded};
 
 use crate::field::Sheet;

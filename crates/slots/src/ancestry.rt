@@ -1,7 +1,7 @@
 // Ancestry (document 01: line): recursion up the sheet, where a parent is always a lower number.
 ghost use Rattle.std.specs.Prelude.{◌<◌, ◌≡◌};
 ghost use Rattle.laws.specs.Mask.{bit};
-ghost use Rattle.sheet.specs.Field.{count, Sized};
+ghost use Rattle.sheet.specs.Field.{count};
 ghost use Rattle.slots.specs.Ancestry.{in_ancestry};
 ghost use Rattle.slots.specs.Forms.Line.{line_set};
 

@@ -1,7 +1,7 @@
 // Deadlines, over the block of the parent's confirmation: rivals have one parent.
 ghost use Rattle.std.specs.Prelude.{◌<◌, min, ◌≡◌, false, ◌&&◌, eqb, ltb};
 ghost use Rattle.laws.specs.Booleans.{pick};
-ghost use Rattle.sheet.specs.Field.{count, parent, opening, Sized};
+ghost use Rattle.sheet.specs.Field.{count, parent, opening};
 ghost use Rattle.sheet.specs.LockHeight.{never, lock_height};
 ghost use Rattle.slots.specs.Forms.Height.{Height};
 ghost use Rattle.slots.specs.Deadline.{deadline};

@@ -1,7 +1,7 @@
 // The transactions that can have a deadline.
 ghost use Rattle.std.specs.Prelude.{◌<◌, ◌≡◌};
 ghost use Rattle.laws.specs.Sets.{set_below};
-ghost use Rattle.sheet.specs.Field.{count, Sized};
+ghost use Rattle.sheet.specs.Field.{count};
 ghost use Rattle.sheet.specs.Checked.{Checked};
 ghost use Rattle.slots.specs.Forms.Height.{Height};
 ghost use Rattle.slots.specs.Forms.Expiring.{has_lock, expiring_set, deadline_by};

@@ -1,6 +1,6 @@
 // Parties and destinations by number, and the payees of a transaction.
 ghost use Rattle.std.specs.Prelude.{◌<◌, ◌≤◌, ◌≡◌, MatchOption};
-ghost use Rattle.sheet.specs.Field.{count, Sized};
+ghost use Rattle.sheet.specs.Field.{count};
 ghost use Rattle.slots.specs.Destination.{destination_number, is_payee, is_contract};
 
 use crate::{Destination, signatures};

@@ -1,7 +1,7 @@
 // Signatures as bit masks.
 ghost use Rattle.std.specs.Prelude.{◌<◌, ◌≡◌, not, ◌||◌};
 ghost use Rattle.laws.specs.Mask.{bit, subset};
-ghost use Rattle.sheet.specs.Field.{count, Sized};
+ghost use Rattle.sheet.specs.Field.{count};
 ghost use Rattle.sheet.specs.Checked.{Checked};
 ghost use Rattle.slots.specs.Signatures.{sender_mask, signed, share_mask, exposed_mask};
 

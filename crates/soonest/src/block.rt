@@ -1,6 +1,6 @@
 // The soonest block: over the parent's, which has a lower number.
 ghost use Rattle.std.specs.Prelude.{◌<◌, ◌≡◌};
-ghost use Rattle.sheet.specs.Field.{count, Sized};
+ghost use Rattle.sheet.specs.Field.{count};
 ghost use Rattle.position.specs.Position.{block_of};
 ghost use Rattle.soonest.specs.Soonest.{greater, soonest_over, soonest_block};
 ghost use Rattle.soonest.specs.Forms.Bounds.{Below, Soon};

@@ -1,11 +1,11 @@
 // The soonest deadline: the least of what counts at each rival.
 ghost use Rattle.std.specs.Prelude.{◌<◌, min, ◌≡◌};
 ghost use Rattle.laws.specs.Booleans.{pick};
-ghost use Rattle.sheet.specs.Field.{count, Sized};
+ghost use Rattle.sheet.specs.Field.{count};
 ghost use Rattle.sheet.specs.LockHeight.{never};
 ghost use Rattle.slots.specs.Conflict.{conflict};
 ghost use Rattle.soonest.specs.Soonest.{lock_at, since_locked, may_rise, counts_at};
-ghost use Rattle.soonest.specs.Forms.Bounds.{Lock};
+ghost use Rattle.slots.specs.Forms.Height.{Lock};
 ghost use Rattle.soonest.specs.Forms.Deadline.{deadline_over};
 
 use crate::{lock, rival};

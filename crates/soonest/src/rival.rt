@@ -1,6 +1,6 @@
 // Rivals, two by two.
 ghost use Rattle.std.specs.Prelude.{◌<◌, ◌≡◌};
-ghost use Rattle.sheet.specs.Field.{count, Sized};
+ghost use Rattle.sheet.specs.Field.{count};
 ghost use Rattle.slots.specs.Conflict.{conflict};
 
 use sheet::field::Sheet;

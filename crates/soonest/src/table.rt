@@ -1,6 +1,6 @@
 // Tables over the sheet: a number for each transaction, parents first.
 ghost use Rattle.std.specs.Prelude.{◌<◌, ◌≡◌};
-ghost use Rattle.sheet.specs.Field.{count, Sized};
+ghost use Rattle.sheet.specs.Field.{count};
 ghost use Rattle.soonest.specs.Forms.Table.{table_above};
 
 use sheet::field::Sheet;

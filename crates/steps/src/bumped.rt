@@ -1,7 +1,7 @@
 // Who enters the block by a bump, and what it makes of a slot: kind 7.
 ghost use Rattle.std.specs.Prelude.{◌<◌, ◌≡◌};
 ghost use Rattle.laws.specs.Sets.{set_below};
-ghost use Rattle.sheet.specs.Field.{count, Sized};
+ghost use Rattle.sheet.specs.Field.{count};
 ghost use Rattle.sheet.specs.Checked.{Checked};
 ghost use Rattle.slots.specs.Forms.Line.{line_set};
 ghost use Rattle.steps.specs.Forms.Blocks.{displaced_in, bumped_slot, enters_in};

@@ -2,7 +2,7 @@
 ghost use Rattle.std.specs.Prelude.{◌<◌, ◌≡◌};
 ghost use Rattle.laws.specs.Failing.{first_failing};
 ghost use Rattle.sheet.specs.Refusal.{refused};
-ghost use Rattle.sheet.specs.Field.{count, Sized};
+ghost use Rattle.sheet.specs.Field.{count};
 ghost use Rattle.steps.specs.Conduct.{may_send, alice_shares_rule, alice_gives_rule, bob_gives_rule, secret_safe_rule, safe_to_send_rule};
 ghost use Rattle.steps.specs.Forms.Conduct.{share_allowed_in, give_allowed_in, send_allowed_in, send_held_in};
 ghost use Rattle.steps.specs.Tests.{conduct_rule};

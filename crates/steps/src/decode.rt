@@ -1,6 +1,6 @@
 // Four bytes as a step, or none: refusal 11.
 ghost use Rattle.std.specs.Prelude.{◌<◌, ◌≡◌, ◌&&◌, ◌||◌, eqb, ltb, length};
-ghost use Rattle.sheet.specs.Field.{count, signatures, Sized};
+ghost use Rattle.sheet.specs.Field.{count, signatures};
 ghost use Rattle.sheet.specs.Checked.{Fit};
 ghost use Rattle.slots.specs.Destination.{is_party};
 ghost use Rattle.steps.specs.Decode.{sends_to, shares_to, is_other, first_share_fields, fields_right, of_kind, spelled, range_checked, decode};
@@ -25,7 +25,7 @@ fn of_kind(kind: u8, party: u8, t: u8, to: Destination) -> Option<Step>
     }
 }
 
-// The step that four bytes spell, whatever the sheet.
+// The step that four bytes spell, whatever the sheet: document 01's form, as `of_kind`.
 fn spelled(kind: u8, party: u8, t: u8, destination: u8) -> Option<Step>
     ensures { result ≡ spelled kind party t destination }
 {
@@ -88,7 +88,7 @@ fn first_share_fields(setup: &[u8], t: u8, destination: u8) -> bool
 fn listed_share(sheet: &Sheet, t: u8, destination: u8) -> bool
     ensures { result ≡ (ltb t (count sheet.now.bytes) && shares_to sheet.now.bytes t destination) }
 {
-    let k = sheet::field::wide(t);
+    let k = usize::from(t);
     if k < sheet.count() {
         return shares_to(sheet, k, destination);
     }
@@ -99,7 +99,7 @@ fn listed_share(sheet: &Sheet, t: u8, destination: u8) -> bool
 fn listed_send(sheet: &Sheet, party: u8, t: u8, destination: u8) -> bool
     ensures { result ≡ (ltb t (count sheet.now.bytes) && sends_to sheet.now.bytes party t destination) }
 {
-    let k = sheet::field::wide(t);
+    let k = usize::from(t);
     if k < sheet.count() {
         return sends_to(sheet, party, k, destination);
     }
@@ -150,7 +150,7 @@ fn miner_fields(sheet: &Sheet, party: u8, t: u8, destination: u8) -> bool
     if party != 2 {
         return false;
     }
-    if sheet::field::wide(t) < sheet.count() {
+    if usize::from(t) < sheet.count() {
         return destination == 2;
     }
     false

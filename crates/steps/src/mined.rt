@@ -1,6 +1,6 @@
 // What a mined block makes of a slot: kind 6.
 ghost use Rattle.std.specs.Prelude.{◌<◌, ◌≡◌};
-ghost use Rattle.sheet.specs.Field.{count, Sized};
+ghost use Rattle.sheet.specs.Field.{count};
 ghost use Rattle.sheet.specs.Checked.{Checked};
 ghost use Rattle.steps.specs.Mined.{confirm_entry};
 ghost use Rattle.steps.specs.Forms.Blocks.{conflicted_in, affected_in, mined_slot};

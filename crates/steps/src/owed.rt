@@ -1,12 +1,12 @@
 // When a bump is owed.
 ghost use Rattle.std.specs.Prelude.{◌+◌, ◌<◌, ◌≡◌, eqb};
-ghost use Rattle.sheet.specs.Field.{count, Sized};
+ghost use Rattle.sheet.specs.Field.{count};
 ghost use Rattle.steps.specs.Forms.Mining.{owed_in, still_due};
 
 use crate::View;
 use sheet::field::Sheet;
 use sheet::set;
-use slots::{deadline, lock_height};
+use slots::deadline;
 
 // Whether a bump of t is owed, where `since` is its parent's block.
 pub fn owed_at(sheet: &Sheet, per_day: u16, view: View, since: u16, t: usize) -> bool
@@ -19,14 +19,14 @@ pub fn owed_at(sheet: &Sheet, per_day: u16, view: View, since: u16, t: usize) ->
     if set::has(view.block, t) {
         return false;
     }
-    lock_height::wide(view.mined) + 1 == deadline::deadline(sheet, per_day, since, t)
+    u32::from(view.mined) + 1 == deadline::deadline(sheet, per_day, since, t)
 }
 
 // Whether the next block is this deadline.
 pub fn is_next(mined: u16, due: u32) -> bool
     ensures { (result ≡ eqb (mined + 1) due) × (mined < 65536) }
 {
-    lock_height::wide(mined) + 1 == due
+    u32::from(mined) + 1 == due
 }
 
 // What is known after a step of the soonest deadline before it: an empty block leaves it; else nothing, which is 0.

@@ -1,7 +1,7 @@
 // The parent of a transaction: whether it is there, and where its block is read.
 ghost use Rattle.std.specs.Prelude.{◌<◌, ◌≡◌};
 ghost use Rattle.laws.specs.Mask.{bit};
-ghost use Rattle.sheet.specs.Field.{count, Sized};
+ghost use Rattle.sheet.specs.Field.{count};
 ghost use Rattle.slots.specs.Ancestry.{has_parent};
 ghost use Rattle.steps.specs.Forms.Parent.{slot_above, block_above};
 

@@ -2,7 +2,7 @@
 ghost use Rattle.std.specs.Prelude.{◌<◌, ◌≡◌, ltb, leb};
 ghost use Rattle.laws.specs.Failing.{first_failing};
 ghost use Rattle.sheet.specs.Refusal.{refused};
-ghost use Rattle.sheet.specs.Field.{count, Sized};
+ghost use Rattle.sheet.specs.Field.{count};
 ghost use Rattle.sheet.specs.LockHeight.{lock_height};
 ghost use Rattle.sheet.specs.Checked.{Checked, Fit};
 ghost use Rattle.slots.specs.Forms.Expiring.{deadline_by};
@@ -36,7 +36,7 @@ impl View {
     pub fn keys(self, party: u8) -> u8
         ensures { result ≡ keys_in self party }
     {
-        let k = sheet::field::wide(party);
+        let k = usize::from(party);
         if k < 6 {
             return self.keys[k];
         }
@@ -57,7 +57,7 @@ fn unlocked(sheet: &Sheet, per_day: u16, since: u16, mined: u16, t: usize) -> bo
     requires t_bound { t < count sheet.now.bytes }
     ensures { result ≡ leb (lock_height sheet.now.bytes per_day (λ k. since) t) mined }
 {
-    lock_height::lock_height(sheet, per_day, since, t) < lock_height::wide(mined) + 1
+    lock_height::lock_height(sheet, per_day, since, t) < u32::from(mined) + 1
 }
 
 // Whether the deadline of t is ahead, where `expiring` are those that can have one.
@@ -65,7 +65,7 @@ fn in_time(sheet: &Sheet, per_day: u16, expiring: u32, since: u16, mined: u16, t
     requires t_bound { t < count sheet.now.bytes }
     ensures { result ≡ ltb mined (deadline_by sheet.now.bytes per_day expiring since t) }
 {
-    lock_height::wide(mined) < expiring::deadline_by(sheet, per_day, expiring, since, t)
+    u32::from(mined) < expiring::deadline_by(sheet, per_day, expiring, since, t)
 }
 
 // The first that fails of the tests that kinds 3 and 4 share, the lock before the signatures.

@@ -1,6 +1,6 @@
 // The conditions of kinds 1 and 2.
 ghost use Rattle.std.specs.Prelude.{◌<◌, ◌≡◌};
-ghost use Rattle.sheet.specs.Field.{count, Sized};
+ghost use Rattle.sheet.specs.Field.{count};
 ghost use Rattle.laws.specs.Mask.{bit};
 ghost use Rattle.steps.specs.Tests.{give_met_rule};
 ghost use Rattle.steps.specs.Forms.Sharing.{share_met_in};

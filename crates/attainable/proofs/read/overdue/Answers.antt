@@ -9,4 +9,4 @@ returns-then-stealth-ne0 c = simp (tests, ← c.stealth.ensures, c.if-stealth-ne
 
 pub returns : goal.returns
 unfolding overdue
-returns c = simp (tests, ← c.stealth.ensures, c.if-stealth-ne0.false, ← c.deadline_in.ensures.is, ← c.wide.ensures.0)
+returns c = simp (tests, ← c.stealth.ensures, c.if-stealth-ne0.false, ← c.deadline_in.ensures.is, ← c.from.ensures)

@@ -5,8 +5,8 @@ use Rattle.call_blocks.proofs.block_list.entry_named.Goals as goal
 
 pub returns-then-t-count : goal.returns-then-t-count
 unfolding entry_named
-returns-then-t-count c = simp (tests, ← c.wide-t.ensures.is, ← c.count.ensures.is, c.if-t-count.true, ← c.shares_to.ensures)
+returns-then-t-count c = simp (tests, ← c.from-t.ensures, ← c.count.ensures.is, c.if-t-count.true, ← c.shares_to.ensures)
 
 pub returns : goal.returns
 unfolding entry_named
-returns c = simp (tests, ← c.wide-t.ensures.is, ← c.count.ensures.is, c.if-t-count.false)
+returns c = simp (tests, ← c.from-t.ensures, ← c.count.ensures.is, c.if-t-count.false)

@@ -15,5 +15,5 @@ returns c =
       | then-conduct-eq0 w ↦ w.allowed-is ∙ eq-eqb _ _ w.if-conduct-eq0.true ∙ any_open _ _ (sym c.conduct.ensures ∙ w.if-conduct-eq0.true)
       | else-conduct-eq0 w ↦ w.allowed-is ∙ w.may_give-allowed.ensures
     ] in
-    give_outcome _ _ _ _ _ _ _ _ _ _ _ c.wide-k.ensures.is c.from-receiver.ensures.0 held c.keys_after-after.ensures
+    give_outcome _ _ _ _ _ _ _ _ _ _ _ c.from-k.ensures c.from-receiver.ensures.0 held c.keys_after-after.ensures
     (give_answer _ _ _ _ _ _ _ _ _ (c.number_of-refusal.ensures ∙ c.conduct_refusal.ensures) allowed (c.give_met-met.ensures ∙ rw (giver, held) refl))

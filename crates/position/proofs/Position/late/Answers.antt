@@ -4,4 +4,4 @@ use Rattle.position.proofs.Position.late.Goals as goal
 
 pub returns : goal.returns
 unfolding late
-returns c = rw (c.deadline_in.ensures.is, c.wide.ensures.0)
+returns c = rw (c.deadline_in.ensures.is, c.from.ensures)

@@ -20,13 +20,13 @@ pub bounds-self-k : goal.bounds-self-k
 bounds-self-k c = let l = share_one_fits _ _ c.requires.fit.checked.sized.few c.requires.t_value c.if-t-eq-NO_TRANSACTION.false in search (rules, l)
 
 pub share_met-met-requires : goal.share_met-met-requires
-share_met-met-requires c = record { t_bound = rw c.wide-k.ensures.is (share_one_fits _ _ c.requires.fit.checked.sized.few c.requires.t_value c.if-t-eq-NO_TRANSACTION.false); destination_bound = c.from-destination.ensures.1 }
+share_met-met-requires c = record { t_bound = rw c.from-k.ensures (share_one_fits _ _ c.requires.fit.checked.sized.few c.requires.t_value c.if-t-eq-NO_TRANSACTION.false); destination_bound = c.from-destination.ensures.1 }
 
 pub shared_slot-shared-requires : goal.shared_slot-shared-requires
-shared_slot-shared-requires c = record { t_bound = rw c.wide-k.ensures.is (share_one_fits _ _ c.requires.fit.checked.sized.few c.requires.t_value c.if-t-eq-NO_TRANSACTION.false); destination_bound = c.from-destination.ensures.1 }
+shared_slot-shared-requires c = record { t_bound = rw c.from-k.ensures (share_one_fits _ _ c.requires.fit.checked.sized.few c.requires.t_value c.if-t-eq-NO_TRANSACTION.false); destination_bound = c.from-destination.ensures.1 }
 
 pub bounds-self-k-2 : goal.bounds-self-k-2
-bounds-self-k-2 c = let f = share_one_fits _ _ c.requires.fit.checked.sized.few c.requires.t_value c.if-t-eq-NO_TRANSACTION.false in let l : c.wide-k.result < 32 = omega (arith, c.wide-k.ensures.is, f, c.requires.fit.checked.sized.few) in search (rules, l)
+bounds-self-k-2 c = let f = share_one_fits _ _ c.requires.fit.checked.sized.few c.requires.t_value c.if-t-eq-NO_TRANSACTION.false in let l : c.from-k.result < 32 = omega (arith, c.from-k.ensures, f, c.requires.fit.checked.sized.few) in search (rules, l)
 
 pub returns : goal.returns
 unfolding slot with_slots
@@ -37,6 +37,6 @@ returns c =
       | then-conduct-eq0 w ↦ w.allowed-is ∙ eq-eqb _ _ w.if-conduct-eq0.true ∙ any_open _ _ (sym c.conduct.ensures ∙ w.if-conduct-eq0.true)
       | else-conduct-eq0 w ↦ w.allowed-is ∙ w.may_share-allowed.ensures
     ] in
-    share_outcome _ _ _ _ _ _ _ _ _ _ _ c.wide-k.ensures.is c.from-destination.ensures.0 c.slot_after-after.ensures (λ z. c.if-t-eq-NO_TRANSACTION.false (sym c.wide-k.ensures.is ∙ z))
-    (share_answer _ _ _ _ _ _ _ _ _ (c.number_of-refusal.ensures ∙ c.conduct_refusal.ensures) allowed ((c.share_met-met.ensures ∙ rw (held, c.wide-k.ensures.is) refl) ∙ one_met _ _ _ _ _ c.if-t-eq-NO_TRANSACTION.false))
+    share_outcome _ _ _ _ _ _ _ _ _ _ _ c.from-k.ensures c.from-destination.ensures.0 c.slot_after-after.ensures (λ z. c.if-t-eq-NO_TRANSACTION.false (sym c.from-k.ensures ∙ z))
+    (share_answer _ _ _ _ _ _ _ _ _ (c.number_of-refusal.ensures ∙ c.conduct_refusal.ensures) allowed ((c.share_met-met.ensures ∙ rw (held, c.from-k.ensures) refl) ∙ one_met _ _ _ _ _ c.if-t-eq-NO_TRANSACTION.false))
     (c.shared_slot-shared.ensures ∙ rw held refl)

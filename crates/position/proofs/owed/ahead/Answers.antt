@@ -2,8 +2,8 @@
 use Rattle.laws.proofs.Prelude.{refl, lt-ltb, le-ltb}
 use Rattle.position.proofs.owed.ahead.Goals as goal
 
-pub returns-then-wide-height : goal.returns-then-wide-height
-returns-then-wide-height c = rw (lt-ltb _ _ (rw c.wide.ensures.0 at c.if-wide-height.true)) refl
+pub returns-then-from-height : goal.returns-then-from-height
+returns-then-from-height c = rw (lt-ltb _ _ (rw c.from.ensures at c.if-from-height.true)) refl
 
 pub returns : goal.returns
-returns c = rw (le-ltb _ _ (rw c.wide.ensures.0 at c.if-wide-height.false)) refl
+returns c = rw (le-ltb _ _ (rw c.from.ensures at c.if-from-height.false)) refl

@@ -1,5 +1,5 @@
 -- Field by field.
-use Rattle.laws.proofs.Prelude.{◌∙◌}
+use Rattle.laws.proofs.Prelude.{◌∙◌, rules}
 use Rattle.prospect.proofs.Marked.{sound}
 use Rattle.prospect.proofs.Meets.{line_is, aims_are}
 use Rattle.prospect.proofs.Rows.{up_is, only_is}
@@ -44,12 +44,12 @@ returns c =
       bounded =
           record {
             few = fine.few;
-            early = c.wide.ensures.1;
+            early = search rules;
             stealthy = fine.flag;
             ending = λ t l. ends_low _ _ _ _ _ c.requires.checked c.mark-marks.ensures _ t (rw c.mark-marks.ensures.count_is at l) c.ends.ensures;
           };
       count_is = c.mark-marks.ensures.count_is;
-      mined_is = c.wide.ensures.0;
+      mined_is = c.from.ensures;
       stealth_is = c.mark-marks.ensures.stealth_is;
       paid_is = c.paid.ensures;
       contract_is = c.mark-marks.ensures.contract_is;

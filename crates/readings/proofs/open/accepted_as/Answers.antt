@@ -1,6 +1,7 @@
 -- By the kind.
 use Rattle.readings.specs.Forms.Context.{refusal_as}
-use Rattle.laws.proofs.Prelude.{ne_eqb}
+use Rattle.steps.proofs.NoParent.{pool_orphan, miner_orphan}
+use Rattle.laws.proofs.Prelude.{sym, ◌∙◌, ne_eqb}
 use Rattle.sheet.proofs.Refusing.{ok_number}
 use Rattle.readings.proofs.open.accepted_as.Goals as goal
 
@@ -8,13 +9,21 @@ pub returns-in-1 : goal.returns-in-1
 unfolding refusal_as
 returns-in-1 c = rw (c.in-1.is, c.is_ok.ensures.value, ok_number c.share_refusal.result, c.share_refusal.ensures)
 
-pub returns-in-3 : goal.returns-in-3
+pub returns-then-parent_there : goal.returns-then-parent_there
 unfolding refusal_as
-returns-in-3 c = rw c.in-3.is c.pool_accepted.ensures
+returns-then-parent_there c = rw (c.in-3.is, ← c.send_held.ensures, c.is_ok-then-parent_there.ensures.value, ok_number c.pool_refusal.result, c.pool_refusal.ensures)
 
-pub returns-in-4 : goal.returns-in-4
+pub returns-else-parent_there : goal.returns-else-parent_there
 unfolding refusal_as
-returns-in-4 c = rw c.in-4.is c.miner_accepted.ensures
+returns-else-parent_there c = rw (c.in-3.is, c.if-parent_there.false) (sym (pool_orphan _ _ _ _ _ _ _ _ _ (rw (← c.sent.ensures) (sym c.parent_there.ensures ∙ c.if-parent_there.false))))
+
+pub returns-then-parent_there-2 : goal.returns-then-parent_there-2
+unfolding refusal_as
+returns-then-parent_there-2 c = rw (c.in-4.is, ← c.send_held-then-parent_there-2.ensures, c.is_ok-then-parent_there-2.ensures.value, ok_number c.miner_refusal.result, c.miner_refusal.ensures)
+
+pub returns-else-parent_there-2 : goal.returns-else-parent_there-2
+unfolding refusal_as
+returns-else-parent_there-2 c = rw (c.in-4.is, c.if-parent_there-2.false) (sym (miner_orphan _ _ _ _ _ _ _ _ _ (rw (← c.placed.ensures) (sym c.parent_there-in-4.ensures ∙ c.if-parent_there-2.false))))
 
 pub returns-in-5 : goal.returns-in-5
 unfolding refusal_as

@@ -4,7 +4,7 @@ use Rattle.settle.proofs.due.is_due.Goals as goal
 
 pub returns-then-has : goal.returns-then-has
 unfolding is_due
-returns-then-has c = simp (← c.has.ensures, c.if-has.true, ← c.deadline_in.ensures.is, ← c.wide.ensures.0)
+returns-then-has c = simp (← c.has.ensures, c.if-has.true, ← c.deadline_in.ensures.is, ← c.from.ensures)
 
 pub returns : goal.returns
 unfolding is_due

@@ -3,13 +3,13 @@ use Rattle.laws.proofs.Prelude.{tests, not-true, not-false, ap, ◌∙◌}
 use Rattle.sheet.specs.Check.{entry_right, within}
 use Rattle.sheet.proofs.check.entry_right.Goals as goal
 
-pub returns-then-limit-wide : goal.returns-then-limit-wide
+pub returns-then-limit-from : goal.returns-then-limit-from
 unfolding entry_right
-returns-then-limit-wide c = simp (tests, ← c.parties.ensures.is, ← c.limit.ensures, ← c.payees.ensures, ← c.wide.ensures.is, c.if-limit-wide.true)
+returns-then-limit-from c = simp (tests, ← c.parties.ensures.is, ← c.limit.ensures, ← c.payees.ensures, ← c.from.ensures, c.if-limit-from.true)
 
 pub returns-then-required-lt1 : goal.returns-then-required-lt1
 unfolding entry_right
-returns-then-required-lt1 c = simp (tests, ← c.parties.ensures.is, ← c.limit.ensures, ← c.payees.ensures, ← c.wide.ensures.is, ← c.required-required.ensures, c.if-required-lt1.true, c.if-limit-wide.false)
+returns-then-required-lt1 c = simp (tests, ← c.parties.ensures.is, ← c.limit.ensures, ← c.payees.ensures, ← c.from.ensures, ← c.required-required.ensures, c.if-required-lt1.true, c.if-limit-from.false)
 
 pub returns-then-not-within : goal.returns-then-not-within
 unfolding entry_right
@@ -19,12 +19,12 @@ returns-then-not-within c =
       ← c.parties.ensures.is,
       ← c.limit.ensures,
       ← c.payees.ensures,
-      ← c.wide.ensures.is,
+      ← c.from.ensures,
       ← (c.within.ensures ∙ ap (λ b. within b c.required-required.result) c.bytes.ensures),
       not-true c.within.result c.if-not-within.true-raw,
       ← c.required-required.ensures,
       c.if-required-lt1.false,
-      c.if-limit-wide.false,
+      c.if-limit-from.false,
     )
 
 pub returns : goal.returns
@@ -35,7 +35,7 @@ returns c =
       ← c.parties.ensures.is,
       ← c.limit.ensures,
       ← c.payees.ensures,
-      ← c.wide.ensures.is,
+      ← c.from.ensures,
       ←
           c.veil.ensures,
       ← (c.within.ensures ∙ ap (λ b. within b c.required-required.result) c.bytes.ensures),
@@ -43,5 +43,5 @@ returns c =
       ←
           c.required-required.ensures,
       c.if-required-lt1.false,
-      c.if-limit-wide.false,
+      c.if-limit-from.false,
     )

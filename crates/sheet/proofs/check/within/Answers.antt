@@ -4,4 +4,4 @@ use Rattle.sheet.proofs.check.within.Goals as goal
 
 pub returns : goal.returns
 unfolding within
-returns c = rw (c.limit.ensures, c.wide-2.ensures.is, c.signatures.ensures, c.wide.ensures.is)
+returns c = rw (c.limit.ensures, c.from-2.ensures, c.signatures.ensures, c.from.ensures)

@@ -9,4 +9,4 @@ returns-then-party-eq2 c = simp (tests, c.if-party-eq2.true)
 
 pub returns : goal.returns
 unfolding is_party
-returns c = simp (tests, c.if-party-eq2.false, c.parties.ensures.is, c.wide.ensures.is, c.place.ensures)
+returns c = simp (tests, c.if-party-eq2.false, c.parties.ensures.is, c.from.ensures, c.place.ensures)

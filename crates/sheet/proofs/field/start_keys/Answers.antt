@@ -9,7 +9,7 @@ returns-then-sheet-eq0 c = sym (start_empty _ _ c.if-sheet-eq0.true)
 
 pub returns-then-is_party : goal.returns-then-is_party
 unfolding start_keys
-returns-then-is_party c = rw (c.byte_or_zero.ensures, c.wide.ensures.is, c.place.ensures, ← c.is_party.ensures, c.if-is_party.true)
+returns-then-is_party c = rw (c.byte_or_zero.ensures, c.from.ensures, c.place.ensures, ← c.is_party.ensures, c.if-is_party.true)
 
 pub returns : goal.returns
 unfolding start_keys

@@ -1,16 +1,7 @@
--- By the lock type.
-use Rattle.sheet.specs.LockHeight.{lock_height}
-use Rattle.laws.proofs.Prelude.{tests, rules, arith}
+-- At the parent's block, of two bytes.
+use Rattle.sheet.specs.LockHeight.{never}
+use Rattle.laws.proofs.Prelude.{◌+◌, arith, rules}
 use Rattle.slots.proofs.lock_height.lock_height.Goals as goal
 
-pub returns-then-lock-eq0 : goal.returns-then-lock-eq0
-unfolding lock_height
-returns-then-lock-eq0 c = record { is = simp (tests, ← c.lock_type-lock.ensures, c.if-lock-eq0.true); small = search rules }
-
-pub returns-then-lock-eq1 : goal.returns-then-lock-eq1
-unfolding lock_height
-returns-then-lock-eq1 c = record { is = simp (tests, ← c.lock_type-lock.ensures, c.if-lock-eq1.true, c.lock_blocks-blocks.ensures.is); small = omega (arith, c.lock_blocks-blocks.ensures.small) }
-
 pub returns : goal.returns
-unfolding lock_height
-returns c = record { is = simp (tests, ← c.lock_type-lock.ensures, c.if-lock-eq0.false, c.if-lock-eq1.false, ← c.lock_blocks-blocks.ensures.is, c.since_parent.ensures.is); small = c.since_parent.ensures.small }
+returns c = record { is = rw (← c.from.ensures) c.lock_over.ensures.is; small = omega (arith, c.lock_over.ensures.small (never + 1) (omega arith) (search rules)) }

@@ -1,17 +1,7 @@
--- By the lock type.
+-- The lock height over the block.
 use Rattle.soonest.specs.Soonest.{lock_at}
-use Rattle.laws.proofs.Prelude.{tests, arith}
-use Rattle.position.proofs.Rules.{lock_height}
 use Rattle.soonest.proofs.lock.lock_at.Goals as goal
 
-pub returns-then-lock-eq0 : goal.returns-then-lock-eq0
-unfolding lock_at lock_height
-returns-then-lock-eq0 c = record { is = simp (tests, ← c.lock_type-lock.ensures, c.if-lock-eq0.true); small = λ bound h k. omega arith }
-
-pub returns-then-lock-eq1 : goal.returns-then-lock-eq1
-unfolding lock_at lock_height
-returns-then-lock-eq1 c = record { is = simp (tests, ← c.lock_type-lock.ensures, c.if-lock-eq1.true, c.lock_blocks-blocks.ensures.is); small = λ bound h k. omega (arith, c.lock_blocks-blocks.ensures.small) }
-
 pub returns : goal.returns
-unfolding lock_at lock_height
-returns c = record { is = simp (tests, ← c.lock_type-lock.ensures, c.if-lock-eq0.false, c.if-lock-eq1.false, ← c.lock_blocks-blocks.ensures.is, c.since_parent.ensures.is); small = c.since_parent.ensures.small }
+unfolding lock_at
+returns c = c.lock_over.ensures

@@ -5,10 +5,10 @@ use Rattle.steps.proofs.View.keys.Goals as goal
 
 pub returns-then-k-lt6 : goal.returns-then-k-lt6
 unfolding keys_in
-returns-then-k-lt6 c = rw c.wide-k.ensures.is
+returns-then-k-lt6 c = rw c.from-k.ensures
 
 pub returns : goal.returns
 unfolding keys_in
 returns c =
     let l : length c.args.self.keys ≡ 6 = search (length_of_map, c.well_formed) in
-    sym (List·getD-eq-default c.args.self.keys 0 (omega (arith, l, c.wide-k.ensures.is, c.if-k-lt6.false)))
+    sym (List·getD-eq-default c.args.self.keys 0 (omega (arith, l, c.from-k.ensures, c.if-k-lt6.false)))

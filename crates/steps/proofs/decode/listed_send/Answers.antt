@@ -3,7 +3,7 @@ use Rattle.laws.proofs.Prelude.{tests}
 use Rattle.steps.proofs.decode.listed_send.Goals as goal
 
 pub returns-then-k-count : goal.returns-then-k-count
-returns-then-k-count c = simp (tests, ← c.wide-k.ensures.is, ← c.count.ensures.is, c.if-k-count.true, ← c.sends_to.ensures)
+returns-then-k-count c = simp (tests, ← c.from-k.ensures, ← c.count.ensures.is, c.if-k-count.true, ← c.sends_to.ensures)
 
 pub returns : goal.returns
-returns c = simp (tests, ← c.wide-k.ensures.is, ← c.count.ensures.is, c.if-k-count.false)
+returns c = simp (tests, ← c.from-k.ensures, ← c.count.ensures.is, c.if-k-count.false)

@@ -13,4 +13,4 @@ returns-then-has c = rw (← c.has.ensures, not-false c.has.result c.if-not-has.
 
 pub returns : goal.returns
 unfolding owed_in
-returns c = rw (← c.has.ensures, not-false c.has.result c.if-not-has.false-raw, ← c.has-2.ensures, c.if-has.false, ← c.deadline.ensures.is, ← c.wide.ensures.0)
+returns c = rw (← c.has.ensures, not-false c.has.result c.if-not-has.false-raw, ← c.has-2.ensures, c.if-has.false, ← c.deadline.ensures.is, ← c.from.ensures)

@@ -2,4 +2,4 @@
 use Rattle.steps.proofs.sending.in_time.Goals as goal
 
 pub returns : goal.returns
-returns c = rw (← c.deadline_by.ensures.is, ← c.wide.ensures.0)
+returns c = rw (← c.deadline_by.ensures.is, ← c.from.ensures)
