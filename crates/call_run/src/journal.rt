@@ -106,7 +106,9 @@ pub fn ran_checked(sheet: &[u8], setup: &[u8], journal: &[u8]) -> Ran
     run_seen(position, sheet, setup, seen, journal)
 }
 
-// The run of a journal from the empty journal's position, after all checks.
+// The run of a journal from the empty journal's position, after all checks. Compiled into each call, so that its answer is not copied once
+// more.
+#[inline(always)]
 pub fn ran(sheet: &[u8], setup: &[u8], journal: &[u8]) -> Ran
     ensures { result ≡ run sheet.now setup.now journal.now }
 {
